@@ -1,0 +1,5 @@
+-- What is proved about the definitions, beside each function's own proof.
+pub mod Open
+pub mod Tables
+pub mod Edges
+pub mod Refused

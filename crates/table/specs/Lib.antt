@@ -1,0 +1,20 @@
+-- Document 01 as definitions, in reading order.
+pub mod Limits
+pub mod Tests
+pub mod SignalSets
+pub mod Read
+pub mod Sound
+pub mod Fresh
+pub mod Pids
+pub mod Records
+pub mod Ends
+pub mod Freeing
+pub mod Delivery
+pub mod Births
+pub mod Answers
+pub mod Calls
+pub mod Step
+pub mod Sheet
+pub mod Events
+pub mod Touches
+pub mod Claims

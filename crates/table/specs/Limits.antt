@@ -1,0 +1,45 @@
+-- The numbers of document 01, each named once.
+use Prim.Native.Nat.{ℕ, suc}
+
+-- One table: 64 process slots and 32 namespace slots.
+abbrev pub process-slots : ℕ
+process-slots = 64
+
+abbrev pub namespace-slots : ℕ
+namespace-slots = 32
+
+-- The root has level 0, the deepest namespace level 7; a process has one number for each level.
+abbrev pub deepest : ℕ
+deepest = 7
+
+abbrev pub levels : ℕ
+levels = suc deepest
+
+-- The greatest process number, and where the search for a free one starts again.
+abbrev pub greatest-pid : ℕ
+greatest-pid = 32767
+
+abbrev pub restart-pid : ℕ
+restart-pid = 300
+
+-- A field that holds a slot holds this one for "none".
+abbrev pub no-slot : ℕ
+no-slot = 255
+
+-- Signal numbers are 0 to 31, and 0 is no signal.
+abbrev pub signals : ℕ
+signals = 32
+
+-- Signals that document 01 treats by themselves, with their names from signal(7).
+abbrev pub sigkill : ℕ
+sigkill = 9
+
+abbrev pub sigcont : ℕ
+sigcont = 18
+
+abbrev pub sigstop : ℕ
+sigstop = 19
+
+-- The numbers that an exit can keep are 0 to 255.
+abbrev pub statuses : ℕ
+statuses = 256

@@ -1,0 +1,187 @@
+// The process table: its types, and the fresh table. Document 01 as definitions stands in specs/.
+ghost use mathlib.Core.Path.{_≡_};
+ghost use Rattle.table.specs.Fresh.{empty-process, empty-namespace, fresh as fresh-table};
+
+// ---- limits
+
+pub const PROCESS_SLOTS: usize = 64;
+
+pub const NAMESPACE_SLOTS: usize = 32;
+
+pub const LEVELS: usize = 8;
+
+// ---- slots and numbers: three kinds, none of which can be passed for another
+
+// The slot of a process. 255 stands for none.
+pub struct ProcSlot(pub u8);
+
+// The slot of a namespace. 255 stands for none.
+pub struct NsSlot(pub u8);
+
+// A process number, as one namespace sees it. 0 stands for none.
+pub struct Pid(pub u16);
+
+// ---- the table
+
+// How a process ended: the number it gave at its end, or a signal.
+pub enum End {
+    Exited(u8),
+    Signaled(u8),
+}
+
+pub enum State {
+    Running,
+    Stopped,
+    Ended(End),
+}
+
+// Own namespace, fixed at birth; children's namespace; parent; state; handled and pending signals, bit s for
+// signal s; the mark "has unshared"; and one number for each level from the root's to its own.
+pub struct Process {
+    pub own: NsSlot,
+    pub children: NsSlot,
+    pub parent: ProcSlot,
+    pub state: State,
+    pub handled: u32,
+    pub pending: u32,
+    pub unshared: bool,
+    pub pids: [Pid; LEVELS],
+}
+
+// The condition of a namespace: no process yet, alive with its init, or its init ended.
+pub enum Life {
+    Unborn,
+    Alive(ProcSlot),
+    Dead,
+}
+
+pub struct Namespace {
+    pub parent: NsSlot,
+    pub level: u8,
+    pub last: Pid,
+    pub life: Life,
+}
+
+pub struct Table {
+    pub processes: [Process; PROCESS_SLOTS],
+    pub namespaces: [Namespace; NAMESPACE_SLOTS],
+}
+
+// ---- calls and answers
+
+// What a signal does to its target: nothing, make it run, stop it, end it, or become pending.
+pub enum Action {
+    Nothing,
+    Resume,
+    Stop,
+    Finish,
+    Pend,
+}
+
+// Arguments are whole 32-bit numbers; the calls themselves say which are good.
+pub enum Call {
+    Clone,
+    CloneNew,
+    Unshare,
+    Setns(i32),
+    Kill(i32, i32),
+    Exit(i32),
+    Wait,
+    Getpid,
+    Getppid,
+    Handle(i32, bool),
+    Poll,
+}
+
+// Why a call was refused, in the order in which the reasons are tried. specs/Answers.antt gives their numbers.
+pub enum Refusal {
+    Unsound,
+    NotRunning,
+    Einval,
+    Enosys,
+    Esrch,
+    Ebusy,
+    Echild,
+    Enospc,
+    Enomem,
+    Eagain,
+}
+
+// A refusal, a number, or a process that a wait removed: its number and how it ended.
+pub enum Answer {
+    Refused(Refusal),
+    Number(u16),
+    Reaped(Pid, End),
+}
+
+// The answer, and beside it the slot of a child that was born, for the host alone.
+pub struct Reply {
+    pub answer: Answer,
+    pub child: ProcSlot,
+}
+
+// What a call gives: the reply, and the table then.
+pub struct Outcome {
+    pub reply: Reply,
+    pub table: Table,
+}
+
+// ---- the fresh table
+
+// No slot, in a field that holds one.
+pub const NO_SLOT: u8 = 255;
+
+// An empty process slot: all zero, running.
+pub fn empty_process() -> Process
+    ensures { λ r. ⌜ r ≡ empty-process ⌝ }
+{
+    Process {
+        own: NsSlot(0),
+        children: NsSlot(0),
+        parent: ProcSlot(0),
+        state: State::Running,
+        handled: 0,
+        pending: 0,
+        unshared: false,
+        pids: [Pid(0); LEVELS],
+    }
+}
+
+// An empty namespace slot: all zero, unborn.
+pub fn empty_namespace() -> Namespace
+    ensures { λ r. ⌜ r ≡ empty-namespace ⌝ }
+{
+    Namespace {
+        parent: NsSlot(0),
+        level: 0,
+        last: Pid(0),
+        life: Life::Unborn,
+    }
+}
+
+// The fresh table: the root init alone, running, children's namespace the root, last number 1.
+pub fn fresh() -> Table
+    ensures { λ r. ⌜ r ≡ fresh-table ⌝ }
+{
+    let p = empty_process();
+    let n = empty_namespace();
+    let mut pids = [Pid(0); LEVELS];
+    pids[0] = Pid(1);
+    let mut processes = [p; PROCESS_SLOTS];
+    processes[0] = Process {
+        parent: ProcSlot(NO_SLOT),
+        pids: pids,
+        ..p
+    };
+    let mut namespaces = [n; NAMESPACE_SLOTS];
+    namespaces[0] = Namespace {
+        parent: NsSlot(NO_SLOT),
+        last: Pid(1),
+        life: Life::Alive(ProcSlot(0)),
+        ..n
+    };
+    Table {
+        processes: processes,
+        namespaces: namespaces,
+    }
+}
