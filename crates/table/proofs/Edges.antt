@@ -1,6 +1,7 @@
--- "Edges to try": the ten lines, every starred edge, the room for processes, and an edge for each shortcut that looks
--- harmless, by computation.
+-- "Edges to try": the ten lines, every starred edge and the room for processes; an edge for each shortcut that looks
+-- harmless; and the kinds of delivery. By computation.
 use Prim.Native.Nat.{ℕ}
+use mathlib.Core.Bool.{true, false}
 use mathlib.Core.List.{List, [], _∷_, map}
 use mathlib.Core.Option.{Option, none, some}
 use mathlib.Core.Path.{_≡_, refl}
@@ -12,7 +13,7 @@ use Rattle.table.specs.Fresh.{fresh}
 use Rattle.table.specs.Step.{step}
 use Rattle.table.specs.declared.Answer.{Answer}
 use Rattle.table.specs.declared.Call.{Call}
-use Rattle.table.specs.declared.Call.the-variants.{Clone, CloneNew, Unshare, Setns, Kill, Exit, Wait, Getpid, Getppid}
+use Rattle.table.specs.declared.Call.the-variants.{Clone, CloneNew, Unshare, Setns, Kill, Exit, Wait, Getpid, Getppid, Handle, Poll}
 use Rattle.table.specs.declared.End.{End}
 use Rattle.table.specs.declared.End.the-variants.{Exited, Signaled}
 use Rattle.table.specs.declared.Table.{Table}
@@ -97,7 +98,7 @@ edges =
     -- kill 1 9 by an init on itself: 0, nothing ends
     ∷ (after fresh ((0, CloneNew) ∷ []), (1, Kill (pos 1) (pos 9), says 0) ∷ (1, Getpid, says 1) ∷ (0, Wait, says 0) ∷ [])
     -- kill -1 on the fresh table: -3; kill 0: -38; kill 5 32: -22
-    ∷ (fresh, (0, Kill (minus 1) (pos 9), refuses 3) ∷ (0, Kill (pos 0) (pos 9), refuses 38) ∷ (0, Kill (pos 5) (pos 32), refuses 22) ∷ [])
+    ∷ (fresh, (0, Kill (minus 1) (pos 9), refuses 3) ∷ (0, Kill (pos 0) (pos 9), refuses 38) ∷ (0, Kill (pos 5) (pos 32), refuses 22) ∷ (0, Kill (pos 0) (pos 32), refuses 22) ∷ [])
     -- unshare, clone, child exits, clone: -12
     ∷ (fresh, (0, Unshare, says 0) ∷ (0, Clone, says 2) ∷ (1, Exit (pos 0), says 0) ∷ (0, Clone, refuses 12) ∷ [])
     -- 63 processes: clone works; 64: -11; after a wait, it works
@@ -123,8 +124,40 @@ edges =
           ∷ (0, Wait, signal 3 9)
           ∷ [],
     )
-    -- setns moves the children's namespace and not the caller
-    ∷ (fresh, (0, CloneNew, says 2) ∷ (0, Setns (pos 2), says 0) ∷ (0, Getpid, says 1) ∷ (0, Clone, says 3) ∷ (2, Getpid, says 2) ∷ [])
+    -- setns moves the children's namespace and not the caller; a member with an outside parent falls with its init
+    ∷ (
+      fresh,
+      (0, CloneNew, says 2)
+          ∷ (0, Setns (pos 2), says 0)
+          ∷ (0, Getpid, says 1)
+          ∷ (0, Clone, says 3)
+          ∷ (2, Getpid, says 2)
+          ∷ (2, Getppid, says 0)
+          ∷ (0, Kill (pos 2) (pos 9), says 0)
+          ∷ (0, Wait, signal 2 9)
+          ∷ (0, Wait, signal 3 9)
+          ∷ [],
+    )
+    -- 19 stops and 18 resumes; a handled signal becomes pending and has no other effect; off drops it; another ends
+    ∷ (
+      crowd 1,
+      (0, Kill (pos 2) (pos 19), says 0)
+          ∷ (1, Getpid, refuses 1001)
+          ∷ (0, Kill (pos 2) (pos 18), says 0)
+          ∷ (1, Handle (pos 20) true, says 0)
+          ∷ (0, Kill (minus 1) (pos 20), says 0)
+          ∷ (1, Poll, says 20)
+          ∷ (1, Poll, says 0)
+          ∷ (0, Kill (pos 2) (pos 20), says 0)
+          ∷ (1, Handle (pos 20) false, says 0)
+          ∷ (1, Poll, says 0)
+          ∷ (1, Handle (pos 9) true, refuses 22)
+          ∷ (0, Kill (pos 2) (pos 17), says 0)
+          ∷ (0, Wait, says 0)
+          ∷ (0, Kill (pos 2) (pos 15), says 0)
+          ∷ (0, Wait, signal 2 15)
+          ∷ [],
+    )
     ∷ []
 
 -- Every edge is answered as document 01 says; and where an init signals itself, the whole table stays as it was.

@@ -2,4 +2,5 @@
 pub mod Open
 pub mod Tables
 pub mod Edges
+pub mod Levels
 pub mod Refused
