@@ -4,11 +4,11 @@ use native.Mathlib.Omega.{arith}
 use mathlib.Core.Bool.{Bool, true, false, not, true≢false}
 use mathlib.Core.Path.{_≡_, refl, sym, ap, _∙_}
 use borrow.Author.Tests.{ltb-true, eq-eqb, ne-eqb, lt-ltb, le-ltb, le-leb, lt-leb}
-use lib.Bits.{bitAnd, and-mask}
+use lib.Bits.{bitAnd, and-mask, and-le-r}
 use lib.Dec.{T, leb, ltb, eqb, leb·zero, leb·suc-zero}
 use lib.IntN.{ℤ, pos, negsuc, natAbs}
 use lib.Signed.{ltZ, nonNeg}
-use mir.Syntax.{w32}
+use mir.Syntax.{w8, w32}
 use mir.Val.{Fits, SFits, toZ, ofZ}
 use mir.ValLaws.{toZ-pos}
 use Rattle.table.specs.Calls.{within, natural, status, names-group}
@@ -98,7 +98,7 @@ everyone-is (negsuc (suc n)) f = ne-eqb (4294967296 - suc (suc n)) 4294967295 (�
 
 -- ---- the remainder by 256
 
-pub status-small : (z : ℤ) → status z < statuses
+status-small : (z : ℤ) → status z < statuses
 status-small (pos n) = omega arith
 status-small (negsuc n) = omega arith
 
@@ -110,6 +110,12 @@ pub status-is : (z : ℤ) → SFits w32 z → toZ w32 (bitAnd (ofZ w32 z) 255) �
 status-is z f =
     ap (toZ w32) (and-mask (ofZ w32 z) 8 ∙ low-bits z f)
     ∙ toZ-pos w32 (status z) (omega (arith, status-small z))
+
+-- what a mask below 256 leaves is a byte
+pub masked-cast : (n m : ℕ) → m < 256 → T (nonNeg (toZ w32 (bitAnd n m))) × Fits w8 (natAbs (toZ w32 (bitAnd n m)))
+masked-cast n m h =
+    let b = and-le-r n m in
+    rw (toZ-pos w32 (bitAnd n m) (omega arith)) (tt, record { fits = omega arith })
 
 -- -1, 256, -256 and the least number
 pub edges : (status (negsuc 0) ≡ 255) × (status (pos 256) ≡ 0) × (status (negsuc 255) ≡ 0) × (status (negsuc 2147483647) ≡ 0)
