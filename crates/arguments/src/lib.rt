@@ -8,12 +8,12 @@ ghost use Rattle.table.specs.Limits.{signals, sigkill, sigstop};
 ghost use Rattle.table.specs.Tests.{_or_};
 ghost use Rattle.arguments.specs.Arguments.{names-everyone};
 
-// Signal numbers are 0 to 31.
-const SIGNALS: u32 = 32;
+// Signals at the width of an argument.
+const SIGNALS: u32 = signals::SIGNALS as u32;
 
-const SIGKILL: u32 = 9;
+const SIGKILL: u32 = signals::SIGKILL as u32;
 
-const SIGSTOP: u32 = 19;
+const SIGSTOP: u32 = signals::SIGSTOP as u32;
 
 // The number, or 0 for one below 0.
 pub fn natural_of(n: i32) -> u32
@@ -42,6 +42,7 @@ pub fn names_group(n: i32) -> bool
     n < -1
 }
 
+// -1
 pub fn names_everyone(n: i32) -> bool
     ensures { λ r. ⌜ r ≡ names-everyone n ⌝ }
 {
@@ -55,7 +56,7 @@ pub fn exit_status(s: i32) -> u8
     (s & 255) as u8
 }
 
-// What kill takes for a signal.
+// What kill takes for a signal: 0 to 31.
 pub fn is_signal(s: i32) -> bool
     ensures { λ r. ⌜ r ≡ within 0 signals s ⌝ }
 {
@@ -82,7 +83,7 @@ pub fn cannot_handle(s: i32) -> bool
     k == SIGSTOP
 }
 
-// A signal that passed one of the two tests.
+// The signal itself, once it has passed one of the two tests.
 pub fn signal_of(s: i32) -> u8
     requires { ⌜ natural s < signals ⌝ }
     ensures { λ r. ⌜ r ≡ natural s ⌝ }

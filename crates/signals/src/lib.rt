@@ -9,6 +9,13 @@ use table::Action;
 // Signal numbers are 0 to 31, and 0 is no signal.
 pub const SIGNALS: u8 = 32;
 
+// Signals that document 01 treats by themselves.
+pub const SIGKILL: u8 = 9;
+
+pub const SIGCONT: u8 = 18;
+
+pub const SIGSTOP: u8 = 19;
+
 // ---- sets of signals: bit s stands for signal s
 
 // A set of 32 bits has no signal from 32 on.
