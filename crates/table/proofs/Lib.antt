@@ -3,3 +3,6 @@ pub mod Open
 pub mod Tables
 pub mod Edges
 pub mod Refused
+pub mod Laws
+pub mod Keeps
+pub mod Sameness
