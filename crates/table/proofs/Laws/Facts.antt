@@ -201,13 +201,13 @@ unfolding shaped zero-process zero-namespace
 past-of t h =
     record {
       past = λ i o.
-        subst (λ (p : Process). So (eqb (p .own .0) 0 and eqb (p .children .0) 0 and eqb (p .parent .0) 0 and is-running (p .state) and eqb (p .handled) 0 and eqb (p .pending) 0 and not (p .unshared) and all levels (λ l. eqb (pid-at p l) 0)))
-        (sym (List·getD-eq-default (t .processes) no-process (omega (arith, eqb-true (length (t .processes)) process-slots (left _ _ (left _ _ h))))))
-        (both _ _ (both _ _ (both _ _ (both _ _ (both _ _ (both _ _ (both _ _ refl refl) refl) refl) refl) refl) refl) (all-intro levels (λ k. eqb 0 0) (λ l h. refl)));
+          subst (λ (p : Process). So (eqb (p .own .0) 0 and eqb (p .children .0) 0 and eqb (p .parent .0) 0 and is-running (p .state) and eqb (p .handled) 0 and eqb (p .pending) 0 and not (p .unshared) and all levels (λ l. eqb (pid-at p l) 0)))
+          (sym (List·getD-eq-default (t .processes) no-process (omega (arith, eqb-true (length (t .processes)) process-slots (left _ _ (left _ _ h))))))
+          (both _ _ (both _ _ (both _ _ (both _ _ (both _ _ (both _ _ (both _ _ refl refl) refl) refl) refl) refl) refl) (all-intro levels (λ k. eqb 0 0) (λ l h. refl)));
       past-namespaces = λ n o.
-        subst (λ (s : Namespace). So (eqb (s .parent .0) 0 and eqb (s .level) 0 and eqb (s .last .0) 0 and is-unborn (s .life)))
-        (sym (List·getD-eq-default (t .namespaces) no-namespace (omega (arith, eqb-true (length (t .namespaces)) namespace-slots (right _ _ (left _ _ h))))))
-        (both _ _ (both _ _ (both _ _ refl refl) refl) refl);
+          subst (λ (s : Namespace). So (eqb (s .parent .0) 0 and eqb (s .level) 0 and eqb (s .last .0) 0 and is-unborn (s .life)))
+          (sym (List·getD-eq-default (t .namespaces) no-namespace (omega (arith, eqb-true (length (t .namespaces)) namespace-slots (right _ _ (left _ _ h))))))
+          (both _ _ (both _ _ (both _ _ refl refl) refl) refl);
     }
 
 module _ (v : View) (r : Past v) (s : Sound v) where

@@ -138,8 +138,10 @@ sorted-unique {A} f (x ∷ xs) (y ∷ ys) s r h k =
   where
     same : x ≡ y
     same = ⊎-elim (λ e. e) (λ m. ⊎-elim (λ e. sym e) (λ n. absurd (omega (arith, r .0 x m, s .0 y n))) (k y (inl refl))) (h x (inl refl))
+
     apart : (z : A) → z ≡ x → f x < f z → ⊥
     apart z e l = omega (arith, ap f e)
+
     apart′ : (z : A) → z ≡ y → f y < f z → ⊥
     apart′ z e l = omega (arith, ap f e)
 

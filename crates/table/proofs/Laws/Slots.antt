@@ -194,6 +194,7 @@ module _ (v : View) (f : Facts v) where
       not-dead true h =
           absurd (false≢true (sym (alive-not-dead (v .life n) a) ∙ f .below-dead n (level-taken n k e) (not-root n k e) h))
       not-dead false h = refl
+
       not-unborn : (b : Bool) → unborn v (v .up n) ≡ b → b ≡ false
       not-unborn true h = absurd (no-heirs (v .up n) n k h e refl)
       not-unborn false h = refl

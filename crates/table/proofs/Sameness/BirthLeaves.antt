@@ -50,7 +50,7 @@ same-trans v u x s r q a b =
     record {
       levels = a .levels ∙ b .levels;
       there = λ i k. let (j, m, e) = a .there i k in let (l, n, g) = b .there j m in (l, n, e ∙ g);
-      back = λ l n. let (j, m, g) = b .back l n in let (i, k, e) = a .back j m in (i, k, e ∙ g)
+      back = λ l n. let (j, m, g) = b .back l n in let (i, k, e) = a .back j m in (i, k, e ∙ g);
     }
 
 -- nothing lies below an unborn namespace but itself
@@ -104,7 +104,7 @@ module _ (v v′ : View) (f : Facts v) (k n c : ℕ) (w : Grown v v′ k n) (p :
         marks = λ i h. p .marks i (apart i h);
         childrens = λ i h. p .childrens i (apart i h);
         parents = λ i h. ap (pid-in v s) (w .parents i (apart i h));
-        lasts = λ i h. w .lasts (v .own i) ∙ ap (λ (b : Bool). if b then next-pid v (v .own i) else v .last (v .own i)) (not-above i h)
+        lasts = λ i h. w .lasts (v .own i) ∙ ap (λ (b : Bool). if b then next-pid v (v .own i) else v .last (v .own i)) (not-above i h);
       }
     where
       not-above : (i : ℕ) → So (seen v s i) → below v n (v .own i) ≡ false
@@ -134,8 +134,10 @@ module _ (keeps : KeepsSound) where
         where
           n : ℕ
           n = view t .children i
+
           tn : So (namespace-taken (view t) n)
           tn = children-taken (view t) (facts t h) i (runs-living t i k)
+
           o : below (view t) n s ≡ false
           o = untouched-made t s i Clone h k a (born t i (birth t i n)) (rw (ea, eb, clone) refl) refl
 
@@ -177,7 +179,7 @@ module _ (t : Table) (h : SoundTable t) (c : ℕ) (room : free-namespace-slot (v
         marks = λ i k. refl;
         childrens = λ i k. refl;
         parents = λ i k. refl;
-        lasts = λ i k. ap (λ z. z .last .0) (getD-set-other (t .namespaces) x (view t .own i) _ no-namespace (taken-other t ft c room _ (own-taken (view t) (ft .facts) i (seen-taken (view t) (ft .facts) s i k))))
+        lasts = λ i k. ap (λ z. z .last .0) (getD-set-other (t .namespaces) x (view t .own i) _ no-namespace (taken-other t ft c room _ (own-taken (view t) (ft .facts) i (seen-taken (view t) (ft .facts) s i k))));
       }
 
   pub new-same : Same (view t₁) (view t) s s
@@ -224,17 +226,24 @@ module _ (keeps : KeepsSound) where
         where
           x : ℕ
           x = free-namespace-slot (view t)
+
           t₁ : Table
           t₁ = new-namespace t i
+
           room : free-namespace-slot (view t) ≡ namespace-slots → ⊥
           room = eqb-false _ _ (or-false-right _ _ eb)
+
           li : So (living (view t) i)
           li = runs-living t i k
+
           f₁ : Fits t₁
           f₁ = fits-of t₁ (namespace-sane t (fits-sound t h .sane-of) i li (eqb-false _ _ ea) room)
+
           tx : So (namespace-taken (view t₁) x)
           tx = x-taken t (fits-sound t h) i room
+
           room₁ : free-slot (view t₁) ≡ process-slots → ⊥
           room₁ e = eqb-false _ _ (or-false-left _ _ eb) (sym (same-free t i) ∙ e)
+
           o : below (view t₁) x s ≡ false
           o = new-outside t h i room s hs (living-taken (view t) (facts t h) i li) f₁ (outsider t s i CloneNew a)

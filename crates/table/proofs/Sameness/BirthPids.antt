@@ -23,6 +23,7 @@ unborn-unseen v f n i h k = go (ℕ-discrete (v .level (v .own i)) (v .level n))
   where
     b : So (below v (v .own i) n)
     b = seen-below v f n i k
+
     go : Dec (v .level (v .own i) ≡ v .level n) → ⊥
     go (yes e) = false≢true (sym (own-not-unborn v f i (seen-taken v f n i k)) ∙ ap (unborn v) (below-same v f (v .own i) n b e) ∙ h)
     go (no e) =
@@ -65,6 +66,7 @@ cradle-next v u s r w n m l (inr k) a b = go (ℕ-discrete l (v .level n))
   where
     levels : v .level n ≡ u .level m
     levels = omega (arith, k .level-v, k .level-u, twins-level v u s r w (v .up n) (u .up m) (k .ups))
+
     go : Dec (l ≡ v .level n) → next-pid v (up-by (v .up) (v .level n - l) n) ≡ next-pid u (up-by (u .up) (u .level m - l) m)
     go (yes e) =
         let x : v .level n - l ≡ 0 = omega arith in

@@ -177,6 +177,7 @@ module _ (v u v′ u′ : View) (s r : ℕ) (w : Pair v u s r) (c d n m k l : �
       where
         e : name v s (v .children i) ≡ name u r (u .children j)
         e = ap (λ (o : Row). o .children) rows
+
         born : So (namespace-taken v (v .children i)) → So (namespace-taken u (u .children j)) → (z : Bool) → unborn v (v .children i) ≡ z → unborn u (u .children j) ≡ z → name v′ s (v .children i) ≡ name u′ r (u .children j)
         born g h false y y′ = name-born v v′ (w .facts-v) k n a tn s (v .children i) g y ∙ e ∙ sym (name-born u u′ (w .facts-u) l m b tm r (u .children j) h y′)
         born g h true y y′ = which (ℕ-discrete n (v .children i)) (ℕ-discrete m (u .children j))
@@ -186,6 +187,7 @@ module _ (v u v′ u′ : View) (s r : ℕ) (w : Pair v u s r) (c d n m k l : �
             which (yes q₁) (no q₂) = absurd (q₂ (sym (eqb-true _ _ (sym (holders i j x (ap (unborn v) q₁ ∙ y)) ∙ eq-eqb (v .children i) n (sym q₁)))))
             which (no q₁) (yes q₂) = absurd (q₁ (sym (eqb-true _ _ (holders i j x (unborn-nm ∙ ap (unborn u) q₂ ∙ y′) ∙ eq-eqb (u .children j) m (sym q₂)))))
             which (no q₁) (no q₂) = name-other v v′ (w .facts-v) k n a tn s (v .children i) g y q₁ ∙ sym (name-other u u′ (w .facts-u) l m b tm r (u .children j) h y′ q₂)
+
         go : So (namespace-taken v (v .children i)) ⊎ (v .children i ≡ no-slot) → So (namespace-taken u (u .children j)) ⊎ (u .children j ≡ no-slot) → name v′ s (v .children i) ≡ name u′ r (u .children j)
         go (inl g) (inl h) = born g h (unborn v (v .children i)) refl (sym (name-unborn u (w .facts-u) r (u .children j) h) ∙ sym (ap is-unborn-name e) ∙ name-unborn v (w .facts-v) s (v .children i) g)
         go (inr g) (inr h) = name-no-slot v′ s _ g ∙ sym (name-no-slot u′ r _ h)
@@ -235,6 +237,7 @@ module _ (v u v′ u′ : View) (s r : ℕ) (w : Pair v u s r) (c d n m k l : �
         where
           lt : h < levels
           lt = omega (arith, ls)
+
           go : Dec (h ≤ v .level n) → (if leb h (v .level n) then next-pid v (above-at v n h) else 0) ≡ (if leb h (u .level m) then next-pid u (above-at u m h) else 0)
           go (yes z) = rw (le-leb h (v .level n) z, le-leb h (u .level m) (omega (arith, levels-nm))) (cradle-next v u s r w n m h cradles x z)
           go (no z) = rw (lt-leb h (v .level n) (omega arith), lt-leb h (u .level m) (omega (arith, levels-nm))) refl
@@ -264,7 +267,7 @@ module _ (v u v′ u′ : View) (s r : ℕ) (w : Pair v u s r) (c d n m k l : �
       record {
         levels = ap (λ (y : ℕ → ℕ). y s) (a .levels-same) ∙ w .same .levels ∙ sym (ap (λ (y : ℕ → ℕ). y r) (b .levels-same));
         there = λ i h. there-case i h (ℕ-discrete i k);
-        back = λ j h. back-case j h (ℕ-discrete j l)
+        back = λ j h. back-case j h (ℕ-discrete j l);
       }
     where
       there-case : (i : ℕ) → So (seen v′ s i) → Dec (i ≡ k) → (j : ℕ) × So (seen u′ r j) × (row v′ s i ≡ row u′ r j)
@@ -272,6 +275,7 @@ module _ (v u v′ u′ : View) (s r : ℕ) (w : Pair v u s r) (c d n m k l : �
       there-case i h (no o) =
           let (j, x) = twin-there v u s r w i (sym (seen-grown v v′ (w .facts-v) k n a tn s i o) ∙ h) in
           (j, seen-grown u u′ (w .facts-u) l m b tm r j (old u u′ (w .facts-u) l m b tm j (seen-taken u (w .facts-u) r j (x .seen-u))) ∙ x .seen-u, old-rows i j x)
+
       back-case : (j : ℕ) → So (seen u′ r j) → Dec (j ≡ l) → (i : ℕ) × So (seen v′ s i) × (row v′ s i ≡ row u′ r j)
       back-case j h (yes e) = (k, child-seen v v′ (w .facts-v) k n a tn s bn, new-rows ∙ sym (ap (row u′ r) e))
       back-case j h (no o) =

@@ -114,13 +114,15 @@ module _ (t : Table) (w : Fits t) (c n : ℕ) (tn : So (namespace-taken (view t)
         ups = fun-ext (read-changed (λ s. s .parent .0) (joined (view t) k n) no-namespace (λ m s. by-joined (λ s. s .parent .0) m s (λ z y. refl)) (t .namespaces) namespace-slots);
         levels-same = fun-ext (read-changed (λ s. s .level) (joined (view t) k n) no-namespace (λ m s. by-joined (λ s. s .level) m s (λ z y. refl)) (t .namespaces) namespace-slots);
         lasts = λ m. lasts-of m (decLt m namespace-slots);
-        lives = λ m. lives-of m (decLt m namespace-slots)
+        lives = λ m. lives-of m (decLt m namespace-slots);
       }
     where
       pid-of-child : (l : ℕ) → l < levels → view t′ .pid k l ≡ (if leb l (view t .level n) then next-pid (view t) (above-at (view t) n l) else 0)
       pid-of-child l h = ap (λ p. pid-at p l) the-child ∙ new-pid (view t) n l h
+
       first-pid : view t′ .pid k 0 ≡ next-pid (view t) (above-at (view t) n 0)
       first-pid = pid-of-child 0 (omega arith) ∙ ap (λ (b : Bool). if b then next-pid (view t) (above-at (view t) n 0) else 0) (le-leb 0 (view t .level n) (omega arith))
+
       lasts-of : (m : ℕ) → Dec (m < namespace-slots) → view t′ .last m ≡ (if below (view t) n m then next-pid (view t) m else view t .last m)
       lasts-of m (yes l) = ap (λ s. s .last .0) (namespace-at m l) ∙ go (below (view t) n m)
         where
@@ -128,6 +130,7 @@ module _ (t : Table) (w : Fits t) (c n : ℕ) (tn : So (namespace-taken (view t)
           go true = refl
           go false = refl
       lasts-of m (no o) = ap (λ s. s .last .0) (namespace-past m (omega arith)) ∙ sym (ap (λ (b : Bool). if b then next-pid (view t) m else view t .last m) (not-past m (omega arith)))
+
       lives-of : (m : ℕ) → Dec (m < namespace-slots) → view t′ .life m ≡ (if below (view t) n m then (if is-unborn (view t .life m) then Alive (record { 0 = k }) else view t .life m) else view t .life m)
       lives-of m (yes l) = ap (λ s. s .life) (namespace-at m l) ∙ go (below (view t) n m)
         where
@@ -146,5 +149,5 @@ module _ (t : Table) (w : Fits t) (c n : ℕ) (tn : So (namespace-taken (view t)
         marks = λ i o. ap (λ p. p .unshared) (the-others i o);
         childrens = λ i o. ap (λ p. p .children .0) (the-others i o);
         child-parent = ap (λ p. p .parent .0) the-child;
-        child-children = ap (λ p. p .children .0) the-child
+        child-children = ap (λ p. p .children .0) the-child;
       }

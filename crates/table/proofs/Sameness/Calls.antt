@@ -121,7 +121,7 @@ shown t u s r w i j k =
       handleds = ap (λ (q : Row). q .handled) e;
       pendings = ap (λ (q : Row). q .pending) e;
       marks = ap (λ (q : Row). q .unshared) e;
-      childrens = ap (λ (q : Row). q .children) e
+      childrens = ap (λ (q : Row). q .children) e;
     }
 
 pub lights-of : (t u t′ u′ : Table) (s r i j : ℕ) → Shown t u s r (process t′ i) (process u′ j) → Lights (view t) (view u) (view t′) (view u′) s r i j
@@ -176,6 +176,7 @@ module _ (keeps : KeepsSound) where
     where
       y : Shown t u s r (process t i) (process u j)
       y = shown t u s r (w .pair) i j (w .twin)
+
       go : (b : Bool) → not (within 1 signals z) or eqb (natural z) sigkill or eqb (natural z) sigstop ≡ b → (o : Bool) → on ≡ o → Kept t u s r (handle t i z on) (handle u j z on)
       go true e o q = rw (e, handle) (both-refuse t u s r i j w Einval)
       go false e true q =
@@ -196,8 +197,10 @@ module _ (keeps : KeepsSound) where
     where
       y : Shown t u s r (process t i) (process u j)
       y = shown t u s r (w .pair) i j (w .twin)
+
       lows : lowest-signal (process t i .pending) ≡ lowest-signal (process u j .pending)
       lows = ap lowest-signal (y .pendings)
+
       go : (b : Bool) → eqb (lowest-signal (process t i .pending)) signals ≡ b → Kept t u s r (poll t i) (poll u j)
       go true e = rw (e, sym (ap (λ x. eqb x signals) lows) ∙ e, poll) (both-tell t u s r i j w 0 0 refl)
       go false e =

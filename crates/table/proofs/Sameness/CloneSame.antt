@@ -113,7 +113,7 @@ module _ (t u : Table) (s r c d : ℕ) (w : Ready t u s r c d) where
             lasts = ft .unborn-last _ hn h ∙ sym (fu .unborn-last _ hm h′);
             ups = subst₂ (λ a b. Twins (view t) (view u) s r a b) (ft .unborn-own _ hn h c tc refl) (fu .unborn-own _ hm h′ d td refl) (owns-twins t u s r c d w);
             level-v = one-up (view t) ft _ h hn;
-            level-u = one-up (view u) fu _ h′ hm
+            level-u = one-up (view u) fu _ h′ hm;
           })
       go false h =
           let h′ = sym unborns ∙ h in
@@ -144,13 +144,14 @@ module _ (t u : Table) (s r c d : ℕ) (w : Ready t u s r c d) where
       let b = grown u fits-u d (view u .children d) hm ru in
       let x = the-child t fits-t c (view t .children c) hn rt in
       let y = the-child u fits-u d (view u .children d) hm ru in
-      inr
-      (ap Number (next-twins (view t) (view u) s r (w .pair) _ _ (owns-twins t u s r c d w)),
-      stands-same t u (birth t c (view t .children c)) (birth u d (view u .children d)) s r h g
-      (ap (λ (l : ℕ → ℕ). eqb s 0 or not (eqb (l s) 0)) (a .levels-same) ∙ taken-s t u s r c d w)
-      (ap (λ (l : ℕ → ℕ). eqb r 0 or not (eqb (l r) 0)) (b .levels-same) ∙ taken-r t u s r c d w)
-      (birth-same (view t) (view u) (view (birth t c (view t .children c))) (view (birth u d (view u .children d))) s r (w .pair) c d (view t .children c) (view u .children d) (free-slot (view t)) (free-slot (view u)) (w .twin) (cradles nd) hn hm bn bm a b (lights t fits-t c (view t .children c) hn rt) (lights u fits-u d (view u .children d) hm ru)
-      (ap (λ p. p .state) x ∙ sym (ap (λ p. p .state) y), ap (λ p. p .handled) x ∙ sym (ap (λ p. p .handled) y), ap (λ p. p .pending) x ∙ sym (ap (λ p. p .pending) y), ap (λ p. p .unshared) x ∙ sym (ap (λ p. p .unshared) y)) holders))
+      inr (
+        ap Number (next-twins (view t) (view u) s r (w .pair) _ _ (owns-twins t u s r c d w)),
+        stands-same t u (birth t c (view t .children c)) (birth u d (view u .children d)) s r h g
+            (ap (λ (l : ℕ → ℕ). eqb s 0 or not (eqb (l s) 0)) (a .levels-same) ∙ taken-s t u s r c d w)
+            (ap (λ (l : ℕ → ℕ). eqb r 0 or not (eqb (l r) 0)) (b .levels-same) ∙ taken-r t u s r c d w)
+            (birth-same (view t) (view u) (view (birth t c (view t .children c))) (view (birth u d (view u .children d))) s r (w .pair) c d (view t .children c) (view u .children d) (free-slot (view t)) (free-slot (view u)) (w .twin) (cradles nd) hn hm bn bm a b (lights t fits-t c (view t .children c) hn rt) (lights u fits-u d (view u .children d) hm ru)
+            (ap (λ p. p .state) x ∙ sym (ap (λ p. p .state) y), ap (λ p. p .handled) x ∙ sym (ap (λ p. p .handled) y), ap (λ p. p .pending) x ∙ sym (ap (λ p. p .pending) y), ap (λ p. p .unshared) x ∙ sym (ap (λ p. p .unshared) y)) holders),
+      )
 
 pub no-room-left : (t u : Table) (s r : ℕ) (y : Outcome) → Kept t u s r (refused t Eagain) y
 unfolding refused is-no-room number-of refusal-number _or_
@@ -167,6 +168,7 @@ module _ (keeps : KeepsSound) where
     where
       same : dead (view t) (view t .children c) ≡ dead (view u) (view u .children d)
       same = deads t u s r c d w
+
       go : (a : Bool) → dead (view t) (view t .children c) ≡ a → (b : Bool) → eqb (free-slot (view t)) process-slots ≡ b → (b′ : Bool) → eqb (free-slot (view u)) process-slots ≡ b′ → Kept t u s r (clone t c) (clone u d)
       go true ea b eb b′ eb′ = rw (ea, sym same ∙ ea, clone) (both-refuse t u s r c d w Enomem)
       go false ea true eb b′ eb′ = rw (ea, eb, clone) (no-room-left t u s r (clone u d))

@@ -109,6 +109,7 @@ action-twins t u s r f g w x y n k = go (living (view t) x) refl
   where
     p : Pair (view t) (view u) s r
     p = pair-of t u s r f g w
+
     go : (b : Bool) → living (view t) x ≡ b → action-on (view t) f x n ≡ action-on (view u) g y n
     go false e = action-none (view t) f x n e ∙ sym (action-none (view u) g y n (sym (living-twins t u s r p x y k) ∙ e))
     go true e =
@@ -146,18 +147,20 @@ module _ (t u : Table) (s r f g : ℕ) (w : Held t u s r f g) (x y : ℕ) (k : T
   ly = sym (living-twins t u s r (pair-of t u s r f g w) x y k) ∙ lx
 
   pub light-onward : (p q : Process) → Placed p (process t x) → Placed q (process u y) → Shown t u s r p q → Sane (put t x p) → Sane (put u y q) → Onward t u s r f g (put t x p) (put u y q)
-  light-onward p q a b h ft fu =
-      (record {
-        fits-t = fits-of (put t x p) ft;
-        fits-u = fits-of (put u y q) fu;
-        alive-s = w .alive-s;
-        alive-r = w .alive-r;
-        same = same-put t u s r x y z k (omega (arith, w .fits-t .length-processes, slot-lt (view t) (w .fits-t .facts) x (living-taken (view t) (w .fits-t .facts) x lx))) (omega (arith, w .fits-u .length-processes, slot-lt (view u) (w .fits-u .facts) y (living-taken (view u) (w .fits-u .facts) y ly))) p q a b h;
-        from = light-twins (view t) (view u) (view (put t x p)) (view (put u y q)) s r (put-light t x p a) (put-light u y q b) f g (w .from)
-      },
-      λ i j. elim [
-        inl e ↦ inl (light-twin (view t) (view u) (view (put t x p)) (view (put u y q)) s r (put-light t x p a) (put-light u y q b) i j (e .0), subst (λ (v : View). So (seen v f i)) (sym (put-light t x p a)) (relit-seen (view t) (view (put t x p)) f i (e .1)))
-        | inr e ↦ inr (not-living-put t x p a lx i (e .0), not-living-put u y q b ly j (e .1)) ])
+  light-onward p q a b h ft fu = (
+    record {
+      fits-t = fits-of (put t x p) ft;
+      fits-u = fits-of (put u y q) fu;
+      alive-s = w .alive-s;
+      alive-r = w .alive-r;
+      same = same-put t u s r x y z k (omega (arith, w .fits-t .length-processes, slot-lt (view t) (w .fits-t .facts) x (living-taken (view t) (w .fits-t .facts) x lx))) (omega (arith, w .fits-u .length-processes, slot-lt (view u) (w .fits-u .facts) y (living-taken (view u) (w .fits-u .facts) y ly))) p q a b h;
+      from = light-twins (view t) (view u) (view (put t x p)) (view (put u y q)) s r (put-light t x p a) (put-light u y q b) f g (w .from);
+    },
+    λ i j. elim [
+      | inl e ↦ inl (light-twin (view t) (view u) (view (put t x p)) (view (put u y q)) s r (put-light t x p a) (put-light u y q b) i j (e .0), subst (λ (v : View). So (seen v f i)) (sym (put-light t x p a)) (relit-seen (view t) (view (put t x p)) f i (e .1)))
+      | inr e ↦ inr (not-living-put t x p a lx i (e .0), not-living-put u y q b ly j (e .1))
+    ],
+  )
     where
       z : Pair (view t) (view u) s r
       z = pair-of t u s r f g w
@@ -182,6 +185,7 @@ finish-own v f x n e h q = false≢true (sym no-finish ∙ ap is-finish e)
     go false false true d = refl
     go false false false true = refl
     go false false false false = refl
+
     no-finish : is-finish (action-on v f x n) ≡ false
     no-finish = rw (h, eq-eqb (v .own x) f q, action-on) (go (eqb n 0 or not (living v x)) (eqb n 18) (eqb n 9 or eqb n 19) (has (v .handled x) n))
 

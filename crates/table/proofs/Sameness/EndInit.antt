@@ -66,6 +66,7 @@ module _ (t : Table) (w : Fits t) (x : ℕ) (e : End) where
       by-cases true false true d q k = h q e
       by-cases true false false true q k = refl
       by-cases true false false false q k = h q (Signaled 9)
+
       go : Dec (i < process-slots) → g (process fallen i) ≡ g (process t i)
       go (yes l) = ap g (process-at i l) ∙ by-cases (seen (view t) (view t .own x) i) (seen (view t) (view t .own x) (view t .parent i)) (eqb i x) (is-ended (process t i .state)) (process t i) s
       go (no o) = ap g (process-past i (omega arith))
@@ -76,6 +77,7 @@ module _ (t : Table) (w : Fits t) (x : ℕ) (e : End) where
     where
       both-seen : So (seen (view t) (view t .own x) i and seen (view t) (view t .own x) (view t .parent i))
       both-seen = isnt-not _ s
+
       removed : (a b : Bool) → So a → So b → ended-by e a b (eqb i x) (is-ended (process t i .state)) (process t i) ≡ empty-process
       removed true true h k = refl
       removed true false h k = absurd (false≢true k)
@@ -89,7 +91,7 @@ module _ (t : Table) (w : Fits t) (x : ℕ) (e : End) where
         pids = λ i l s. left-as (λ q. pid-at q l) (λ q y. refl) i s;
         gone = fallen-gone;
         ups = fun-ext (read-changed (λ s. s .parent .0) (namespace-dies (view t) (view t .own x)) no-namespace (λ n s. spared (λ s. s .parent .0) (below (view t) n (view t .own x)) s refl) (t .namespaces) namespace-slots);
-        levels = fun-ext (read-changed (λ s. s .level) (namespace-dies (view t) (view t .own x)) no-namespace (λ n s. spared (λ s. s .level) (below (view t) n (view t .own x)) s refl) (t .namespaces) namespace-slots)
+        levels = fun-ext (read-changed (λ s. s .level) (namespace-dies (view t) (view t .own x)) no-namespace (λ n s. spared (λ s. s .level) (below (view t) n (view t .own x)) s refl) (t .namespaces) namespace-slots);
       }
     where
       spared : {X : Type 0} (g : Namespace → X) (b : Bool) (s : Namespace) → g (with-life s Dead) ≡ g s → g (if b then with-life s Dead else s) ≡ g s
@@ -122,6 +124,7 @@ module _ (t : Table) (w : Fits t) (x : ℕ) (e : End) where
         dies : (b : Bool) (s : Namespace) → (if b then with-life s Dead else s) .life ≡ (if b then Dead else s .life)
         dies true s = refl
         dies false s = refl
+
         go : Dec (n < namespace-slots) → view fallen .life n ≡ (if below (view t) n (view t .own x) then Dead else view t .life n)
         go (yes l) = ap (λ s. s .life) (changed-at (namespace-dies (view t) (view t .own x)) no-namespace (t .namespaces) namespace-slots n l (omega (arith, w .length-namespaces))) ∙ dies (below (view t) n (view t .own x)) (namespace t n)
         go (no o) =

@@ -128,12 +128,16 @@ module _ (t u : Table) (s r f g : ℕ) (w : Held t u s r f g) (x y : ℕ) (e : E
     where
       a : Bool
       a = seen (view t) (view t .own x) i
+
       b : Bool
       b = seen (view t) (view t .own x) (view t .parent i)
+
       c : Bool
       c = eqb i x
+
       d : Bool
       d = is-ended (process t i .state)
+
       same-conditions : ended-by e a b c d (process u j) ≡ ended-by e (seen (view u) (view u .own y) j) (seen (view u) (view u .own y) (view u .parent j)) (eqb j y) (is-ended (process u j .state)) (process u j)
       same-conditions =
           ap (λ (h : Bool). ended-by e h b c d (process u j)) (sees i j m)
@@ -207,18 +211,23 @@ module _ (t u : Table) (s r f g : ℕ) (w : Held t u s r f g) (x y : ℕ) (e : E
       where
         names : name (view t) s (view t .children i) ≡ name (view u) r (view u .children j)
         names = ap (λ (o : Row). o .children) (twin-rows (view t) (view u) s r p i j m)
+
         hi : So (namespace-taken (view t) (view t .children i))
         hi = children-taken (view t) (w .fits-t .facts) i li
+
         hj : So (namespace-taken (view u) (view u .children j))
         hj = children-taken (view u) (w .fits-u .facts) j lj
+
         same-unborn : unborn (view t) (view t .children i) ≡ unborn (view u) (view u .children j)
         same-unborn = sym (name-unborn (view t) (w .fits-t .facts) s _ hi) ∙ ap is-unborn-name names ∙ name-unborn (view u) (w .fits-u .facts) r _ hj
+
         anchored : unborn (view t) (view t .children i) ≡ false → Twins (view t) (view u) s r (anchor (view t) (view t .children i)) (anchor (view u) (view u .children j))
         anchored z =
             anchors-of (view t) (view u) s r p _ _ names hi hj
             (below-trans (view t) (w .fits-t .facts) _ _ s (children-below (view t) (w .fits-t .facts) i li) (seen-below (view t) (w .fits-t .facts) s i (m .seen-v)))
             (below-trans (view u) (w .fits-u .facts) _ _ r (children-below (view u) (w .fits-u .facts) j lj) (seen-below (view u) (w .fits-u .facts) r j (m .seen-u)))
             z (sym same-unborn ∙ z)
+
         go : (b : Bool) → unborn (view t) (view t .children i) ≡ b → name (view t′) s (view t .children i) ≡ name (view u′) r (view u .children j)
         go true z =
             live-name _ _ names hi hj (unborn-outside (view t) (w .fits-t .facts) _ i li z (tops .lives-v) o) (unborn-outside (view u) (w .fits-u .facts) _ j lj (sym same-unborn ∙ z) (tops .lives-u) (sym (sees i j m) ∙ o))
@@ -231,12 +240,15 @@ module _ (t u : Table) (s r f g : ℕ) (w : Held t u s r f g) (x y : ℕ) (e : E
       where
         bare : (v : View) (f : Facts v) (a : ℕ) → So (taken v a) → So (v .ended a) → v .children a ≡ no-slot
         bare v f a h d = f .ended-bare a h d .0 .0 .0
+
         ends-same : view t .ended i ≡ view u .ended j
         ends-same = ap is-ended (shown t u s r p i j m .states)
+
         as-before : seen (view t) (view t .own x) i ≡ false → name (view t) s (view t .children i) ≡ name (view t) s (view t .children i) → name (view t′) s (view t .children i) ≡ name (view u′) r (view u .children j) → name (view t′) s (view t′ .children i) ≡ name (view u′) r (view u′ .children j)
         as-before o z h =
             ap (name (view t′) s) (ap (λ q. q .children .0) (out-fallen t (w .fits-t) x e i ti o)) ∙ h
             ∙ sym (ap (name (view u′) r) (ap (λ q. q .children .0) (out-fallen u (w .fits-u) y e j tj (sym (sees i j m) ∙ o))))
+
         go : (b : Bool) → seen (view t) (view t .own x) i ≡ b → (c : Bool) → view t .ended i ≡ c → name (view t′) s (view t′ .children i) ≡ name (view u′) r (view u′ .children j)
         go true o c d = name-no-slot (view t′) s _ (in-fallen t (w .fits-t) x e i ti q o) ∙ sym (name-no-slot (view u′) r _ (in-fallen u (w .fits-u) y e j tj qj (sym (sees i j m) ∙ o)))
         go false o true d =

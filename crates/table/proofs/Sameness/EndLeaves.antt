@@ -132,7 +132,7 @@ module _ (t : Table) (w : Fits t) (x : ℕ) (e : End) (lives : So (alive (view t
         marks = λ i k. left-as (λ q. q .unshared) (λ q n. refl) i k;
         childrens = λ i k. left-as (λ q. q .children .0) (λ q n. refl) i k;
         parents = parents-as;
-        lasts = λ i k. read-changed (λ z. z .last .0) (λ n z. z) no-namespace (λ n z. refl) (t .namespaces) namespace-slots (view t .own i)
+        lasts = λ i k. read-changed (λ z. z .last .0) (λ n z. z) no-namespace (λ n z. refl) (t .namespaces) namespace-slots (view t .own i);
       }
 
 -- ---- an init, not above S
@@ -186,7 +186,7 @@ module _ (t : Table) (w : Fits t) (x : ℕ) (e : End) (tx : So (taken (view t) x
         marks = λ i k. ap (λ q. q .unshared) (after i k);
         childrens = λ i k. ap (λ q. q .children .0) (after i k);
         parents = λ i k. ap (λ q. pid-in (view t) s (q .parent .0)) (after i k);
-        lasts = λ i k. ap (λ (last : ℕ → ℕ). last (view t .own i)) (I.fallen-lasts t w x e)
+        lasts = λ i k. ap (λ (last : ℕ → ℕ). last (view t .own i)) (I.fallen-lasts t w x e);
       }
 
 -- ---- either
@@ -216,11 +216,14 @@ changed-back g h l (suc n) i k = go (ℕ-discrete i n) (λ q. changed-back g h l
   where
     m : List Namespace
     m = changed-to g no-namespace n l
+
     y : Namespace
     y = g n (getD l n no-namespace)
+
     here : Dec (n < length m) → So (lives (getD (set m n y) n no-namespace)) → So (lives (getD l n no-namespace))
     here (yes a) b = h n _ (subst (λ z. So (lives z)) (getD-set-same m n y no-namespace a) b)
     here (no a) b = absurd (false≢true (subst (λ z. So (lives z)) (List·getD-eq-default (set m n y) no-namespace (omega (arith, length-set m n y))) b))
+
     go : Dec (i ≡ n) → (So (lives (getD m i no-namespace)) → So (lives (getD l i no-namespace))) → So (lives (getD l i no-namespace))
     go (yes e) r = subst (λ j. So (lives (getD l j no-namespace))) (sym e) (here (decLt n (length m)) (subst (λ j. So (lives (getD (set m n y) j no-namespace))) e k))
     go (no e) r = r (subst (λ z. So (lives z)) (getD-set-other m n i y no-namespace e) k)
@@ -240,6 +243,7 @@ end-back t x e n k = go (is-init (view t) x) refl
     by-cases : (b : Bool) (z : Namespace) → So (lives (if b then with-life z Dead else z)) → So (lives z)
     by-cases true z h = absurd (false≢true h)
     by-cases false z h = h
+
     go : (b : Bool) → is-init (view t) x ≡ b → So (alive (view t) n)
     go true q = changed-back (namespace-dies (view t) (view t .own x)) (λ i z. by-cases (below (view t) i (view t .own x)) z) (t .namespaces) namespace-slots n (rw (q, end) at k)
     go false q = changed-back (λ i z. z) (λ i z h. h) (t .namespaces) namespace-slots n (rw (q, end) at k)
@@ -269,20 +273,27 @@ module _ (keeps : KeepsSound) where
         where
           e : End
           e = Exited (status z)
+
           t₁ : Table
           t₁ = end t i e
+
           li : So (living (view t) i)
           li = runs-living t i k
+
           o : seen (view t) s i ≡ false
           o = outsider t s i (Exit z) a
+
           no-touch : ends-above t (freed t₁) (at s) ≡ false
           no-touch = untouched-made t s i (Exit z) h k a (answers (freed t₁) 0) (rw (q, exit) refl) refl
+
           own-not : view t .own i ≡ s → ⊥
           own-not m = not-own t s i (living-taken (view t) (facts t h) i li) o m
+
           not-above : So (is-init (view t) i) → below (view t) s (view t .own i) ≡ false
           not-above m =
               unlike _
               (λ b. lives-on t (freed t₁) s no-touch (view t .own i) (namespace-lt (view t) (facts t h) _ (own-taken (view t) (facts t h) i (living-taken (view t) (facts t h) i li))) own-not b (living-own-alive (view t) (facts t h) i li)
               (unlike _ (λ y. false≢true (sym (end-dies t (fits-sound t h) i e (living-taken (view t) (facts t h) i li) m) ∙ freed-back t₁ (view t .own i) y))))
+
           still : Still (view t) (view t₁) s (near (view t) s)
           still = end-still t (fits-sound t h) i e li s o not-above

@@ -58,7 +58,7 @@ module _ (t : Table) (w : Fits t) (x : ℕ) (e : End) where
         lives = λ n h. read-changed (λ s. s .life) (λ n s. s) no-namespace (λ n s. refl) (t .namespaces) namespace-slots n;
         up-kept = λ n k h q. refl;
         own-kept = λ i q h. refl;
-        init-kept = λ n h a. refl
+        init-kept = λ n h a. refl;
       }
 
   lasts : (n : ℕ) → view without .last n ≡ view t .last n
@@ -79,6 +79,7 @@ module _ (t : Table) (w : Fits t) (x : ℕ) (e : End) where
     where
       same-name : (n : ℕ) → So (namespace-taken (view t) n) ⊎ (n ≡ no-slot) → name (view without) s n ≡ name (view t) s n
       same-name n = ⊎-elim (λ k. name-remain (view t) (view without) everyone everyone (w .facts) member-remain s n refl refl k) (λ z. name-no-slot (view without) s n z ∙ sym (name-no-slot (view t) s n z))
+
       by-cases : (a b : Bool) → name (view without) s (left-by e a b (init (view t) (view t .own x)) (process t i) .children .0) ≡ (if a then name (view t) s no-slot else name (view t) s (view t .children i))
       by-cases true b = same-name no-slot (inr refl)
       by-cases false true = same-name _ (children-of (view t) (w .facts) i h)
@@ -116,39 +117,47 @@ module _ (t u : Table) (s r f g : ℕ) (w : Held t u s r f g) (x y : ℕ) (e : E
         pendings = alight .2;
         marks = alight .3;
         parents =
-          parent-after t (w .fits-t) x e s i (slot-lt (view t) (w .fits-t .facts) i ti)
-          ∙ same-parents
-          ∙ sym (parent-after u (w .fits-u) y e r j (slot-lt (view u) (w .fits-u .facts) j tj));
+            parent-after t (w .fits-t) x e s i (slot-lt (view t) (w .fits-t .facts) i ti)
+            ∙ same-parents
+            ∙ sym (parent-after u (w .fits-u) y e r j (slot-lt (view u) (w .fits-u .facts) j tj));
         childrens =
-          children-after t (w .fits-t) x e s i ti
-          ∙ ap (λ (a : Bool). if a then name (view t) s no-slot else name (view t) s (view t .children i)) same-slot
-          ∙ same-children (eqb j y)
-          ∙ sym (children-after u (w .fits-u) y e r j tj);
+            children-after t (w .fits-t) x e s i ti
+            ∙ ap (λ (a : Bool). if a then name (view t) s no-slot else name (view t) s (view t .children i)) same-slot
+            ∙ same-children (eqb j y)
+            ∙ sym (children-after u (w .fits-u) y e r j tj);
         lasts =
-          ap (λ (n : ℕ). if is-init (view t) i then n else 0) (lasts t (w .fits-t) x e (view t .own i)) ∙ ap (λ (o : Row). o .last) rows
-          ∙ sym (ap (λ (n : ℕ). if is-init (view u) j then n else 0) (lasts u (w .fits-u) y e (view u .own j)))
+            ap (λ (n : ℕ). if is-init (view t) i then n else 0) (lasts t (w .fits-t) x e (view t .own i)) ∙ ap (λ (o : Row). o .last) rows
+            ∙ sym (ap (λ (n : ℕ). if is-init (view u) j then n else 0) (lasts u (w .fits-u) y e (view u .own j)));
       }
     where
       ti : So (taken (view t) i)
       ti = seen-taken (view t) (w .fits-t .facts) s i (m .seen-v)
+
       tj : So (taken (view u) j)
       tj = seen-taken (view u) (w .fits-u .facts) r j (m .seen-u)
+
       rows : row (view t) s i ≡ row (view u) r j
       rows = twin-rows (view t) (view u) s r p i j m
+
       same-slot : eqb i x ≡ eqb j y
       same-slot = twin-eqb (view t) (view u) s r p i j x y m k
+
       same-child : child-of (view t) x i ≡ child-of (view u) y j
       same-child = child-twins (view t) (view u) s r p i j x y m k
+
       alight : Alight (process t′ i) (process u′ j)
       alight =
           subst (λ (q : Process). Alight q (process u′ j)) (sym (process-at t (w .fits-t) x e i (slot-lt (view t) (w .fits-t .facts) i ti)))
           (subst (λ (q : Process). Alight (left-by e (eqb i x) (child-of (view t) x i) (init (view t) (view t .own x)) (process t i)) q)
           (ap₂ (λ (a b : Bool). left-by e a b (init (view u) (view u .own y)) (process u j)) same-slot same-child ∙ sym (process-at u (w .fits-u) y e j (slot-lt (view u) (w .fits-u .facts) j tj)))
           (alight-by e (eqb i x) (child-of (view t) x i) (init (view t) (view t .own x)) (init (view u) (view u .own y)) (process t i) (process u j) (let z = shown t u s r p i j m in (z .states, z .handleds, z .pendings, z .marks))))
+
       old : pid-in (view t) s (view t .parent i) ≡ pid-in (view u) r (view u .parent j)
       old = ap (λ (o : Row). o .parent) rows
+
       same-parents : (if eqb i x then pid-in (view t) s (view t .parent i) else (if child-of (view t) x i then pid-in (view t) s (init (view t) (view t .own x)) else pid-in (view t) s (view t .parent i))) ≡ (if eqb j y then pid-in (view u) r (view u .parent j) else (if child-of (view u) y j then pid-in (view u) r (init (view u) (view u .own y)) else pid-in (view u) r (view u .parent j)))
       same-parents = λ z. if same-slot z then old z else (if same-child z then reapers z else old z)
+
       same-children : (a : Bool) → (if a then name (view t) s no-slot else name (view t) s (view t .children i)) ≡ (if a then name (view u) r no-slot else name (view u) r (view u .children j))
       same-children true = name-no-slot (view t) s no-slot refl ∙ sym (name-no-slot (view u) r no-slot refl)
       same-children false = ap (λ (o : Row). o .children) rows

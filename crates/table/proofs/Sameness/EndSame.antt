@@ -64,6 +64,7 @@ fallen-dead t w x e a h = go (decLt a process-slots)
     by-cases true false true z q k n = and-not-true (not (eqb (pid-at q 0) 0))
     by-cases true false false true q k n = n
     by-cases true false false false q k n = and-not-true (not (eqb (pid-at q 0) 0))
+
     go : Dec (a < process-slots) → lives-in (process (fallen t w x e) a) ≡ false
     go (yes l) = ap lives-in (I.process-at t w x e a l) ∙ by-cases (seen (view t) (view t .own x) a) (seen (view t) (view t .own x) (view t .parent a)) (eqb a x) (is-ended (process t a .state)) (process t a) refl h
     go (no o) = ap lives-in (changed-past (init-ends (view t) x e) no-process (t .processes) process-slots a (omega arith)) ∙ h
@@ -76,6 +77,7 @@ without-dead t w x e a h = go (decLt a process-slots)
     by-cases true c n q k = and-not-true (not (eqb (pid-at q 0) 0))
     by-cases false true n q k = k
     by-cases false false n q k = k
+
     go : Dec (a < process-slots) → lives-in (process (without t w x e) a) ≡ false
     go (yes l) = ap lives-in (M.process-at t w x e a l) ∙ by-cases (eqb a x) (child-of (view t) x a) (init (view t) (view t .own x)) (process t a) h
     go (no o) = ap lives-in (changed-past (member-ends (view t) x e) no-process (t .processes) process-slots a (omega arith)) ∙ h
@@ -98,8 +100,8 @@ module _ (t u t′ u′ : Table) (s r f g : ℕ) (w : Held t u s r f g) (Q Q′ 
         below-v = below-shape (view t) (view t′) Q a f s ∙ w .from .below-v;
         below-u = below-shape (view u) (view u′) Q′ b g r ∙ w .from .below-u;
         inits =
-          ap (λ l. pid-seen (view t′) s (init-of l)) lt ∙ pid-shape (view t) (view t′) Q a s (init (view t) f) qt ∙ w .from .inits
-          ∙ sym (ap (λ l. pid-seen (view u′) r (init-of l)) lu ∙ pid-shape (view u) (view u′) Q′ b r (init (view u) g) qu)
+            ap (λ l. pid-seen (view t′) s (init-of l)) lt ∙ pid-shape (view t) (view t′) Q a s (init (view t) f) qt ∙ w .from .inits
+            ∙ sym (ap (λ l. pid-seen (view u′) r (init-of l)) lu ∙ pid-shape (view u) (view u′) Q′ b r (init (view u) g) qu);
       }
 
   targets-after : ((i : ℕ) → living (view t) i ≡ false → living (view t′) i ≡ false) → ((j : ℕ) → living (view u) j ≡ false → living (view u′) j ≡ false) → (i j : ℕ) → Target t u s r f i j → Target t′ u′ s r f i j
@@ -125,16 +127,17 @@ module _ (t u : Table) (s r f g x y : ℕ) (e : End) (w : Held t u s r f g) (k :
   member-onward : Fits (without t (w .fits-t) x e) → Fits (without u (w .fits-u) y e) → Onward t u s r f g (without t (w .fits-t) x e) (without u (w .fits-u) y e)
   member-onward ft fu =
       let a = member-remain t (w .fits-t) x e in
-      let b = member-remain u (w .fits-u) y e in
-      (record {
-        fits-t = ft;
-        fits-u = fu;
-        alive-s = ap is-alive (a .lives s refl) ∙ w .alive-s;
-        alive-r = ap is-alive (b .lives r refl) ∙ w .alive-r;
-        same = member-same t u s r f g w x y e k own-lives;
-        from = from-after t u (without t (w .fits-t) x e) (without u (w .fits-u) y e) s r f g w everyone everyone (remain-shape _ _ a) (remain-shape _ _ b) (λ i j m. refl) (a .lives f refl) (b .lives g refl) refl refl
-      },
-      targets-after t u (without t (w .fits-t) x e) (without u (w .fits-u) y e) s r f g w everyone everyone (remain-shape _ _ a) (remain-shape _ _ b) (λ i j m. refl) (without-dead t (w .fits-t) x e) (without-dead u (w .fits-u) y e))
+      let b = member-remain u (w .fits-u) y e in (
+        record {
+          fits-t = ft;
+          fits-u = fu;
+          alive-s = ap is-alive (a .lives s refl) ∙ w .alive-s;
+          alive-r = ap is-alive (b .lives r refl) ∙ w .alive-r;
+          same = member-same t u s r f g w x y e k own-lives;
+          from = from-after t u (without t (w .fits-t) x e) (without u (w .fits-u) y e) s r f g w everyone everyone (remain-shape _ _ a) (remain-shape _ _ b) (λ i j m. refl) (a .lives f refl) (b .lives g refl) refl refl;
+        },
+        targets-after t u (without t (w .fits-t) x e) (without u (w .fits-u) y e) s r f g w everyone everyone (remain-shape _ _ a) (remain-shape _ _ b) (λ i j m. refl) (without-dead t (w .fits-t) x e) (without-dead u (w .fits-u) y e),
+      )
 
   -- ---- an init, of a namespace below the callers'
 
@@ -169,16 +172,17 @@ module _ (t u : Table) (s r f g x y : ℕ) (e : End) (w : Held t u s r f g) (k :
         let b = fallen-shape u (w .fits-u) y e in
         let c = both-stay t u s r f g w x y e k own-lives positive (above-pid (view t) (view u) s r p _ _ tops deep) in
         let lu : view u .level g < view u .level (view u .own y) = omega (arith, deeper, twins-level (view t) (view u) s r p _ _ tops, twins-level (view t) (view u) s r p f g (w .from)) in
-        let lr : view u .level r < view u .level (view u .own y) = omega (arith, deep, twins-level (view t) (view u) s r p _ _ tops, w .same .levels) in
-        (record {
-          fits-t = ft;
-          fits-u = fu;
-          alive-s = ap is-alive (spared t (w .fits-t) x s tx deep) ∙ w .alive-s;
-          alive-r = ap is-alive (spared u (w .fits-u) y r ty lr) ∙ w .alive-r;
-          same = init-same t u s r f g w x y e k own-lives positive (above-pid (view t) (view u) s r p _ _ tops deep);
-          from = from-after t u (fallen t (w .fits-t) x e) (fallen u (w .fits-u) y e) s r f g w (stays t x) (stays u y) a b c (spared t (w .fits-t) x f tx deeper) (spared u (w .fits-u) y g ty lu) (init-stays t (w .fits-t) x e tx f (w .from .lives-v) (out (view t) (w .fits-t .facts) f _ deeper)) (init-stays u (w .fits-u) y e ty g (w .from .lives-u) (out (view u) (w .fits-u .facts) g _ lu))
-        },
-        targets-after t u (fallen t (w .fits-t) x e) (fallen u (w .fits-u) y e) s r f g w (stays t x) (stays u y) a b c (fallen-dead t (w .fits-t) x e) (fallen-dead u (w .fits-u) y e))
+        let lr : view u .level r < view u .level (view u .own y) = omega (arith, deep, twins-level (view t) (view u) s r p _ _ tops, w .same .levels) in (
+          record {
+            fits-t = ft;
+            fits-u = fu;
+            alive-s = ap is-alive (spared t (w .fits-t) x s tx deep) ∙ w .alive-s;
+            alive-r = ap is-alive (spared u (w .fits-u) y r ty lr) ∙ w .alive-r;
+            same = init-same t u s r f g w x y e k own-lives positive (above-pid (view t) (view u) s r p _ _ tops deep);
+            from = from-after t u (fallen t (w .fits-t) x e) (fallen u (w .fits-u) y e) s r f g w (stays t x) (stays u y) a b c (spared t (w .fits-t) x f tx deeper) (spared u (w .fits-u) y g ty lu) (init-stays t (w .fits-t) x e tx f (w .from .lives-v) (out (view t) (w .fits-t .facts) f _ deeper)) (init-stays u (w .fits-u) y e ty g (w .from .lives-u) (out (view u) (w .fits-u .facts) g _ lu));
+          },
+          targets-after t u (fallen t (w .fits-t) x e) (fallen u (w .fits-u) y e) s r f g w (stays t x) (stays u y) a b c (fallen-dead t (w .fits-t) x e) (fallen-dead u (w .fits-u) y e),
+        )
 
 -- the root init is an init, of a namespace at level 0
 zero-init : (t : Table) (w : Fits t) (x : ℕ) → x ≡ 0 → So (is-init (view t) x)
@@ -208,17 +212,24 @@ end-same t u s r f g x y e w k sx lx ok other = end-cases t u s r f g x y e w k 
   where
     pr : Pair (view t) (view u) s r
     pr = pair-of t u s r f g w
+
     lives : So (alive (view t) (view t .own x))
     lives = living-own-alive (view t) (w .fits-t .facts) x lx
+
     both-init : is-init (view t) x ≡ is-init (view u) y
     both-init = is-init-twins (view t) (view u) s r pr x y k lives
+
     levels : view t .level (view t .own x) ≡ view u .level (view u .own y)
     levels = twins-level (view t) (view u) s r pr _ _ (owns (view t) (view u) s r pr x y k lives)
+
     x-not-zero : x ≡ 0 → ⊥
     x-not-zero z = omega (arith, zero-level t (w .fits-t) x z, deeper t u s r f g x y e w k sx lx (other (zero-init t (w .fits-t) x z)))
+
     y-not-zero : y ≡ 0 → ⊥
     y-not-zero z = omega (arith, levels, zero-level u (w .fits-u) y z, deeper t u s r f g x y e w k sx lx (other (both-init ∙ zero-init u (w .fits-u) y z)))
+
     ft : Fits (end t x e)
     ft = end-fits t x e (w .fits-t) lx x-not-zero ok
+
     fu : Fits (end u y e)
     fu = end-fits u y e (w .fits-u) (sym (living-twins t u s r pr x y k) ∙ lx) y-not-zero ok

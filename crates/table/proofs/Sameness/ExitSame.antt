@@ -70,12 +70,16 @@ zero-there v u s r w i j k z =
   where
     level-s : v .level s ≡ 0
     level-s = omega (arith, below-level v (w .facts-v) (v .own i) s (seen-below v (w .facts-v) s i (k .seen-v)), ap (λ x. v .level (v .own x)) z ∙ ap (v .level) (root-own v (w .facts-v)) ∙ level-of-root v (w .facts-v))
+
     r-root : r ≡ 0
     r-root = root-only u (w .facts-u) r (alive-taken u (w .facts-u) r (w .alive-u)) (omega (arith, w .same .levels, level-s))
+
     one : v .pid i (v .level s) ≡ 1
     one = ap₂ (λ x y. v .pid x y) z level-s ∙ root-pid v (w .facts-v)
+
     one′ : u .pid 0 (u .level r) ≡ 1
     one′ = ap (λ x. u .pid 0 x) (ap (u .level) r-root ∙ level-of-root u (w .facts-u)) ∙ root-pid u (w .facts-u)
+
     zero-seen : So (seen u r 0)
     zero-seen = subst₂ (λ x y. So (seen u x y)) (sym r-root) (w .facts-u .root-init) (init-seen u (w .facts-u) 0 0 (subst (λ x. So (alive u x)) r-root (w .alive-u)) (below-refl u 0))
 
@@ -114,7 +118,7 @@ module _ (keeps : KeepsSound) where
           alive-s = w .pair .alive-v;
           alive-r = w .pair .alive-u;
           same = w .pair .same;
-          from = tops (view t) (view u) s r (w .pair)
+          from = tops (view t) (view u) s r (w .pair);
         }
 
     -- S lives on
@@ -131,21 +135,28 @@ module _ (keeps : KeepsSound) where
       where
         p : Pair (view t) (view u) s r
         p = w .pair
+
         id : So (is-init (view u) d)
         id = sym (is-init-twins (view t) (view u) s r p c d (w .twin) (own-lives t u s r c d w)) ∙ ic
+
         ft : Fits (fallen t (held .fits-t) c e)
         ft = rw (ic, end) at (end-fits t c e (held .fits-t) (runs-living t c (w .runs-t)) nc ok)
+
         fu : Fits (fallen u (held .fits-u) d e)
         fu = rw (id, end) at (end-fits u d e (held .fits-u) (runs-living u d (w .runs-u)) nd ok)
+
         same : Same (view (fallen t (held .fits-t) c e)) (view (fallen u (held .fits-u) d e)) s r
         same = init-same t u s r s r held c d e (w .twin) (own-lives t u s r c d w) positive (unseen-above (view t) (w .pair .facts-v) s (view t .own c) (w .pair .alive-v) oc positive-s ∙ sym (unseen-above (view u) (w .pair .facts-u) r (view u .own d) (w .pair .alive-u) od positive-r))
           where
             od : view u .own d ≡ r
             od = twins-unique (view t) (view u) s r (w .pair) _ _ s r (owns-twins t u s r c d w) (tops (view t) (view u) s r (w .pair)) oc
+
             positive-s : 0 < view t .level s
             positive-s = init-positive (view t) (w .pair .facts-v) c s ic oc nc (taken-s t u s r c d w)
+
             positive-r : 0 < view u .level r
             positive-r = omega (arith, positive-s, w .pair .same .levels)
+
             positive : 0 < view t .level (view t .own c)
             positive = omega (arith, positive-s, ap (view t .level) oc)
 
@@ -157,12 +168,15 @@ module _ (keeps : KeepsSound) where
       zeros =
           bool-ext _ _ (λ e. eq-eqb d 0 (zero-there (view t) (view u) s r (w .pair) c d (w .twin) (eqb-true c 0 e)))
           (λ e. eq-eqb c 0 (zero-there (view u) (view t) r s (flip-pair (view t) (view u) s r (w .pair)) d c (flip-twin (view t) (view u) s r c d (w .twin)) (eqb-true d 0 e)))
+
       e : End
       e = Exited (status z)
+
       ends : eqb c 0 ≡ false → Dec (view t .own c ≡ s) → (b : Bool) → is-init (view t) c ≡ b → SoundTable (freed (end t c e)) → SoundTable (freed (end u d e)) → Kept t u s r (answers (freed (end t c e)) 0) (answers (freed (end u d e)) 0)
       ends n (yes o) true i a b = dies t u s r c d w e (remainder z) i o (eqb-false c 0 n) (eqb-false d 0 (sym zeros ∙ n)) a b
       ends n (yes o) false i a b = lives-on t u s r c d w e (remainder z) (λ j q. false≢true (sym i ∙ j)) a b
       ends n (no o) i j a b = lives-on t u s r c d w e (remainder z) (λ j q. o q) a b
+
       go : (b : Bool) → eqb c 0 ≡ b → Kept t u s r (exit t c z) (exit u d z)
       go true n = rw (n, sym zeros ∙ n, exit) (both-refuse t u s r c d w Ebusy)
       go false n = rw (n, sym zeros ∙ n, exit) (ends n (ℕ-discrete (view t .own c) s) (is-init (view t) c) refl (rw (n, exit) at h) (rw (sym zeros ∙ n, exit) at g))

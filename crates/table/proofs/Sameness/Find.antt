@@ -47,6 +47,7 @@ find-cases v n k = go (lowest-cases (λ i. seen v n i and eqb (pid-seen v n i) k
   where
     x : ℕ
     x = lowest (λ i. seen v n i and eqb (pid-seen v n i) k) process-slots 0
+
     go : Lowest (λ i. seen v n i and eqb (pid-seen v n i) k) process-slots 0 x → Found v n k x
     go (inl (h, l)) = inl (left _ _ h, eqb-true _ _ (right _ _ h), l)
     go (inr (e, h)) = inr (e, λ i l s q. false≢true (sym (h i (omega arith) l) ∙ both _ _ s (eq-eqb _ _ q)))
@@ -76,6 +77,7 @@ find-same v u s r k h g hs hr e = go (find-cases v s k) (find-cases u r k)
   where
     w : Same v u s r
     w = same-of-sheets v u s r h g e
+
     go : Found v s k (find v s k) → Found u r k (find u r k) → ((find v s k ≡ process-slots) × (find u r k ≡ process-slots)) ⊎ Callers v u s r (find v s k) (find u r k)
     go (inl (a, b, c)) (inl (x, y, z)) = inr (record { seen-t = a; seen-u = x; pids = b ∙ sym y; lt-t = c; lt-u = z })
     go (inl (a, b, c)) (inr (x, y)) = let (j, m, q) = w .there _ a in absurd (y j (slot-lt u g j (seen-taken u g r j m)) m (sym (row-pid v u s r _ j (level-lt v h s hs) (level-lt u g r hr) q) ∙ b))

@@ -60,14 +60,18 @@ module _ (t : Table) (f : Facts (view t)) where
     where
       ks′ : So (K s)
       ks′ = both _ _ refl ks
+
       p : process (freed t) i ≡ process t i
       p = process-freed t i
+
       parents : pid-in (view (freed t)) s (view (freed t) .parent i) ≡ pid-in (view t) s (view t .parent i)
       parents = ap (λ q. pid-in (view (freed t)) s (q .parent .0)) p ∙ pid-in-remain (view t) (view (freed t)) K everyone f remain s (view t .parent i) ks′ refl
+
       childrens : name (view (freed t)) s (view (freed t) .children i) ≡ name (view t) s (view t .children i)
       childrens =
           ap (λ q. name (view (freed t)) s (q .children .0)) p
           ∙ ⊎-elim (λ x. name-remain (view t) (view (freed t)) K everyone f remain s (view t .children i) ks′ (both _ _ refl (children-is-kept (view t) i (slot-lt (view t) f i h) h)) x) (λ e. name-no-slot (view (freed t)) s _ e ∙ sym (name-no-slot (view t) s _ e)) (children-of (view t) f i h)
+
       lasts : (if is-init (view t) i then view (freed t) .last (view t .own i) else 0) ≡ (if is-init (view t) i then view t .last (view t .own i) else 0)
       lasts = ap (λ (n : ℕ). if is-init (view t) i then n else 0) (ap (λ q. q .last .0) (namespace-freed t (view t .own i) (own-is-kept (view t) i (slot-lt (view t) f i h) h)))
 
@@ -90,6 +94,7 @@ module _ (t : Table) (f : Facts (view t)) where
     where
       root-kept : (s : ℕ) → kept (view t) s ≡ false → eqb s 0 ≡ false
       root-kept s k = zero-kept (view t) s k
+
       namespace-unkept : (s : ℕ) → length (t .namespaces) ≡ namespace-slots → s < namespace-slots → kept (view t) s ≡ false → namespace (freed t) s ≡ empty-namespace
       namespace-unkept s l b k = unkept t s l b k
 
@@ -101,15 +106,15 @@ module _ (t u : Table) (f : Facts (view t)) (g : Facts (view u)) (s r : ℕ) (w 
       record {
         levels = level-kept t f s ks ∙ w .levels ∙ sym (level-kept u g r kr);
         there =
-          λ i h.
-          let a = sym (freed-seen t f s i) ∙ h in
-          let (j, m, q) = w .there i a in
-          (j, freed-seen u g r j ∙ m, freed-row t f s i ks (seen-taken (view t) f s i a) ∙ q ∙ sym (freed-row u g r j kr (seen-taken (view u) g r j m)));
+            λ i h.
+            let a = sym (freed-seen t f s i) ∙ h in
+            let (j, m, q) = w .there i a in
+            (j, freed-seen u g r j ∙ m, freed-row t f s i ks (seen-taken (view t) f s i a) ∙ q ∙ sym (freed-row u g r j kr (seen-taken (view u) g r j m)));
         back =
-          λ j h.
-          let b = sym (freed-seen u g r j) ∙ h in
-          let (i, m, q) = w .back j b in
-          (i, freed-seen t f s i ∙ m, freed-row t f s i ks (seen-taken (view t) f s i m) ∙ q ∙ sym (freed-row u g r j kr (seen-taken (view u) g r j b)))
+            λ j h.
+            let b = sym (freed-seen u g r j) ∙ h in
+            let (i, m, q) = w .back j b in
+            (i, freed-seen t f s i ∙ m, freed-row t f s i ks (seen-taken (view t) f s i m) ∙ q ∙ sym (freed-row u g r j kr (seen-taken (view u) g r j b)));
       }
 
 -- a sheet with nobody to see
@@ -128,8 +133,10 @@ freed-places t₀ u₀ t u f g s r lt lu ht hu hs hr et eu w = go (kept (view t)
   where
     nobody-u : kept (view u) r ≡ false → (j : ℕ) → So (seen (view u) r j) → ⊥
     nobody-u k j h = false≢true (sym k ∙ seen-keeps u g r j h)
+
     nobody-t : kept (view t) s ≡ false → (i : ℕ) → So (seen (view t) s i) → ⊥
     nobody-t k i h = false≢true (sym k ∙ seen-keeps t f s i h)
+
     go : (a : Bool) → kept (view t) s ≡ a → (b : Bool) → kept (view u) r ≡ b → sheet-of (freed t) (if namespace-taken (view (freed t)) s then at s else gone (view t₀ .level s)) ≡ sheet-of (freed u) (if namespace-taken (view (freed u)) r then at r else gone (view u₀ .level r))
     go true ks true kr =
         rw (kept-stands t f s ks hs, kept-stands u g r kr hr)

@@ -85,5 +85,5 @@ module _ (v : View) (f : Facts v) (t : Table) (K Q : ℕ → Bool) (w : Remain v
         lives = λ n h. ap (λ s. s .life) (namespace-freed t n (right _ _ h)) ∙ w .lives n (left _ _ h);
         up-kept = λ n k h e. both _ _ (w .up-kept n k (left _ _ h) e) (up-is-kept n k (right _ _ h) e);
         own-kept = λ i q h. both _ _ (w .own-kept i q h) (subst (λ x. So (kept (view t) x)) (w .owns i q) (own-is-kept (view t) i (slot-lt v f i h) (taken-remain v (view t) K Q f w i q ∙ h)));
-        init-kept = λ n h a. w .init-kept n (left _ _ h) a
+        init-kept = λ n h a. w .init-kept n (left _ _ h) a;
       }

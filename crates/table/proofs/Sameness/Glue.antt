@@ -93,7 +93,7 @@ module _ (keeps : KeepsSound) (leaves : OutsideLeaves) (same : InsideSame) where
         sound-u = w .sound-u;
         stands-t = follow-stands t (next-table t p (outside i c)) p;
         stands-u = w .stands-u;
-        sheets = outside-sheet t p i c (w .sound-t) (w .stands-t) a ∙ w .sheets
+        sheets = outside-sheet t p i c (w .sound-t) (w .stands-t) a ∙ w .sheets;
       }
 
   right-step : (t u : Table) (p q : Place) (i : ℕ) (c : Call) → Alike t p u q → So (allowed u q (outside i c)) → Alike t p (next-table u q (outside i c)) (next-place u q (outside i c))
@@ -103,7 +103,7 @@ module _ (keeps : KeepsSound) (leaves : OutsideLeaves) (same : InsideSame) where
         sound-u = outside-sound u q i c (w .sound-u);
         stands-t = w .stands-t;
         stands-u = follow-stands u (next-table u q (outside i c)) q;
-        sheets = w .sheets ∙ sym (outside-sheet u q i c (w .sound-u) (w .stands-u) a)
+        sheets = w .sheets ∙ sym (outside-sheet u q i c (w .sound-u) (w .stands-u) a);
       }
 
   -- ---- inside calls
@@ -176,8 +176,10 @@ module _ (keeps : KeepsSound) (leaves : OutsideLeaves) (same : InsideSame) where
     where
       x : Option Outcome
       x = happens t p (inside k c)
+
       y : Option Outcome
       y = happens u q (inside k c)
+
       go : (z : Bool) → full x or full y ≡ z → Between t p u q x y → (if z then Unit {0} else (_≡_ {A = Observed} (record { answer = answer-of x; sheet = sheet-of (table-after t x) (follow t (table-after t x) p) }) (record { answer = answer-of y; sheet = sheet-of (table-after u y) (follow u (table-after u y) q) }) × Agree (observations (table-after t x) (follow t (table-after t x) p) es) (observations (table-after u y) (follow u (table-after u y) q) fs)))
       go true r h = tt
       go false r (inl h) = absurd (false≢true (sym r ∙ h))

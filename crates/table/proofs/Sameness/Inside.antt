@@ -81,12 +81,15 @@ inside-same made t u s r i j c h g hs hr e a b n = go (runs (view t) i) refl
   where
     w : Same (view t) (view u) s r
     w = same-of-sheets (view t) (view u) s r (facts t h) (facts u g) e
+
     rows : row (view t) s i ≡ row (view u) r j
     rows =
         let (x, m, q) = w .there i a in
         q ∙ ap (row (view u) r) (pid-unique (view u) (facts u g) r x j hr m b (sym (row-pid (view t) (view u) s r i x (level-lt (view t) (facts t h) s hs) (level-lt (view u) (facts u g) r hr) q) ∙ n))
+
     both-run : runs (view t) i ≡ runs (view u) j
     both-run = runs-same t u s r i j h g a b rows
+
     go : (z : Bool) → runs (view t) i ≡ z → Kept t u s r (step t i c) (step u j c)
     go true k =
         rw (step-made t i c h k, step-made u j c g (sym both-run ∙ k))
@@ -97,6 +100,6 @@ inside-same made t u s r i j c h g hs hr e a b n = go (runs (view t) i) refl
           pair = record { facts-v = facts t h; facts-u = facts u g; alive-v = runs-alive t s i h a k; alive-u = runs-alive u r j g b (sym both-run ∙ k); same = w };
           twin = record { seen-v = a; seen-u = b; pids = n };
           runs-t = k;
-          runs-u = sym both-run ∙ k
+          runs-u = sym both-run ∙ k;
         }))
     go false k = rw (step-refused t i c h k, step-refused u j c g (sym both-run ∙ k)) (refused-same t u s r NotRunning hs hr e)

@@ -42,7 +42,7 @@ module _ (keeps : KeepsSound) where
           alive-s = w .pair .alive-v;
           alive-r = w .pair .alive-u;
           same = w .pair .same;
-          from = owns-twins t u s r i j w
+          from = owns-twins t u s r i j w;
         }
 
     kill-after : (z : ℤ) (n : ℕ) → n < signals → Held (deliver-all t (view t .own i) (targets (view t) i z) n) (deliver-all u (view u .own j) (targets (view u) j z) n) s r (view t .own i) (view u .own j)
@@ -55,6 +55,7 @@ module _ (keeps : KeepsSound) where
     where
       lengths : length (targets (view t) i z) ≡ length (targets (view u) j z)
       lengths = along-length (Twin (view t) (view u) s r) (targets (view t) i z) (targets (view u) j z) (targets-twins t u s r i j w z)
+
       go : (a : Bool) → within 0 signals n ≡ a → (b : Bool) → names-group z ≡ b → (c : Bool) → eqb (length (targets (view t) i z)) 0 ≡ c → Kept t u s r (kill t i z n) (kill u j z n)
       go false ea b eb c ec = rw (ea, kill) (both-refuse t u s r i j w Einval)
       go true ea true eb c ec = rw (ea, eb, kill) (both-refuse t u s r i j w Enosys)

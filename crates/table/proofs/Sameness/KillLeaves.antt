@@ -68,7 +68,7 @@ start t s w h =
       seens = λ i. refl;
       aboves = λ n. refl;
       backs = λ n k. k;
-      ended = λ i k. k
+      ended = λ i k. k;
     }
 
 onward : (t₀ t t′ : Table) (s : ℕ) → Going t₀ t s → Fits t′ → Still (view t) (view t′) s (near (view t) s) → ((n : ℕ) → So (alive (view t′) n) → So (alive (view t) n)) → ((i : ℕ) → living (view t) i ≡ false → living (view t′) i ≡ false) → Going t₀ t′ s
@@ -80,7 +80,7 @@ onward t₀ t t′ s g w d b z =
       seens = λ i. d .seens i ∙ g .seens i;
       aboves = λ n. below-still (view t) (view t′) s (near (view t) s) (g .fits .facts) d s n (near-here (view t) (g .fits .facts) s) ∙ g .aboves n;
       backs = λ n k. g .backs n (b n k);
-      ended = λ i k. z i (g .ended i k)
+      ended = λ i k. z i (g .ended i k);
     }
 
 -- one outside S changed in its lights
@@ -103,7 +103,7 @@ put-still t f c p k s o =
       marks = λ i h. ap (λ q. q .unshared) (same i h);
       childrens = λ i h. ap (λ q. q .children .0) (same i h);
       parents = λ i h. ap (λ q. pid-in (view t) s (q .parent .0)) (same i h);
-      lasts = λ i h. refl
+      lasts = λ i h. refl;
     }
   where
     same : (i : ℕ) → So (seen (view t) s i) → process (put t c p) i ≡ process t i
@@ -148,6 +148,7 @@ module _ (t₀ t : Table) (s x n : ℕ) (g : Going t₀ t s) (o : seen (view t) 
     where
       tx : So (taken (view t) x)
       tx = living-taken (view t) f x l
+
       not-above : So (is-init (view t) x) → below (view t) s (view t .own x) ≡ false
       not-above i =
           unlike _
@@ -170,6 +171,7 @@ module _ (from n : ℕ) (low : n < signals) where
       lived : So (living (view t) x) → (b : Bool) → living (view t₀) x ≡ b → So (living (view t₀) x)
       lived l true q = q
       lived l false q = absurd (false≢true (sym (g .ended x q) ∙ l))
+
       go : (b : Bool) → living (view t) x ≡ b → Going t₀ (deliver t from x n) s
       go true l =
           applied t₀ t s x n g (unlike _ (λ k. false≢true (sym o ∙ both _ _ (sym (g .seens x) ∙ k) (lived l (living (view t₀) x) refl)))) l (action-on (view t) from x n)
@@ -202,8 +204,10 @@ module _ (keeps : KeepsSound) where
     where
       xs : List ℕ
       xs = targets (view t) i z
+
       t₁ : Table
       t₁ = deliver-all t (view t .own i) xs (natural n)
+
       done : natural n < signals → touched t (freed t₁) (at s) i (Kill z n) ≡ false → SoundTable (freed t₁) → (b : Bool) → eqb (natural n) 0 ≡ b → sheet-of (freed t₁) (follow t (freed t₁) (at s)) ≡ sheet (view t) s
       done low o g true e =
           let q = all-zero xs t (view t .own i) (natural n) e in
@@ -216,6 +220,7 @@ module _ (keeps : KeepsSound) where
           w =
               all-going (view t .own i) (natural n) low xs t t s (targets-safe (view t) (fits-sound t h .sane-of .facts) i z) (start t s (fits-sound t h) hs) (sent (eqb (natural n) 0) (some-of (λ j. is-inside t (at s) j and living (view t) j) xs) e (or-false-left _ _ o))
               (λ m l c b d y. lives-on t (freed t₁) s (or-false-right _ _ o) m l c b d (unlike _ (λ v. false≢true (sym y ∙ freed-back t₁ m v))))
+
       go : (x : Bool) → within 0 signals n ≡ x → (y : Bool) → names-group z ≡ y → (b : Bool) → eqb (length (targets (view t) i z)) 0 ≡ b → SoundTable (kill t i z n .table) → sheet-of (kill t i z n .table) (follow t (kill t i z n .table) (at s)) ≡ sheet (view t) s
       go false ea y eb b ec g = rw (ea, kill) (as-it-was t s hs)
       go true ea true eb b ec g = rw (ea, eb, kill) (as-it-was t s hs)

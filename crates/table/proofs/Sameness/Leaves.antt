@@ -74,20 +74,27 @@ module _ (t : Table) (h : SoundTable t) (t₁ : Table) (p : view t₁ ≡ religh
     where
       ti : So (taken (view t) i)
       ti = seen-taken (view t) f s i k
+
       ks′ : So (K (view t) f t₁ p s)
       ks′ = both _ _ refl ks
+
       q : process (freed t₁) i ≡ process t i
       q = process-freed t₁ i ∙ same i k
+
       t₁i : So (taken (view t₁) i)
       t₁i = taken-remain (view t) (view t₁) everyone everyone f R₁ i refl ∙ ti
+
       parents : pid-in (view (freed t₁)) s (view (freed t₁) .parent i) ≡ pid-in (view t) s (view t .parent i)
       parents = ap (λ y. pid-in (view (freed t₁)) s (y .parent .0)) q ∙ pid-in-remain (view t) (view (freed t₁)) (K (view t) f t₁ p) everyone f R s (view t .parent i) ks′ refl
+
       held : So (kept (view t₁) (view t .children i))
       held = subst (λ n. So (kept (view t₁) n)) (ap (λ y. y .children .0) (same i k)) (children-is-kept (view t₁) i (slot-lt (view t) f i ti) t₁i)
+
       childrens : name (view (freed t₁)) s (view (freed t₁) .children i) ≡ name (view t) s (view t .children i)
       childrens =
           ap (λ y. name (view (freed t₁)) s (y .children .0)) q
           ∙ ⊎-elim (λ x. name-remain (view t) (view (freed t₁)) (K (view t) f t₁ p) everyone f R s (view t .children i) ks′ (both _ _ refl held) x) (λ e. name-no-slot (view (freed t₁)) s _ e ∙ sym (name-no-slot (view t) s _ e)) (children-of (view t) f i ti)
+
       lasts : (if is-init (view t) i then view (freed t₁) .last (view t .own i) else 0) ≡ (if is-init (view t) i then view t .last (view t .own i) else 0)
       lasts = ap (λ (n : ℕ). if is-init (view t) i then n else 0) (ap (λ y. y .last .0) (namespace-freed t₁ (view t .own i) (right _ _ (R .own-kept i refl ti))) ∙ ap (λ (y : View). y .last (view t .own i)) p)
 
@@ -96,15 +103,17 @@ module _ (t : Table) (h : SoundTable t) (t₁ : Table) (p : view t₁ ≡ religh
     where
       seen-same : (i : ℕ) → seen (view (freed t₁)) s i ≡ seen (view t) s i
       seen-same i = seen-remain (view t) (view (freed t₁)) (K (view t) f t₁ p) everyone f R s i refl
+
       emptied : kept (view t₁) s ≡ false → namespace-taken (view (freed t₁)) s ≡ false
       emptied k = freed-away t₁ s (ap length namespaces ∙ namespaces-length t h) (namespace-lt (view t) f s hs) k
+
       go : (b : Bool) → kept (view t₁) s ≡ b → sheet-of (freed t₁) (follow t (freed t₁) (at s)) ≡ sheet (view t) s
       go true ks =
           stands-leaves t (freed t₁) s h h′ hs (standing (view t) (view (freed t₁)) (K (view t) f t₁ p) everyone R s (both _ _ refl ks) hs)
           (record {
             levels = R .levels s (both _ _ refl ks);
             there = λ i k. let k′ = sym (seen-same i) ∙ k in (i, k′, row-stays ks i k′);
-            back = λ i k. (i, seen-same i ∙ k, row-stays ks i k)
+            back = λ i k. (i, seen-same i ∙ k, row-stays ks i k);
           })
       go false ks = gone-leaves t (freed t₁) s (emptied ks) (λ i k. false≢true (sym ks ∙ seen-kept i k))
 

@@ -102,7 +102,7 @@ module _ (v u v′ u′ : View) (s r : ℕ) (w : Pair v u s r) (pv : v′ ≡ re
       record {
         levels = ap (λ (y : View). y .level s) pv ∙ w .same .levels ∙ sym (ap (λ (y : View). y .level r) pu);
         there = λ i a. let (j, k) = twin-there v u s r w i (sym (seen-v i) ∙ a) in (j, seen-u j ∙ k .seen-u, light-rows i j k);
-        back = λ j a. let (i, k) = twin-there u v r s (flip-pair v u s r w) j (sym (seen-u j) ∙ a) in (i, seen-v i ∙ k .seen-u, light-rows i j (flip-twin u v r s j i k))
+        back = λ j a. let (i, k) = twin-there u v r s (flip-pair v u s r w) j (sym (seen-u j) ∙ a) in (i, seen-v i ∙ k .seen-u, light-rows i j (flip-twin u v r s j i k));
       }
 
 -- ---- one table
@@ -117,7 +117,7 @@ unfolding sheet
 sheet-light v v′ s p h =
     λ k. record {
       level = p k .level s;
-      rows = (ap (λ y. map (row v′ s) (all-seen y s)) p ∙ ap (map (row v′ s)) (relit-all-seen v v′ s) ∙ map-same (row v′ s) (row v s) (all-seen v s) h) k
+      rows = (ap (λ y. map (row v′ s) (all-seen y s)) p ∙ ap (map (row v′ s)) (relit-all-seen v v′ s) ∙ map-same (row v′ s) (row v s) (all-seen v s) h) k;
     }
 
 -- ---- a process put at its slot, with its place kept
@@ -143,7 +143,7 @@ module _ (t : Table) (c : ℕ) (p : Process) (k : Placed p (process t c)) where
         up = view t .up;
         level = view t .level;
         last = view t .last;
-        life = view t .life
+        life = view t .life;
       }
 
   pub put-same : c < length (t .processes) → process (put t c p) c ≡ p

@@ -77,9 +77,9 @@ module _ (v u : View) (s r : ℕ) (w : Pair v u s r) where
         below-v = anchor-least v (w .facts-v) n s (w .alive-v) bn;
         below-u = anchor-least u (w .facts-u) m r (w .alive-u) bm;
         inits =
-          sym (pid-in-seen v s _ (init-seen v (w .facts-v) _ s (anchor-alive v (w .facts-v) n hn) (anchor-least v (w .facts-v) n s (w .alive-v) bn)))
-          ∙ sym (name-anchor v (w .facts-v) s n hn un) ∙ ap name-pid e ∙ name-anchor u (w .facts-u) r m hm um
-          ∙ pid-in-seen u r _ (init-seen u (w .facts-u) _ r (anchor-alive u (w .facts-u) m hm) (anchor-least u (w .facts-u) m r (w .alive-u) bm))
+            sym (pid-in-seen v s _ (init-seen v (w .facts-v) _ s (anchor-alive v (w .facts-v) n hn) (anchor-least v (w .facts-v) n s (w .alive-v) bn)))
+            ∙ sym (name-anchor v (w .facts-v) s n hn un) ∙ ap name-pid e ∙ name-anchor u (w .facts-u) r m hm um
+            ∙ pid-in-seen u r _ (init-seen u (w .facts-u) _ r (anchor-alive u (w .facts-u) m hm) (anchor-least u (w .facts-u) m r (w .alive-u) bm));
       }
 
   -- they lie below the same living ones
@@ -95,6 +95,7 @@ module _ (v u : View) (s r : ℕ) (w : Pair v u s r) where
     where
       same : alive v n ≡ alive u m
       same = sym (name-alive v (w .facts-v) s n hn) ∙ ap is-by-init e ∙ name-alive u (w .facts-u) r m hm
+
       go : (b : Bool) → alive v n ≡ b → v .level n ≡ u .level m
       go true h = ap (v .level) (sym (anchor-self v (w .facts-v) n h)) ∙ twins-level v u s r w _ _ a ∙ ap (u .level) (anchor-self u (w .facts-u) m (sym same ∙ h))
       go false h = sym (name-level-dead v (w .facts-v) s n hn h un) ∙ ap name-level e ∙ name-level-dead u (w .facts-u) r m hm (sym same ∙ h) um
@@ -105,6 +106,7 @@ module _ (v u : View) (s r : ℕ) (w : Pair v u s r) where
     where
       outside : (x : View) (f : Facts x) (a b c : ℕ) → So (below x a b) → seen x b c ≡ false → seen x a c ≡ false
       outside x f a b c h e = bool-ext _ _ (λ y. absurd (false≢true (sym e ∙ seen-above x f a b c h y))) (λ y. absurd (false≢true y))
+
       go : (b : Bool) → seen v s (v .parent i) ≡ b → seen v n (v .parent i) ≡ seen u m (u .parent j)
       go true e = seen-twins v u s r w _ _ n m (parent-twin v u s r w i j k e) l
       go false e = outside v (w .facts-v) n s _ (l .below-v) e ∙ sym (outside u (w .facts-u) m r _ (l .below-u) (sym (parent-seen v u s r w i j k) ∙ e))

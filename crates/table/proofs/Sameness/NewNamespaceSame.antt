@@ -97,7 +97,7 @@ module _ (t : Table) (f : Fits t) (c : ℕ) (room : free-namespace-slot (view t)
         lives = λ n h. ap (λ s. s .life) (other-namespace n (apart n h));
         up-kept = λ n k h e. kept (view t .up n) (up-taken (view t) (f .facts) n k e);
         own-kept = λ i q h. kept (view t .own i) (own-taken (view t) (f .facts) i h);
-        init-kept = λ n h a. refl
+        init-kept = λ n h a. refl;
       }
 
   pub alive-kept-there : (s : ℕ) → So (alive (view t) s) → So (K s)
@@ -169,7 +169,7 @@ module _ (t u : Table) (s r c d : ℕ) (w : Ready t u s r c d) (ot : own-level (
         marks = ap (λ p. p .unshared) (same-process t ft c rt i) ∙ z .marks ∙ sym (ap (λ p. p .unshared) (same-process u fu d ru j));
         parents = parent-there t ft c rt s i (w .pair .alive-v) ∙ ap (λ (o : Row). o .parent) rows ∙ sym (parent-there u fu d ru r j (w .pair .alive-u));
         childrens = children-name t ft c rt s i (w .pair .alive-v) ti ∙ ap (λ (o : Row). o .children) rows ∙ sym (children-name u fu d ru r j (w .pair .alive-u) tj);
-        lasts = last-there t ft c rt i ti ∙ ap (λ (o : Row). o .last) rows ∙ sym (last-there u fu d ru j tj)
+        lasts = last-there t ft c rt i ti ∙ ap (λ (o : Row). o .last) rows ∙ sym (last-there u fu d ru j tj);
       }
     where
       parent-there : (z : Table) (f : Fits z) (e : ℕ) (room : free-namespace-slot (view z) ≡ namespace-slots → ⊥) (q i : ℕ) → So (alive (view z) q) → pid-in (view (new-namespace z e)) q (view (new-namespace z e) .parent i) ≡ pid-in (view z) q (view z .parent i)
@@ -186,7 +186,7 @@ module _ (t u : Table) (s r c d : ℕ) (w : Ready t u s r c d) (ot : own-level (
         facts-u = gu .facts;
         alive-v = ap is-alive (namespace-remain t ft c rt .lives s kt) ∙ w .pair .alive-v;
         alive-u = ap is-alive (namespace-remain u fu d ru .lives r ku) ∙ w .pair .alive-u;
-        same = same-remain (view t) (view u) (view tn) (view un) s r (w .pair) (K t ft c rt) everyone (K u fu d ru) everyone (namespace-remain t ft c rt) (namespace-remain u fu d ru) kt ku (λ i j m. refl) (λ i j m q. new-lit i j m)
+        same = same-remain (view t) (view u) (view tn) (view un) s r (w .pair) (K t ft c rt) everyone (K u fu d ru) everyone (namespace-remain t ft c rt) (namespace-remain u fu d ru) kt ku (λ i j m. refl) (λ i j m q. new-lit i j m);
       }
 
   new-twin : (i j : ℕ) → Twin (view t) (view u) s r i j → Twin (view tn) (view un) s r i j
@@ -194,7 +194,7 @@ module _ (t u : Table) (s r c d : ℕ) (w : Ready t u s r c d) (ot : own-level (
       record {
         seen-v = seen-remain (view t) (view tn) (K t ft c rt) everyone (ft .facts) (namespace-remain t ft c rt) s i refl ∙ m .seen-v;
         seen-u = seen-remain (view u) (view un) (K u fu d ru) everyone (fu .facts) (namespace-remain u fu d ru) r j refl ∙ m .seen-u;
-        pids = pid-remain (view t) (view tn) (K t ft c rt) everyone (ft .facts) (namespace-remain t ft c rt) s i (alive-kept-there t ft c rt s (w .pair .alive-v)) refl ∙ m .pids ∙ sym (pid-remain (view u) (view un) (K u fu d ru) everyone (fu .facts) (namespace-remain u fu d ru) r j (alive-kept-there u fu d ru r (w .pair .alive-u)) refl)
+        pids = pid-remain (view t) (view tn) (K t ft c rt) everyone (ft .facts) (namespace-remain t ft c rt) s i (alive-kept-there t ft c rt s (w .pair .alive-v)) refl ∙ m .pids ∙ sym (pid-remain (view u) (view un) (K u fu d ru) everyone (fu .facts) (namespace-remain u fu d ru) r j (alive-kept-there u fu d ru r (w .pair .alive-u)) refl);
       }
 
   -- ---- unshare
@@ -232,7 +232,7 @@ module _ (t u : Table) (s r c d : ℕ) (w : Ready t u s r c d) (ot : own-level (
         lasts = ap (λ q. q .last .0) (the-namespace t ft c rt) ∙ sym (ap (λ q. q .last .0) (the-namespace u fu d ru));
         ups = subst₂ (λ a b. Twins (view tn) (view un) s r a b) (sym (ap (λ q. q .parent .0) (the-namespace t ft c rt))) (sym (ap (λ q. q .parent .0) (the-namespace u fu d ru))) new-owns;
         level-v = one-up (view tn) (gt .facts) _ (unborn-there t ft c rt) (x-taken t ft c rt);
-        level-u = one-up (view un) (gu .facts) _ (unborn-there u fu d ru) (x-taken u fu d ru)
+        level-u = one-up (view un) (gu .facts) _ (unborn-there u fu d ru) (x-taken u fu d ru);
       })
 
   -- the fresh namespace lies below S
@@ -250,14 +250,15 @@ module _ (t u : Table) (s r c d : ℕ) (w : Ready t u s r c d) (ot : own-level (
       let b = grown un gu d (free-namespace-slot (view u)) (x-taken u fu d ru) qu in
       let x = the-child tn gt c (free-namespace-slot (view t)) (x-taken t ft c rt) qt in
       let y = the-child un gu d (free-namespace-slot (view u)) (x-taken u fu d ru) qu in
-      inr
-      (ap Number (next-twins (view t) (view u) s r (w .pair) _ _ (owns-twins t u s r c d w)),
-      stands-same t u (birth tn c (free-namespace-slot (view t))) (birth un d (free-namespace-slot (view u))) s r h g
-      (ap (λ (l : ℕ → ℕ). eqb s 0 or not (eqb (l s) 0)) (a .levels-same) ∙ stands-here t ft c rt s (w .pair .alive-v))
-      (ap (λ (l : ℕ → ℕ). eqb r 0 or not (eqb (l r) 0)) (b .levels-same) ∙ stands-here u fu d ru r (w .pair .alive-u))
-      (birth-same (view tn) (view un) (view (birth tn c (free-namespace-slot (view t)))) (view (birth un d (free-namespace-slot (view u)))) s r new-pair c d (free-namespace-slot (view t)) (free-namespace-slot (view u)) (free-slot (view tn)) (free-slot (view un)) (new-twin c d (w .twin)) new-cradles (x-taken t ft c rt) (x-taken u fu d ru) (fresh-below t ft c rt (gt .facts) s (new-owns .below-v)) (fresh-below u fu d ru (gu .facts) r (new-owns .below-u)) a b (lights tn gt c (free-namespace-slot (view t)) (x-taken t ft c rt) qt) (lights un gu d (free-namespace-slot (view u)) (x-taken u fu d ru) qu)
-      (ap (λ p. p .state) x ∙ sym (ap (λ p. p .state) y), ap (λ p. p .handled) x ∙ sym (ap (λ p. p .handled) y), ap (λ p. p .pending) x ∙ sym (ap (λ p. p .pending) y), ap (λ p. p .unshared) x ∙ sym (ap (λ p. p .unshared) y))
-      (λ i j m z. not-held t ft c rt i (still-there t c i (seen-taken (view tn) (gt .facts) s i (m .seen-v))) ∙ sym (not-held u fu d ru j (still-there u d j (seen-taken (view un) (gu .facts) r j (m .seen-u)))))))
+      inr (
+        ap Number (next-twins (view t) (view u) s r (w .pair) _ _ (owns-twins t u s r c d w)),
+        stands-same t u (birth tn c (free-namespace-slot (view t))) (birth un d (free-namespace-slot (view u))) s r h g
+            (ap (λ (l : ℕ → ℕ). eqb s 0 or not (eqb (l s) 0)) (a .levels-same) ∙ stands-here t ft c rt s (w .pair .alive-v))
+            (ap (λ (l : ℕ → ℕ). eqb r 0 or not (eqb (l r) 0)) (b .levels-same) ∙ stands-here u fu d ru r (w .pair .alive-u))
+            (birth-same (view tn) (view un) (view (birth tn c (free-namespace-slot (view t)))) (view (birth un d (free-namespace-slot (view u)))) s r new-pair c d (free-namespace-slot (view t)) (free-namespace-slot (view u)) (free-slot (view tn)) (free-slot (view un)) (new-twin c d (w .twin)) new-cradles (x-taken t ft c rt) (x-taken u fu d ru) (fresh-below t ft c rt (gt .facts) s (new-owns .below-v)) (fresh-below u fu d ru (gu .facts) r (new-owns .below-u)) a b (lights tn gt c (free-namespace-slot (view t)) (x-taken t ft c rt) qt) (lights un gu d (free-namespace-slot (view u)) (x-taken u fu d ru) qu)
+            (ap (λ p. p .state) x ∙ sym (ap (λ p. p .state) y), ap (λ p. p .handled) x ∙ sym (ap (λ p. p .handled) y), ap (λ p. p .pending) x ∙ sym (ap (λ p. p .pending) y), ap (λ p. p .unshared) x ∙ sym (ap (λ p. p .unshared) y))
+            (λ i j m z. not-held t ft c rt i (still-there t c i (seen-taken (view tn) (gt .facts) s i (m .seen-v))) ∙ sym (not-held u fu d ru j (still-there u d j (seen-taken (view un) (gu .facts) r j (m .seen-u)))))),
+      )
 
 -- ---- the two calls
 
@@ -271,8 +272,10 @@ module _ (keeps : KeepsSound) where
     where
       mark : process t c .unshared ≡ process u d .unshared
       mark = shown t u s r (w .pair) c d (w .twin) .marks
+
       deep : eqb (own-level (view t) c) deepest ≡ eqb (own-level (view u) d) deepest
       deep = ap (λ n. eqb n deepest) (levels-alike t u s r c d w)
+
       go : (m : Bool) → process t c .unshared ≡ m → (a : Bool) → eqb (own-level (view t) c) deepest ≡ a → (b : Bool) → eqb (free-namespace-slot (view t)) namespace-slots ≡ b → (b′ : Bool) → eqb (free-namespace-slot (view u)) namespace-slots ≡ b′ → Kept t u s r (unshare t c) (unshare u d)
       go true em a ea b eb b′ eb′ = rw (em, sym mark ∙ em, unshare) (both-refuse t u s r c d w Einval)
       go false em true ea b eb b′ eb′ = rw (em, sym mark ∙ em, ea, sym deep ∙ ea, unshare) (both-refuse t u s r c d w Enospc)
@@ -292,6 +295,7 @@ module _ (keeps : KeepsSound) where
     where
       deep : eqb (own-level (view t) c) deepest ≡ eqb (own-level (view u) d) deepest
       deep = ap (λ n. eqb n deepest) (levels-alike t u s r c d w)
+
       go : (a : Bool) → eqb (own-level (view t) c) deepest ≡ a → (b : Bool) → eqb (free-slot (view t)) process-slots or eqb (free-namespace-slot (view t)) namespace-slots ≡ b → (b′ : Bool) → eqb (free-slot (view u)) process-slots or eqb (free-namespace-slot (view u)) namespace-slots ≡ b′ → Kept t u s r (clone-new t c) (clone-new u d)
       go true ea b eb b′ eb′ = rw (ea, sym deep ∙ ea, clone-new) (both-refuse t u s r c d w Enospc)
       go false ea true eb b′ eb′ = rw (ea, eb, clone-new) (no-room-left t u s r (clone-new u d))

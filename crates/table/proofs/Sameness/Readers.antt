@@ -54,7 +54,7 @@ module _ (v u : View) (s r : ℕ) (w : Pair v u s r) where
       record {
         seen-v = h;
         seen-u = parent-there v u s r w i j k h;
-        pids = sym (pid-in-seen v s _ h) ∙ ap (λ (q : Row). q .parent) (twin-rows v u s r w i j k) ∙ pid-in-seen u r _ (parent-there v u s r w i j k h)
+        pids = sym (pid-in-seen v s _ h) ∙ ap (λ (q : Row). q .parent) (twin-rows v u s r w i j k) ∙ pid-in-seen u r _ (parent-there v u s r w i j k h);
       }
 
   -- a twin pair's parents as seen from a pair of living namespaces
@@ -64,6 +64,7 @@ module _ (v u : View) (s r : ℕ) (w : Pair v u s r) where
     where
       outside : (x : View) (f : Facts x) (a b c : ℕ) → So (below x a b) → seen x b c ≡ false → seen x a c ≡ false
       outside x f a b c h e = bool-ext _ _ (λ y. absurd (false≢true (sym e ∙ seen-above x f a b c h y))) (λ y. absurd (false≢true y))
+
       go : (b : Bool) → seen v s (v .parent i) ≡ b → (if seen v n (v .parent i) then pid-seen v n (v .parent i) else 0) ≡ (if seen u m (u .parent j) then pid-seen u m (u .parent j) else 0)
       go true e =
           ap₂ (λ (b : Bool) (y : ℕ). if b then y else 0) (seen-twins v u s r w _ _ n m (parent-twin i j k e) l) (pid-twins v u s r w _ _ n m (parent-twin i j k e) l)
@@ -107,6 +108,7 @@ module _ (v u : View) (s r : ℕ) (w : Pair v u s r) where
     where
       other : (x : View) (a b p : ℕ) → So (seen x a b) → seen x a p ≡ false → eqb p b ≡ false
       other x a b p h e = ne-eqb p b (λ q. false≢true (sym e ∙ ap (seen x a) q ∙ h))
+
       go : (b : Bool) → seen v s (v .parent i) ≡ b → eqb (v .parent i) c ≡ eqb (u .parent j) d
       go true e = twin-eqb _ _ c d (parent-twin i j k e) l
       go false e = other v s c _ (l .seen-v) e ∙ sym (other u r d _ (l .seen-u) (sym (parent-seen i j k) ∙ e))

@@ -60,6 +60,7 @@ least-cases p f d (suc n) l = go (least p f d n) (least-cases p f d n (omega ari
         at : Dec (i ≡ n) → P i
         at (yes e) = subst P (sym e) k
         at (no e) = h i (omega arith)
+
     go : (b : ℕ) → Least p f d n b → (c : Bool) → p n ≡ c → Least p f d (suc n) (if p n and (eqb b d or ltb (f n) (f b)) then n else b)
     go b r false e = rw (e, and-false (eqb b d or ltb (f n) (f b))) (stay b r)
       where
@@ -108,7 +109,7 @@ module _ (t : Table) (h : SoundTable t) (x : ℕ) (tx : So (taken (view t) x)) (
         lives = λ n k. refl;
         up-kept = λ n k a b. refl;
         own-kept = λ i q a. refl;
-        init-kept = λ n k a. living-other _ (init-living (view t) f n a)
+        init-kept = λ n k a. living-other _ (init-living (view t) f n a);
       }
     where
       slot-of : (i : ℕ) → others i ≡ false → i ≡ x
@@ -194,7 +195,7 @@ module _ (t u : Table) (s r x y : ℕ) (ht : SoundTable t) (hu : SoundTable u) (
         marks = ap (λ p. p .unshared) e ∙ z .marks ∙ sym (ap (λ p. p .unshared) g);
         parents = reap-parent t ht x tx ex s i (w .alive-v) ti q ∙ ap (λ (o : Row). o .parent) rows ∙ sym (reap-parent u hu y ty ey r j (w .alive-u) tj q′);
         childrens = reap-children t ht x tx ex s i (w .alive-v) ti q ∙ ap (λ (o : Row). o .children) rows ∙ sym (reap-children u hu y ty ey r j (w .alive-u) tj q′);
-        lasts = reap-last t ht x tx ex i ti q ∙ ap (λ (o : Row). o .last) rows ∙ sym (reap-last u hu y ty ey j tj q′)
+        lasts = reap-last t ht x tx ex i ti q ∙ ap (λ (o : Row). o .last) rows ∙ sym (reap-last u hu y ty ey j tj q′);
       }
 
   pub same-reap : Same (view t′) (view u′) s r

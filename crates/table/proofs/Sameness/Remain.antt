@@ -130,7 +130,7 @@ module _ (v v′ : View) (K Q : ℕ → Bool) (f : Facts v) (w : Remain v v′ K
         parent = pid-in v′ s (v′ .parent i);
         own = (ap (name v′ s) (w .owns i h) ∙ name-remain s (v .own i) hs (w .own-kept i h ht) (own-taken v f i ht)) k;
         children = name v′ s (v′ .children i);
-        last = (ap (λ (n : ℕ). if eqb (init v′ n) i then v′ .last n else 0) (w .owns i h) ∙ ap (λ (x : Life). if eqb (init-of x) i then v′ .last (v .own i) else 0) (w .lives (v .own i) (w .own-kept i h ht))) k
+        last = (ap (λ (n : ℕ). if eqb (init v′ n) i then v′ .last n else 0) (w .owns i h) ∙ ap (λ (x : Life). if eqb (init-of x) i then v′ .last (v .own i) else 0) (w .lives (v .own i) (w .own-kept i h ht))) k;
       }
 
 -- ---- two tables
@@ -162,16 +162,16 @@ module _ (v u v′ u′ : View) (s r : ℕ) (w : Pair v u s r) (K Q K′ Q′ : 
       record {
         levels = a .levels s hs ∙ w .same .levels ∙ sym (b .levels r hr);
         there =
-          λ i k.
-          let q = remains v v′ K Q (w .facts-v) a s i k in
-          let (j, p) = twin-there v u s r w i (sym (seen-remain v v′ K Q (w .facts-v) a s i q) ∙ k) in
-          (j, seen-remain u u′ K′ Q′ (w .facts-u) b r j (sym (both-remain i j p) ∙ q) ∙ p .seen-u, remain-rows i j p q);
+            λ i k.
+            let q = remains v v′ K Q (w .facts-v) a s i k in
+            let (j, p) = twin-there v u s r w i (sym (seen-remain v v′ K Q (w .facts-v) a s i q) ∙ k) in
+            (j, seen-remain u u′ K′ Q′ (w .facts-u) b r j (sym (both-remain i j p) ∙ q) ∙ p .seen-u, remain-rows i j p q);
         back =
-          λ j k.
-          let q = remains u u′ K′ Q′ (w .facts-u) b r j k in
-          let (i, p) = twin-there u v r s (flip-pair v u s r w) j (sym (seen-remain u u′ K′ Q′ (w .facts-u) b r j q) ∙ k) in
-          let p′ = flip-twin u v r s j i p in
-          (i, seen-remain v v′ K Q (w .facts-v) a s i (both-remain i j p′ ∙ q) ∙ p .seen-u, remain-rows i j p′ (both-remain i j p′ ∙ q))
+            λ j k.
+            let q = remains u u′ K′ Q′ (w .facts-u) b r j k in
+            let (i, p) = twin-there u v r s (flip-pair v u s r w) j (sym (seen-remain u u′ K′ Q′ (w .facts-u) b r j q) ∙ k) in
+            let p′ = flip-twin u v r s j i p in
+            (i, seen-remain v v′ K Q (w .facts-v) a s i (both-remain i j p′ ∙ q) ∙ p .seen-u, remain-rows i j p′ (both-remain i j p′ ∙ q));
       }
 
 pub standing : (v v′ : View) (K Q : ℕ → Bool) → Remain v v′ K Q → (n : ℕ) → So (K n) → So (namespace-taken v n) → So (namespace-taken v′ n)

@@ -58,7 +58,7 @@ same-of-sheets v u s r h g e =
     record {
       levels = ap (λ x. x .level) e;
       there = one-way v u s r h e;
-      back = λ j k. let (i, m, q) = one-way u v r s g (sym e) j k in (i, m, sym q)
+      back = λ j k. let (i, m, q) = one-way u v r s g (sym e) j k in (i, m, sym q);
     }
 
 -- and back
@@ -79,5 +79,5 @@ unfolding sheet
 sheets-of-same v u s r h g hs hr w =
     λ i. record {
       level = w .levels i;
-      rows = sorted-unique key (map (row v s) (all-seen v s)) (map (row u r) (all-seen u r)) (rows-sorted v s h hs) (rows-sorted u r g hr) (rows-in v u s r g (w .there)) (rows-in u v r s h (λ j k. let (i, m, q) = w .back j k in (i, m, sym q))) i
+      rows = sorted-unique key (map (row v s) (all-seen v s)) (map (row u r) (all-seen u r)) (rows-sorted v s h hs) (rows-sorted u r g hr) (rows-in v u s r g (w .there)) (rows-in u v r s h (λ j k. let (i, m, q) = w .back j k in (i, m, sym q))) i;
     }

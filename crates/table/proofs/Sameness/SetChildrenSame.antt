@@ -50,7 +50,7 @@ light-remain v v′ p =
       lives = λ n h. ap (λ (y : View). y .life n) p;
       up-kept = λ n k h e. refl;
       own-kept = λ i q h. refl;
-      init-kept = λ n h a. refl
+      init-kept = λ n h a. refl;
     }
 
 pub name-no-slot : (v : View) (s n : ℕ) → n ≡ no-slot → name v s n ≡ no-name
@@ -128,7 +128,7 @@ module _ (v u : View) (s r : ℕ) (w : Pair v u s r) (t₁ u₁ : Table) (pv : v
         marks = ap (λ y. y .unshared) e ∙ x .marks ∙ sym (ap (λ y. y .unshared) g);
         parents = freed-parent v (w .facts-v) t₁ pv s i (w .alive-v) ∙ ap (λ (y : Row). y .parent) rows ∙ sym (freed-parent u (w .facts-u) u₁ pu r j (w .alive-u));
         childrens = freed-children v (w .facts-v) t₁ pv s i (w .alive-v) ti (dp i ti) ∙ x .childrens ∙ sym (freed-children u (w .facts-u) u₁ pu r j (w .alive-u) tj (dq j tj));
-        lasts = freed-last v (w .facts-v) t₁ pv i ti ∙ ap (λ (y : Row). y .last) rows ∙ sym (freed-last u (w .facts-u) u₁ pu j tj)
+        lasts = freed-last v (w .facts-v) t₁ pv i ti ∙ ap (λ (y : Row). y .last) rows ∙ sym (freed-last u (w .facts-u) u₁ pu j tj);
       }
 
   pub same-freed : Same (view (freed t₁)) (view (freed u₁)) s r

@@ -68,11 +68,14 @@ module _ (keeps : KeepsSound) where
     where
       x : ℕ
       x = named (view t) i z
+
       y : ℕ
       y = named (view u) j z
+
       either : (a : Twin (view t) (view u) s r x y) → eqb x process-slots ≡ false → eqb y process-slots ≡ false → (b : Bool) → view t .ended x ≡ b → view u .ended y ≡ b → Kept t u s r (setns t i z) (setns u j z)
       either a ex ey true e d = rw (ex, ey, e, d, setns) (both-refuse t u s r i j w Esrch)
       either a ex ey false e d = rw (ex, ey, e, d, setns) (set-children-kept t u s r i j w x y a (rw (ex, e, setns) at h) (rw (ey, d, setns) at g) keeps)
+
       go : Named t u s r x y → Kept t u s r (setns t i z) (setns u j z)
       go (inl (e, d)) = rw (eq-eqb x process-slots e, eq-eqb y process-slots d, setns) (both-refuse t u s r i j w Esrch)
       go (inr (a, l, m)) =

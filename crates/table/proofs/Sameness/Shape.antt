@@ -66,16 +66,16 @@ module _ (v u v′ u′ : View) (s r : ℕ) (w : Pair v u s r) (Q Q′ : ℕ →
       record {
         levels = ap (λ (level : ℕ → ℕ). level s) (a .levels) ∙ w .same .levels ∙ sym (ap (λ (level : ℕ → ℕ). level r) (b .levels));
         there =
-          λ i k.
-          let q = remains v v′ Q a s i k in
-          let (j, p) = twin-there v u s r w i (sym (seen-shape v v′ Q a s i q) ∙ k) in
-          (j, seen-shape u u′ Q′ b r j (sym (both-remain i j p) ∙ q) ∙ p .seen-u, h i j p q);
+            λ i k.
+            let q = remains v v′ Q a s i k in
+            let (j, p) = twin-there v u s r w i (sym (seen-shape v v′ Q a s i q) ∙ k) in
+            (j, seen-shape u u′ Q′ b r j (sym (both-remain i j p) ∙ q) ∙ p .seen-u, h i j p q);
         back =
-          λ j k.
-          let q = remains u u′ Q′ b r j k in
-          let (i, p) = twin-there u v r s (flip-pair v u s r w) j (sym (seen-shape u u′ Q′ b r j q) ∙ k) in
-          let p′ = flip-twin u v r s j i p in
-          (i, seen-shape v v′ Q a s i (both-remain i j p′ ∙ q) ∙ p .seen-u, h i j p′ (both-remain i j p′ ∙ q))
+            λ j k.
+            let q = remains u u′ Q′ b r j k in
+            let (i, p) = twin-there u v r s (flip-pair v u s r w) j (sym (seen-shape u u′ Q′ b r j q) ∙ k) in
+            let p′ = flip-twin u v r s j i p in
+            (i, seen-shape v v′ Q a s i (both-remain i j p′ ∙ q) ∙ p .seen-u, h i j p′ (both-remain i j p′ ∙ q));
       }
 
   pub twin-shape : (i j : ℕ) → Twin v u s r i j → So (Q i) → Twin v′ u′ s r i j
@@ -83,7 +83,7 @@ module _ (v u v′ u′ : View) (s r : ℕ) (w : Pair v u s r) (Q Q′ : ℕ →
       record {
         seen-v = seen-shape v v′ Q a s i q ∙ k .seen-v;
         seen-u = seen-shape u u′ Q′ b r j (sym (both-remain i j k) ∙ q) ∙ k .seen-u;
-        pids = pid-shape v v′ Q a s i q ∙ k .pids ∙ sym (pid-shape u u′ Q′ b r j (sym (both-remain i j k) ∙ q))
+        pids = pid-shape v v′ Q a s i q ∙ k .pids ∙ sym (pid-shape u u′ Q′ b r j (sym (both-remain i j k) ∙ q));
       }
 
 -- ---- a subtree dies: all below top, top included
@@ -139,6 +139,7 @@ module _ (v v′ : View) (f : Facts v) (Q : ℕ → Bool) (w : Shape v v′ Q) (
       where
         same-anchor : anchor v′ n ≡ anchor v n
         same-anchor = ap (λ (level : ℕ → ℕ). nearest (v′ .life) (v′ .up) (level n) n) (w .levels) ∙ near-out (v .level n) n refl h
+
         anchor-out : below v (anchor v n) top ≡ false
         anchor-out = bool-ext _ _ (λ b. absurd (false≢true (sym h ∙ below-trans v f n (anchor v n) top (anchor-below v f n) b))) (λ b. absurd (false≢true b))
 

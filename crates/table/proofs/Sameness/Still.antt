@@ -101,7 +101,7 @@ module _ (v v′ : View) (s : ℕ) (K : ℕ → Bool) (f : Facts v) (w : Still v
         parent = (pid-in-still (v′ .parent i) ∙ w .parents i q) k;
         own = (ap (name v′ s) (w .owns i q) ∙ name-still (v .own i) (w .own-kept i q)) k;
         children = (ap (name v′ s) (w .childrens i q) ∙ ⊎-elim (λ h. name-still (v .children i) h) (λ e. name-no-slot v′ s _ e ∙ sym (name-no-slot v s _ e)) (w .children-kept i q)) k;
-        last = (ap (λ (n : ℕ). if eqb (init v′ n) i then v′ .last n else 0) (w .owns i q) ∙ ap₂ (λ (x : Life) (z : ℕ). if eqb (init-of x) i then z else 0) (w .lives (v .own i) (w .own-kept i q)) (w .lasts i q)) k
+        last = (ap (λ (n : ℕ). if eqb (init v′ n) i then v′ .last n else 0) (w .owns i q) ∙ ap₂ (λ (x : Life) (z : ℕ). if eqb (init-of x) i then z else 0) (w .lives (v .own i) (w .own-kept i q)) (w .lasts i q)) k;
       }
 
   pub same-still : Same v′ v s s
@@ -109,7 +109,7 @@ module _ (v v′ : View) (s : ℕ) (K : ℕ → Bool) (f : Facts v) (w : Still v
       record {
         levels = w .levels s (w .here);
         there = λ i k. let q = sym (w .seens i) ∙ k in (i, q, row-still i q);
-        back = λ i k. (i, w .seens i ∙ k, row-still i k)
+        back = λ i k. (i, w .seens i ∙ k, row-still i k);
       }
 
   climb-still : (k a b : ℕ) → So (K a) → v .level a ≡ k → climb (v′ .up) k a b ≡ climb (v .up) k a b
@@ -145,6 +145,7 @@ module _ (v : View) (f : Facts v) (s : ℕ) where
         where
           strict : v .level s ≤ v .level n → (v .level s ≡ v .level n → ⊥) → v .level s < v .level n
           strict l o = omega arith
+
       go : (l : ℕ) → v .level s ≡ l → So (below v n s) → So (near v s (v .up n))
       go l q b = open-case b (ℕ-discrete (v .level s) (v .level n))
 
@@ -157,6 +158,7 @@ module _ (v : View) (f : Facts v) (s : ℕ) where
     where
       ti : So (taken v i)
       ti = seen-taken v f s i h
+
       go : (b : Bool) → v .ended i ≡ b → So (near v s (v .children i)) ⊎ (v .children i ≡ no-slot)
       go true e = inr (f .ended-bare i ti e .0 .0 .0)
       go false e = inl (or-left _ _ (below-trans v f _ _ s (children-below v f i (both _ _ ti (ap not e))) (seen-below v f s i h)))
@@ -168,12 +170,13 @@ freed-after t t₁ s h fits h′ hs hs₁ w = go (kept (view t₁) s) refl
   where
     f : Facts (view t₁)
     f = fits .facts
+
     go : (b : Bool) → kept (view t₁) s ≡ b → sheet-of (freed t₁) (follow t (freed t₁) (at s)) ≡ sheet (view t) s
     go true ks =
         stands-leaves t (freed t₁) s h h′ hs (kept-stands t₁ f s ks hs₁)
         (record {
           levels = level-kept t₁ f s ks ∙ w .levels;
           there = λ i k. let q = sym (freed-seen t₁ f s i) ∙ k in let (j, m, e) = w .there i q in (j, m, freed-row t₁ f s i ks (seen-taken (view t₁) f s i q) ∙ e);
-          back = λ j k. let (i, m, e) = w .back j k in (i, freed-seen t₁ f s i ∙ m, freed-row t₁ f s i ks (seen-taken (view t₁) f s i m) ∙ e)
+          back = λ j k. let (i, m, e) = w .back j k in (i, freed-seen t₁ f s i ∙ m, freed-row t₁ f s i ks (seen-taken (view t₁) f s i m) ∙ e);
         })
     go false ks = gone-leaves t (freed t₁) s (not-kept-gone t₁ f s (fits .length-namespaces) hs₁ ks) (λ j k. let (i, m, e) = w .back j k in false≢true (sym ks ∙ seen-keeps t₁ f s i m))

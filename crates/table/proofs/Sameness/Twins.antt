@@ -105,8 +105,10 @@ level-le v u s r w i j k = go (decLt (u .level (u .own j)) (v .level (v .own i))
   where
     ti : So (taken v i)
     ti = seen-taken v (w .facts-v) s i (k .seen-v)
+
     tj : So (taken u j)
     tj = seen-taken u (w .facts-u) r j (k .seen-u)
+
     go : Dec (u .level (u .own j) < v .level (v .own i)) → v .level (v .own i) ≤ u .level (u .own j)
     go (no o) = omega arith
     go (yes l) =
@@ -130,15 +132,16 @@ module _ (v u : View) (s r : ℕ) (w : Pair v u s r) where
         below-v = anchor-least v (w .facts-v) (v .own i) s (w .alive-v) (seen-below v (w .facts-v) s i (k .seen-v));
         below-u = anchor-least u (w .facts-u) (u .own j) r (w .alive-u) (seen-below u (w .facts-u) r j (k .seen-u));
         inits =
-          sym (pid-in-seen v s _ (init-seen v (w .facts-v) _ s (anchor-alive v (w .facts-v) (v .own i) (own-taken v (w .facts-v) i ti)) (anchor-least v (w .facts-v) (v .own i) s (w .alive-v) (seen-below v (w .facts-v) s i (k .seen-v)))))
-          ∙ sym (name-anchor v (w .facts-v) s (v .own i) (own-taken v (w .facts-v) i ti) (own-not-unborn v (w .facts-v) i ti))
-          ∙ ap (λ (q : Row). name-pid (q .own)) (twin-rows v u s r w i j k)
-          ∙ name-anchor u (w .facts-u) r (u .own j) (own-taken u (w .facts-u) j tj) (own-not-unborn u (w .facts-u) j tj)
-          ∙ pid-in-seen u r _ (init-seen u (w .facts-u) _ r (anchor-alive u (w .facts-u) (u .own j) (own-taken u (w .facts-u) j tj)) (anchor-least u (w .facts-u) (u .own j) r (w .alive-u) (seen-below u (w .facts-u) r j (k .seen-u))))
+            sym (pid-in-seen v s _ (init-seen v (w .facts-v) _ s (anchor-alive v (w .facts-v) (v .own i) (own-taken v (w .facts-v) i ti)) (anchor-least v (w .facts-v) (v .own i) s (w .alive-v) (seen-below v (w .facts-v) s i (k .seen-v)))))
+            ∙ sym (name-anchor v (w .facts-v) s (v .own i) (own-taken v (w .facts-v) i ti) (own-not-unborn v (w .facts-v) i ti))
+            ∙ ap (λ (q : Row). name-pid (q .own)) (twin-rows v u s r w i j k)
+            ∙ name-anchor u (w .facts-u) r (u .own j) (own-taken u (w .facts-u) j tj) (own-not-unborn u (w .facts-u) j tj)
+            ∙ pid-in-seen u r _ (init-seen u (w .facts-u) _ r (anchor-alive u (w .facts-u) (u .own j) (own-taken u (w .facts-u) j tj)) (anchor-least u (w .facts-u) (u .own j) r (w .alive-u) (seen-below u (w .facts-u) r j (k .seen-u))));
       }
     where
       ti : So (taken v i)
       ti = seen-taken v (w .facts-v) s i (k .seen-v)
+
       tj : So (taken u j)
       tj = seen-taken u (w .facts-u) r j (k .seen-u)
 

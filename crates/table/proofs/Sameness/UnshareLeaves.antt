@@ -81,7 +81,7 @@ module _ (t₁ : Table) (w : Fits t₁) (t₂ : Table) (p : view t₂ ≡ religh
         marks = λ i k. ap (λ y. y .unshared) (after i k);
         childrens = λ i k. ap (λ y. y .children .0) (after i k);
         parents = λ i k. ap (λ y. pid-in (view t₁) s (y .parent .0)) (after i k);
-        lasts = λ i k. ap (λ y. y .last .0) (namespace-freed t₂ (view t₁ .own i) (right _ _ (R .own-kept i refl (seen-taken (view t₁) f s i k)))) ∙ ap (λ (y : View). y .last (view t₁ .own i)) p
+        lasts = λ i k. ap (λ y. y .last .0) (namespace-freed t₂ (view t₁ .own i) (right _ _ (R .own-kept i refl (seen-taken (view t₁) f s i k)))) ∙ ap (λ (y : View). y .last (view t₁ .own i)) p;
       }
 
   pub relit-same : So (kept (view t₂) s) → Same (view (freed t₂)) (view t₁) s s
@@ -105,8 +105,10 @@ module _ (t : Table) (h : SoundTable t) (c : ℕ) (room : free-namespace-slot (v
     where
       pl : view t₂ ≡ relight (view t₁) (view t₂)
       pl = put-light t₁ c q placed
+
       h₁ : So (namespace-taken (view t₁) s)
       h₁ = new-stands t h c room s hs
+
       go : (b : Bool) → kept (view t₂) s ≡ b → sheet-of (freed t₂) (follow t (freed t₂) (at s)) ≡ sheet (view t) s
       go true ks =
           stands-leaves t (freed t₂) s h g hs (relit-stands t₁ w t₂ pl s others ks h₁)

@@ -110,7 +110,7 @@ module _ (t : Table) (h : SoundTable t) (x : ℕ) (tx : So (taken (view t) x)) (
           marks = λ i k. ap (λ p. p .unshared) (after i k);
           childrens = λ i k. ap (λ p. p .children .0) (after i k);
           parents = λ i k. ap (λ p. pid-in (view t) s (p .parent .0)) (after i k);
-          lasts = λ i k. ap (λ z. z .last .0) (namespace-freed t₁ (view t .own i) (right _ _ (R .own-kept i (other i k) (seen-taken (view t) f s i k))))
+          lasts = λ i k. ap (λ z. z .last .0) (namespace-freed t₁ (view t .own i) (right _ _ (R .own-kept i (other i k) (seen-taken (view t) f s i k))));
         }
       where
         either : (i : ℕ) (b : Bool) → others t h x tx ex i ≡ b → seen (view (freed t₁)) s i ≡ seen (view t) s i
@@ -136,6 +136,7 @@ first-taken t h c e = go (least-cases (ended-kid (view t) c) (pid-to (view t) c)
   where
     x : ℕ
     x = least (ended-kid (view t) c) (pid-to (view t) c) process-slots process-slots
+
     go : Least (ended-kid (view t) c) (pid-to (view t) c) process-slots process-slots x → So (taken (view t) x)
     go (inl (a, b)) = absurd (false≢true (sym (ap (λ p. is-ended (p .state)) (List·getD-eq-default (t .processes) no-process (omega (arith, processes-length t h, a)))) ∙ e))
     go (inr (a, b, m)) = left _ _ (left _ _ a)
@@ -147,6 +148,7 @@ module _ (keeps : KeepsSound) where
     where
       x : ℕ
       x = first-ended (view t) i
+
       go : (b : Bool) → any process-slots (child-of (view t) i) ≡ b → (z : State) → view t .state x ≡ z → SoundTable (wait t i .table) → sheet-of (wait t i .table) (follow t (wait t i .table) (at s)) ≡ sheet (view t) s
       go false e z q g = rw (e, wait) (as-it-was t s hs)
       go true e Running q g = rw (e, q, wait) (as-it-was t s hs)
@@ -155,10 +157,13 @@ module _ (keeps : KeepsSound) where
         where
           ex : So (view t .ended x)
           ex = ap is-ended q
+
           tx : So (taken (view t) x)
           tx = first-taken t h i ex
+
           no-touch : touched t (freed (put t x empty-process)) (at s) i Wait ≡ false
           no-touch = untouched-made t s i Wait h k a (reap t i x (Ended y)) (rw (e, q, wait) refl) refl
+
           unseen : seen (view t) s x ≡ false
           unseen =
               bool-ext _ _

@@ -87,10 +87,13 @@ module _ (t u : Table) (s r c d : ℕ) (w : Ready t u s r c d) where
     where
       x : ℕ
       x = least (ended-kid (view t) c) (pid-to (view t) c) process-slots process-slots
+
       y : ℕ
       y = least (ended-kid (view u) d) (pid-to (view u) d) process-slots process-slots
+
       l : Twins (view t) (view u) s r (view t .own c) (view u .own d)
       l = owns-twins t u s r c d w
+
       go : Least (ended-kid (view t) c) (pid-to (view t) c) process-slots process-slots x → Least (ended-kid (view u) d) (pid-to (view u) d) process-slots process-slots y → First x y
       go (inl (a, b)) (inl (a′, b′)) = inl (a, a′)
       go (inr (a, b, h)) (inl (a′, b′)) = let (j, m, k, q) = ended-there t u s r c d w x a in absurd (false≢true (sym (b′ j q) ∙ k))
@@ -99,10 +102,12 @@ module _ (t u : Table) (s r c d : ℕ) (w : Ready t u s r c d) where
           let (j, m, k, q) = ended-there t u s r c d w x a in
           let (i, n, k′, q′) = ended-there u t r s d c (flip-ready t u s r c d w) y a′ in
           let n′ = flip-twin (view u) (view t) r s y i n in
-          inr
-          (twin-of-pid (view t) (view u) s r (w .pair) _ _ x y l (kid-seen (view t) (facts t (w .sound-t)) c x (tc t u s r c d w) (left _ _ a)) (kid-seen (view u) (facts u (w .sound-u)) d y (tc u t r s d c (flip-ready t u s r c d w)) (left _ _ a′))
-          (omega (arith, h i q′ k′, h′ j q k, pid-twins (view t) (view u) s r (w .pair) x j _ _ m l, pid-twins (view t) (view u) s r (w .pair) i y _ _ n′ l)),
-          right _ _ a, right _ _ a′)
+          inr (
+            twin-of-pid (view t) (view u) s r (w .pair) _ _ x y l (kid-seen (view t) (facts t (w .sound-t)) c x (tc t u s r c d w) (left _ _ a)) (kid-seen (view u) (facts u (w .sound-u)) d y (tc u t r s d c (flip-ready t u s r c d w)) (left _ _ a′))
+                (omega (arith, h i q′ k′, h′ j q k, pid-twins (view t) (view u) s r (w .pair) x j _ _ m l, pid-twins (view t) (view u) s r (w .pair) i y _ _ n′ l)),
+            right _ _ a,
+            right _ _ a′,
+          )
 
 no-state : (t : Table) → SoundTable t → (x : ℕ) → x ≡ process-slots → view t .state x ≡ Running
 no-state t h x e = ap (λ p. p .state) (List·getD-eq-default (t .processes) no-process (omega (arith, processes-length t h)))
@@ -113,9 +118,10 @@ unfolding reap granted
 reap-kept t u s r c d w x y k ex ey Running z h g = absurd (false≢true z)
 reap-kept t u s r c d w x y k ex ey Stopped z h g = absurd (false≢true z)
 reap-kept t u s r c d w x y k ex ey (Ended e) z h g =
-    inr
-    (ap (λ n. Reaped (to-pid n) e) (pid-twins (view t) (view u) s r (w .pair) x y _ _ k (owns-twins t u s r c d w)),
-    stands-same t u (freed (put t x empty-process)) (freed (put u y empty-process)) s r h g (stands-t t u s r x y (w .sound-t) (w .sound-u) (w .pair) k ex ey) (stands-u t u s r x y (w .sound-t) (w .sound-u) (w .pair) k ex ey) (same-reap t u s r x y (w .sound-t) (w .sound-u) (w .pair) k ex ey))
+    inr (
+      ap (λ n. Reaped (to-pid n) e) (pid-twins (view t) (view u) s r (w .pair) x y _ _ k (owns-twins t u s r c d w)),
+      stands-same t u (freed (put t x empty-process)) (freed (put u y empty-process)) s r h g (stands-t t u s r x y (w .sound-t) (w .sound-u) (w .pair) k ex ey) (stands-u t u s r x y (w .sound-t) (w .sound-u) (w .pair) k ex ey) (same-reap t u s r x y (w .sound-t) (w .sound-u) (w .pair) k ex ey),
+    )
 
 module _ (keeps : KeepsSound) where
   wait-cases : (t u : Table) (s r c d : ℕ) → Ready t u s r c d → SoundTable (wait t c .table) → SoundTable (wait u d .table) → Kept t u s r (wait t c) (wait u d)
@@ -124,8 +130,10 @@ module _ (keeps : KeepsSound) where
     where
       x : ℕ
       x = first-ended (view t) c
+
       y : ℕ
       y = first-ended (view u) d
+
       some-child : any process-slots (child-of (view t) c) ≡ true → First t u s r c d w x y → Kept t u s r (wait t c) (wait u d)
       some-child e (inl (a, b)) =
           rw (e, sym (any-same t u s r c d w) ∙ e, no-state t (w .sound-t) x a, no-state u (w .sound-u) y b, wait) (both-tell t u s r c d w 0 0 refl)
@@ -133,6 +141,7 @@ module _ (keeps : KeepsSound) where
           let q = shown t u s r (w .pair) x y k .states in
           rw (e, sym (any-same t u s r c d w) ∙ e, ← q, wait)
           (reap-kept t u s r c d w x y k ex ey (view t .state x) ex (rw (e, wait) at h) (rw (sym (any-same t u s r c d w) ∙ e, ← q, wait) at g))
+
       go : (b : Bool) → any process-slots (child-of (view t) c) ≡ b → Kept t u s r (wait t c) (wait u d)
       go true e = some-child e (first-twins t u s r c d w)
       go false e = rw (e, sym (any-same t u s r c d w) ∙ e, wait) (both-refuse t u s r c d w Echild)
