@@ -6,3 +6,4 @@ pub mod Refused
 pub mod Laws
 pub mod Keeps
 pub mod Sameness
+pub mod Promises

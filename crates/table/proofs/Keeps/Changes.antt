@@ -56,7 +56,6 @@ pub data Change (t : Table) : Table → Type 0 where
   signals-of : (c : ℕ) → Lives (view t) c → (x : State) → is-ended x ≡ false → So (kept-end x) → (h q : ℕ) → SignalsOk h q → h < 2 ^ signals → q < 2 ^ signals → Change t (put t c (with-all (process t c) x h q))
   turns : (c m : ℕ) (mark : Bool) → Lives (view t) c → Stands (view t) m → Below (view t) m (view t .own c) → (So (unborn (view t) m) → (view t .own c ≡ view t .up m) × ((i : ℕ) → Taken (view t) i → view t .children i ≡ m → i ≡ c)) → Change t (put t c (with-children (process t c) m mark))
   reaps : (d : ℕ) → So (view t .ended d) → Change t (put t d empty-process)
-  frees : Change t (freed t)
   makes-namespace : (c : ℕ) → Lives (view t) c → (view t .level (view t .own c) ≡ deepest → ⊥) → (free-namespace-slot (view t) ≡ namespace-slots → ⊥) → Change t (new-namespace t c)
 
 pub namespace-sane : (t : Table) (s : Sane t) (c : ℕ) → Lives (view t) c → (view t .level (view t .own c) ≡ deepest → ⊥) → (free-namespace-slot (view t) ≡ namespace-slots → ⊥) → Sane (new-namespace t c)
@@ -75,7 +74,6 @@ change-sane t u s (ends p e l o ok) = end-sane t s p e l o ok
 change-sane t u s (signals-of c l x o k h q ok a b) = signalled-sane t s c l x o h q k ok a b
 change-sane t u s (turns c m mark l a b d) = set-children-sane t s c m mark l a b d
 change-sane t u s (reaps d o) = reaped-sane t s d o
-change-sane t u s frees = sane (freed t) (freed-keeps t (s .shape-of) (s .facts))
 change-sane t u s (makes-namespace c l a b) = namespace-sane t s c l a b
 
 -- one after the other
