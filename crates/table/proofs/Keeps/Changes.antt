@@ -1,10 +1,10 @@
 -- Each call as a run of changes, each of which says when it may be made.
-use Prim.Native.Nat.{ℕ, pred, _<_, _≤_, _^_}
+use Prim.Native.Nat.{ℕ, _<_, _≤_, _^_}
 use native.Mathlib.Omega.{arith}
 use mathlib.Core.Logic.{_⊎_, inr}
 use mathlib.Core.Path.{_≡_, refl, sym, _∙_, ap, subst}
 use mathlib.Core.Bool.{Bool, true, false, not, So}
-use mathlib.Core.List.{List, [], _∷_}
+use mathlib.Core.List.{List, _∷_, []}
 use borrow.Author.Tests.{eqb-false, le-leb, lt-ltb, ltb-true}
 use lib.Dec.{eqb}
 use lib.ListN.{length}

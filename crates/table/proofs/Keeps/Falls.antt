@@ -14,7 +14,7 @@ use Rattle.table.proofs.Keeps.MemberKeeps.{member-view}
 use Rattle.table.proofs.Keeps.Premises as K
 use Rattle.table.proofs.Keeps.PutKeeps.{new-namespace-view}
 use Rattle.table.proofs.Laws.Below.{deep-namespace, deep-other, stepwise}
-use Rattle.table.proofs.Laws.Cases.{no-so, yes-or-no, alive-unborn, dead-unborn}
+use Rattle.table.proofs.Laws.Cases.{no-so, alive-unborn, dead-unborn}
 use Rattle.table.proofs.Laws.Facts.{Facts, facts, Taken, Stands, Lives, Below, Seen, Other, lives-taken, not-ended, seen-taken, seen-below}
 use Rattle.table.proofs.Laws.Quant.{cases}
 use Rattle.table.proofs.Laws.Slots.{alive-taken}

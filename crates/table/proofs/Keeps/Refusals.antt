@@ -1,6 +1,6 @@
 -- A refusal leaves the whole table unchanged and tells the host no slot.
 use Prim.Native.Nat.{ℕ}
-use mathlib.Core.Bool.{Bool, true, false, not, So, false≢true}
+use mathlib.Core.Bool.{Bool, true, false, not, false≢true}
 use mathlib.Core.Path.{_≡_, refl, sym, _∙_, ap}
 use lib.Dec.{eqb}
 use lib.ListN.{length}
@@ -13,8 +13,7 @@ use Rattle.table.specs.SignalSets.{lowest-signal}
 use Rattle.table.specs.Sound.{sound}
 use Rattle.table.specs.Step.{make, runs, step}
 use Rattle.table.specs.Tests.{_or_, if_then_else_, any}
-use Rattle.table.specs.declared.Answer.{Answer}
-use Rattle.table.specs.declared.Answer.the-variants.{Refused, Number, Reaped}
+use Rattle.table.specs.declared.Answer.the-variants.{Refused}
 use Rattle.table.specs.declared.Call.{Call}
 use Rattle.table.specs.declared.Call.the-variants.{Clone, CloneNew, Unshare, Setns, Kill, Exit, Wait, Getpid, Getppid, Handle, Poll}
 use Rattle.table.specs.declared.Outcome.{Outcome}

@@ -1,18 +1,16 @@
 -- Two sentences of soundness follow from the others, for any table of the declared type.
 use Prim.Native.Nat.{ℕ, _<_}
 use native.Mathlib.Omega.{arith}
-use mathlib.Core.Bool.{Bool, true, false, So}
+use mathlib.Core.Bool.{So}
 use mathlib.Core.Path.{_≡_, refl, sym, _∙_, ap, subst}
-use lib.Dec.{eqb}
 use Rattle.table.proofs.Laws.Cases.{dead-otherwise}
-use Rattle.table.proofs.Laws.Facts.{Stands, Taken, Other, Past, past-of, in-range, in-namespace, is-seen}
+use Rattle.table.proofs.Laws.Facts.{Stands, Taken, Other, Past, in-range, in-namespace, is-seen}
 use Rattle.table.proofs.Laws.Iff.{tests}
 use Rattle.table.proofs.Laws.Tree.{below-refl}
 use Rattle.table.specs.Limits.{namespace-slots, no-slot}
-use Rattle.table.specs.Read.{View, view, living, seen, pid-seen, dead, unborn, alive, init, below}
-use Rattle.table.specs.Sound.{shaped, root-process, have-parents, inits, below-dead, holds, unborn-namespace, unborn-namespaces, first-pids, dead-members, unborn-members, parents, first-parents, ended-bare}
+use Rattle.table.specs.Read.{View, living, pid-seen, dead, unborn, alive, init, below}
+use Rattle.table.specs.Sound.{root-process, have-parents, inits, below-dead, holds, unborn-namespace, unborn-namespaces, first-pids, dead-members, unborn-members, parents, first-parents, ended-bare}
 use Rattle.table.specs.Tests.{one}
-use Rattle.table.specs.declared.Table.{Table}
 
 module _ (v : View) (r : Past v) (u : So (unborn-namespaces v)) (d : So (dead-members v)) where
   -- "None belongs to an unborn one": an unborn namespace has no members.

@@ -1,42 +1,39 @@
 -- The calls that leave who is where: getpid, getppid, handle, poll, by twin callers.
-use Prim.Native.Nat.{ℕ, zero, suc, pred, _<_}
+use Prim.Native.Nat.{ℕ, _<_}
 use native.Mathlib.Omega.{arith}
 use native.Mathlib.Decide.{ℕ-discrete}
 use mathlib.Core.Bool.{Bool, true, false, not, So, false≢true}
-use mathlib.Core.Logic.{_⊎_, inl, inr, ⊎-elim}
-use mathlib.Core.Option.{Option, none, some}
+use mathlib.Core.Logic.{inr}
 use mathlib.Core.Path.{_≡_, refl, sym, _∙_, ap, ap₂, subst}
 use borrow.Author.Tests.{eqb-true}
 use lib.Dec.{eqb}
-use lib.IntN.{ℤ, pos, negsuc}
+use lib.IntN.{ℤ}
 use lib.ListN.{length}
 use Rattle.table.proofs.Sameness.Glue.{follow-self}
 use Rattle.table.proofs.Sameness.Inside.{Kept, Ready, MadeSame, refused-same, stands-same}
-use Rattle.table.proofs.Laws.Facts.{Facts, facts}
+use Rattle.table.proofs.Laws.Facts.{facts}
 use Rattle.table.proofs.Laws.Slots.{slot-lt, seen-taken, living-own-alive, alive-taken}
-use Rattle.table.proofs.Sameness.Light.{relight, Lights, same-light, Placed, put-light, put-same, put-other}
+use Rattle.table.proofs.Sameness.Light.{Lights, same-light, Placed, put-light, put-same, put-other}
 use Rattle.table.proofs.Laws.Quant.{left, right, both}
 use Rattle.table.proofs.Sameness.Readers.{parent-pid}
 use Rattle.table.proofs.Sameness.Same.{Same, sheets-of-same}
 use Rattle.table.proofs.Laws.Steps.{step-made}
 use Rattle.table.proofs.Sameness.Twins.{Pair, Twin, Twins, twin-rows, twin-unique, flip-pair, flip-twin, owns, pid-twins}
-use Rattle.table.specs.Answers.{answers, granted, is-no-room, refused}
+use Rattle.table.specs.Answers.{answers, granted, refused}
 use Rattle.table.specs.Calls.{getpid, getppid, handle, handle-off, handle-on, natural, poll, within}
 use Rattle.table.specs.Claims.{KeepsSound}
-use Rattle.table.specs.Events.{at, follow, sheet-of}
+use Rattle.table.specs.Events.{at, sheet-of}
 use Rattle.table.specs.Limits.{namespace-slots, process-slots, signals, sigkill, sigstop}
-use Rattle.table.specs.Read.{View, alive, is-ended, is-running, living, namespace-taken, pid-in, pid-seen, process, seen, taken, view}
+use Rattle.table.specs.Read.{alive, is-ended, is-running, living, namespace-taken, process, view}
 use Rattle.table.specs.Records.{put, with-signals}
 use Rattle.table.specs.Sheet.{Row, name, row, sheet}
 use Rattle.table.specs.SignalSets.{lowest-signal, with-signal, without-signal}
 use Rattle.table.specs.Sound.{SoundTable, shaped}
-use Rattle.table.specs.Step.{make, runs, step}
-use Rattle.table.specs.Tests.{_and_, _or_, if_then_else_}
-use Rattle.table.specs.declared.Answer.{Answer}
-use Rattle.table.specs.declared.Answer.the-variants.{Refused, Number, Reaped}
+use Rattle.table.specs.Step.{make, runs}
+use Rattle.table.specs.Tests.{_or_}
+use Rattle.table.specs.declared.Answer.the-variants.{Number}
 use Rattle.table.specs.declared.Call.{Call}
 use Rattle.table.specs.declared.Call.the-variants.{Getpid, Getppid, Handle, Poll}
-use Rattle.table.specs.declared.Outcome.{Outcome}
 use Rattle.table.specs.declared.Process.{Process}
 use Rattle.table.specs.declared.Refusal.{Refusal}
 use Rattle.table.specs.declared.Refusal.the-variants.{Einval}

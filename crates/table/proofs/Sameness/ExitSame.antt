@@ -1,14 +1,14 @@
 -- exit, by twin callers: also by the init of S itself.
-use Prim.Native.Nat.{ℕ, zero, suc, pred, _<_, _≤_}
+use Prim.Native.Nat.{ℕ, suc, pred, _<_}
 use native.Mathlib.Omega.{arith}
 use native.Mathlib.Decide.{ℕ-discrete}
 use mathlib.Core.Bool.{Bool, true, false, not, So, false≢true}
-use mathlib.Core.Logic.{_⊎_, inl, inr, ⊎-elim}
+use mathlib.Core.Logic.{inr}
 use mathlib.Core.Path.{_≡_, refl, sym, _∙_, ap, ap₂, subst, subst₂}
-use borrow.Author.Tests.{eqb-true, eqb-false, eq-eqb, ne-eqb}
+use borrow.Author.Tests.{eqb-true, eqb-false, eq-eqb}
 use lib.Dec.{eqb}
-use lib.IntN.{ℤ, pos, negsuc}
-use Rattle.table.proofs.Sameness.Calls.{both-refuse, both-change, owns-twins, own-lives, made-sound, processes-length, namespaces-length, taken-s, taken-r}
+use lib.IntN.{ℤ}
+use Rattle.table.proofs.Sameness.Calls.{both-refuse, both-change, owns-twins, own-lives, made-sound, taken-s, taken-r}
 use Rattle.table.proofs.Sameness.DeliverSame.{Fits, fits-sound, Held, pair-of, EndSame}
 use Rattle.table.proofs.Sameness.EndInit.{fallen, fallen-shape}
 use Rattle.table.proofs.Sameness.EndInitSame.{init-same}
@@ -16,27 +16,24 @@ use Rattle.table.proofs.Sameness.EndSame.{end-fits, end-same}
 use Rattle.table.proofs.Sameness.FreedRow.{freed-places}
 use Rattle.table.proofs.Sameness.Inside.{Kept, Ready, MadeSame}
 use Rattle.table.proofs.Laws.Facts.{Facts, facts}
-use Rattle.table.proofs.Laws.Slots.{seen-taken, seen-below, alive-taken, init-pid, init-own, root-own, root-only, level-of-root, below-level, below-same, pid-unique, up-level, alive-up, init-seen}
+use Rattle.table.proofs.Laws.Slots.{seen-below, alive-taken, init-pid, init-own, root-own, root-only, level-of-root, below-level, pid-unique, up-level, alive-up, init-seen}
 use Rattle.table.proofs.Keeps.MemberKeeps.{remainder}
-use Rattle.table.proofs.Laws.Quant.{left, right, both, isnt}
+use Rattle.table.proofs.Laws.Quant.{left, right, both}
 use Rattle.table.proofs.Sameness.Readers.{is-init-twins, pid-in-unseen}
 use Rattle.table.proofs.Sameness.Same.{Same}
 use Rattle.table.proofs.Laws.Tree.{below-refl}
 use Rattle.table.proofs.Sameness.SetChildrenSame.{same-freed-only, stands-freed}
-use Rattle.table.proofs.Sameness.Twins.{Pair, Twin, Twins, flip-pair, flip-twin, flip-twins, bool-ext, owns, twins-unique, twins-level}
-use Rattle.table.specs.Answers.{answers, granted, refused}
+use Rattle.table.proofs.Sameness.Twins.{Pair, Twin, Twins, flip-pair, flip-twin, bool-ext, twins-unique}
+use Rattle.table.specs.Answers.{answers, granted}
 use Rattle.table.specs.Calls.{exit, status}
 use Rattle.table.specs.Claims.{KeepsSound}
 use Rattle.table.specs.Ends.{end}
-use Rattle.table.specs.Events.{at, follow, sheet-of}
+use Rattle.table.specs.Events.{at}
 use Rattle.table.specs.Freeing.{freed}
-use Rattle.table.specs.Limits.{namespace-slots, process-slots}
-use Rattle.table.specs.Read.{View, alive, below, init, is-ended, is-init, is-running, living, namespace-taken, pid-in, pid-seen, seen, taken, view}
+use Rattle.table.specs.Read.{View, alive, init, is-ended, is-init, is-running, living, namespace-taken, pid-in, pid-seen, seen, view}
 use Rattle.table.specs.Sound.{SoundTable, kept-end}
 use Rattle.table.specs.Step.{make, runs}
-use Rattle.table.specs.Tests.{_and_, _or_, if_then_else_}
-use Rattle.table.specs.Sound as S
-use Rattle.table.specs.declared.Answer.the-variants.{Number}
+use Rattle.table.specs.Tests.{_or_}
 use Rattle.table.specs.declared.Call.the-variants.{Exit}
 use Rattle.table.specs.declared.End.{End}
 use Rattle.table.specs.declared.End.the-variants.{Exited}

@@ -1,21 +1,20 @@
 -- `InsideSame` from a fact for each of the calls, made by running callers.
 use Prim.Native.Nat.{ℕ}
 use mathlib.Core.Bool.{Bool, true, false, not, So, false≢true}
-use mathlib.Core.Logic.{_⊎_, inl, inr, ⊎-elim}
-use mathlib.Core.Option.{Option, none, some}
-use mathlib.Core.Path.{_≡_, refl, sym, _∙_, ap, subst}
-use Rattle.table.proofs.Sameness.Glue.{InsideSame, after, follow-self}
-use Rattle.table.proofs.Laws.Facts.{Facts, facts}
-use Rattle.table.proofs.Laws.Slots.{seen-taken, seen-below, living-own-alive, alive-above, alive-taken}
+use mathlib.Core.Logic.{_⊎_, inr}
+use mathlib.Core.Path.{_≡_, refl, sym, _∙_, ap}
+use Rattle.table.proofs.Sameness.Glue.{InsideSame, follow-self}
+use Rattle.table.proofs.Laws.Facts.{facts}
+use Rattle.table.proofs.Laws.Slots.{seen-taken, seen-below, living-own-alive, alive-above}
 use Rattle.table.proofs.Sameness.Find.{row-pid}
 use Rattle.table.proofs.Laws.Quant.{left, right, both}
 use Rattle.table.proofs.Sameness.Same.{Same, same-of-sheets, sheets-of-same, level-lt}
 use Rattle.table.proofs.Laws.Slots.{pid-unique}
 use Rattle.table.proofs.Laws.Steps.{step-made, step-refused}
-use Rattle.table.proofs.Sameness.Twins.{Pair, Twin, twin-rows}
+use Rattle.table.proofs.Sameness.Twins.{Pair, Twin}
 use Rattle.table.specs.Answers.{is-no-room, refused}
-use Rattle.table.specs.Events.{Place, at, follow, gone, sheet-of}
-use Rattle.table.specs.Read.{View, alive, is-ended, is-running, living, namespace-taken, pid-seen, seen, taken, view}
+use Rattle.table.specs.Events.{at, follow, sheet-of}
+use Rattle.table.specs.Read.{View, alive, is-ended, is-running, living, namespace-taken, seen, view}
 use Rattle.table.specs.Sheet.{Row, row, sheet}
 use Rattle.table.specs.Sound.{SoundTable}
 use Rattle.table.specs.Step.{make, runs, step}

@@ -1,33 +1,28 @@
 -- kill, by twin callers, from what an end does.
-use Prim.Native.Nat.{ℕ, zero, suc, pred, _<_}
-use native.Mathlib.Omega.{arith}
-use mathlib.Core.Bool.{Bool, true, false, not, So, false≢true}
-use mathlib.Core.List.{List, [], _∷_}
-use mathlib.Core.Logic.{_⊎_, inl, inr}
-use mathlib.Core.Path.{_≡_, refl, sym, _∙_, ap, subst}
-use borrow.Author.Tests.{eqb-true}
+use Prim.Native.Nat.{ℕ, _<_}
+use mathlib.Core.Bool.{Bool, true, false}
+use mathlib.Core.Logic.{inl}
+use mathlib.Core.Path.{_≡_, refl, sym, _∙_, ap}
 use lib.Dec.{eqb}
-use lib.IntN.{ℤ, pos, negsuc}
+use lib.IntN.{ℤ}
 use lib.ListN.{length}
-use Rattle.table.proofs.Sameness.Calls.{both-refuse, both-change, owns-twins, made-sound, processes-length, namespaces-length}
-use Rattle.table.proofs.Sameness.DeliverSame.{Fits, fits-sound, Held, pair-of, Target, deliver-all-held}
+use Rattle.table.proofs.Sameness.Calls.{both-refuse, both-change, owns-twins, made-sound}
+use Rattle.table.proofs.Sameness.DeliverSame.{fits-sound, Held, pair-of, Target, deliver-all-held}
 use Rattle.table.proofs.Sameness.EndSame.{end-same}
 use Rattle.table.proofs.Sameness.Inside.{Kept, Ready, MadeSame}
-use Rattle.table.proofs.Laws.Facts.{Facts, facts}
+use Rattle.table.proofs.Laws.Facts.{facts}
 use Rattle.table.proofs.Keeps.Premises.{natural-low}
-use Rattle.table.proofs.Sameness.Targets.{Along, along-length, along-with, targets-twins, targets-seen}
+use Rattle.table.proofs.Sameness.Targets.{along-length, along-with, targets-twins, targets-seen}
 use Rattle.table.proofs.Sameness.SetChildrenSame.{same-freed-only, stands-freed}
-use Rattle.table.proofs.Sameness.Twins.{Pair, Twin, Twins}
-use Rattle.table.specs.Answers.{answers, granted, refused}
+use Rattle.table.proofs.Sameness.Twins.{Twin}
+use Rattle.table.specs.Answers.{answers, granted}
 use Rattle.table.specs.Calls.{kill, names-group, natural, targets, within}
 use Rattle.table.specs.Claims.{KeepsSound}
 use Rattle.table.specs.Delivery.{deliver-all}
-use Rattle.table.specs.Freeing.{freed}
-use Rattle.table.specs.Limits.{process-slots, signals}
-use Rattle.table.specs.Read.{View, seen, view}
+use Rattle.table.specs.Limits.{signals}
+use Rattle.table.specs.Read.{view}
 use Rattle.table.specs.Sound.{SoundTable}
 use Rattle.table.specs.Step.{make}
-use Rattle.table.specs.Tests.{_and_, if_then_else_}
 use Rattle.table.specs.declared.Call.the-variants.{Kill}
 use Rattle.table.specs.declared.Refusal.the-variants.{Einval, Enosys, Esrch}
 use Rattle.table.specs.declared.Table.{Table}

@@ -1,8 +1,7 @@
 -- kill by an outsider: a signal to nobody of S, and no end of an init above S.
-use Prim.Native.Nat.{ℕ, pred, _<_}
-use native.Mathlib.Omega.{arith}
+use Prim.Native.Nat.{ℕ, _<_}
 use mathlib.Core.Bool.{Bool, true, false, not, So, false≢true}
-use mathlib.Core.List.{List, [], _∷_}
+use mathlib.Core.List.{List, _∷_, []}
 use mathlib.Core.Path.{_≡_, refl, sym, _∙_, ap, subst}
 use lib.Dec.{eqb}
 use lib.IntN.{ℤ}
@@ -39,7 +38,7 @@ use Rattle.table.specs.Records.{put, with-state}
 use Rattle.table.specs.Sheet.{sheet}
 use Rattle.table.specs.Sound.{SoundTable}
 use Rattle.table.specs.Step.{make}
-use Rattle.table.specs.Tests.{_and_, _or_, if_then_else_, some-of}
+use Rattle.table.specs.Tests.{_and_, _or_, some-of}
 use Rattle.table.specs.Touches.{signals-into, touched}
 use Rattle.table.specs.declared.Action.{Action}
 use Rattle.table.specs.declared.Action.the-variants.{Finish, Nothing, Pend, Resume, Stop}

@@ -1,19 +1,16 @@
 -- A fresh namespace below the callers' own: unshare, and clone with a new one.
-use Prim.Native.Nat.{ℕ, zero, suc, _<_, _≤_}
+use Prim.Native.Nat.{ℕ, suc, _<_}
 use native.Mathlib.Omega.{arith}
-use native.Mathlib.Decide.{ℕ-discrete}
 use mathlib.Core.Bool.{Bool, true, false, not, So, false≢true}
-use mathlib.Core.Logic.{_⊎_, inl, inr, ⊎-elim}
-use mathlib.Core.Option.{some}
-use mathlib.Core.Path.{_≡_, refl, sym, _∙_, ap, ap₂, subst, subst₂}
-use borrow.Author.Tests.{eqb-true, eqb-false, eq-eqb, ne-eqb}
+use mathlib.Core.Logic.{inl, inr, ⊎-elim}
+use mathlib.Core.Path.{_≡_, refl, sym, _∙_, ap, subst, subst₂}
+use borrow.Author.Tests.{eqb-false, ne-eqb}
 use lib.Dec.{eqb}
-use lib.ListN.{length, length-set}
 use lib.Seq.{getD-set-same, getD-set-other}
-use Rattle.table.proofs.Sameness.BirthPids.{Cradles, Unborns}
+use Rattle.table.proofs.Sameness.BirthPids.{Cradles}
 use Rattle.table.proofs.Sameness.BirthSame.{birth-same}
 use Rattle.table.proofs.Sameness.BirthTable.{grown, lights, the-child}
-use Rattle.table.proofs.Sameness.Calls.{Shown, shown, both-refuse, both-change, owns-twins, own-lives, made-sound, processes-length, namespaces-length, taken-s, taken-r, the-rows, lt-t, lt-u}
+use Rattle.table.proofs.Sameness.Calls.{shown, both-refuse, both-change, owns-twins, own-lives, made-sound}
 use Rattle.table.proofs.Sameness.CloneSame.{no-room-left, no-room-right, one-up}
 use Rattle.table.proofs.Keeps.Changes.{namespace-sane}
 use Rattle.table.proofs.Sameness.DeliverSame.{Fits, fits-of, fits-sound}
@@ -21,33 +18,30 @@ use Rattle.table.proofs.Sameness.ExitSame.{runs-living}
 use Rattle.table.proofs.Sameness.Find.{lowest-cases}
 use Rattle.table.proofs.Sameness.Inside.{Kept, Ready, MadeSame, stands-same}
 use Rattle.table.proofs.Laws.Facts.{Facts, facts}
-use Rattle.table.proofs.Laws.Slots.{seen-taken, seen-below, slot-lt, namespace-lt, own-taken, up-taken, alive-taken, children-of, below-trans}
+use Rattle.table.proofs.Laws.Slots.{seen-taken, slot-lt, own-taken, up-taken, alive-taken, children-of, below-trans}
 use Rattle.table.proofs.Sameness.Light.{Placed, put-light}
 use Rattle.table.proofs.Sameness.NextPid.{next-twins}
-use Rattle.table.proofs.Laws.Quant.{left, right, both, isnt, or-true, or-left, or-right, or-false-left, or-false-right}
-use Rattle.table.proofs.Sameness.Remain.{Remain, Lit, same-remain, standing, pid-in-remain, name-remain, seen-remain, pid-remain, below-remain}
-use Rattle.table.proofs.Sameness.Same.{Same}
-use Rattle.table.proofs.Laws.Tree.{below-refl}
+use Rattle.table.proofs.Laws.Quant.{isnt, or-right, or-false-left, or-false-right}
+use Rattle.table.proofs.Sameness.Remain.{Remain, Lit, same-remain, standing, pid-in-remain, name-remain, seen-remain, pid-remain}
 use Rattle.table.proofs.Sameness.SetChildrenSame.{everyone, name-no-slot, same-set-children, remain-set-children, alive-kept}
 use Rattle.table.proofs.Sameness.Twins.{Pair, Twin, Twins, twin-rows, twins-level, owns}
 use Rattle.table.proofs.Sameness.Anchor.{up-below}
-use Rattle.table.specs.Answers.{answers, granted, refused}
+use Rattle.table.specs.Answers.{answers, granted}
 use Rattle.table.specs.Births.{birth, newborn}
 use Rattle.table.specs.Calls.{born, clone-new, new-namespace, own-level, set-children, unshare}
 use Rattle.table.specs.Claims.{KeepsSound}
-use Rattle.table.specs.Freeing.{freed}
 use Rattle.table.specs.Limits.{deepest, namespace-slots, no-slot, process-slots}
-use Rattle.table.specs.Pids.{free-namespace-slot, free-slot, next-pid}
-use Rattle.table.specs.Read.{View, alive, below, init, is-alive, is-init, is-unborn, namespace, namespace-taken, no-namespace, pid-in, pid-seen, process, seen, taken, unborn, view}
-use Rattle.table.specs.Records.{put, put-namespace, to-pid, with-children}
+use Rattle.table.specs.Pids.{free-namespace-slot, free-slot}
+use Rattle.table.specs.Read.{View, alive, below, is-alive, is-init, is-unborn, namespace, namespace-taken, no-namespace, pid-in, process, taken, unborn, view}
+use Rattle.table.specs.Records.{put, to-pid, with-children}
 use Rattle.table.specs.Sheet.{Row, name, name-by, row, unborn-name}
 use Rattle.table.specs.Sound.{SoundTable}
 use Rattle.table.specs.Step.{make}
-use Rattle.table.specs.Tests.{_and_, _or_, if_then_else_, lowest}
+use Rattle.table.specs.Tests.{_or_, if_then_else_}
 use Rattle.table.specs.declared.Answer.the-variants.{Number}
 use Rattle.table.specs.declared.Call.the-variants.{CloneNew, Unshare}
 use Rattle.table.specs.declared.Life.the-variants.{Unborn}
-use Rattle.table.specs.declared.Refusal.the-variants.{Einval, Enospc, Eagain}
+use Rattle.table.specs.declared.Refusal.the-variants.{Einval, Enospc}
 use Rattle.table.specs.declared.Table.{Table}
 
 namespace-slot-free : (v : View) → (free-namespace-slot v ≡ namespace-slots → ⊥) → So (not (namespace-taken v (free-namespace-slot v))) × (free-namespace-slot v < namespace-slots)

@@ -1,30 +1,28 @@
 -- Calls by an outsider that leave who is where: the sheet stays.
-use Prim.Native.Nat.{ℕ, zero, suc, pred}
-use mathlib.Core.Bool.{Bool, true, false, not, So, false≢true}
-use mathlib.Core.Path.{_≡_, refl, sym, _∙_, ap, subst}
+use Prim.Native.Nat.{ℕ}
+use mathlib.Core.Bool.{Bool, true, false, not, So}
+use mathlib.Core.Path.{_≡_, refl}
 use lib.Dec.{eqb}
-use lib.IntN.{ℤ, pos, negsuc}
+use lib.IntN.{ℤ}
 use Rattle.table.proofs.Sameness.Glue.{follow-self}
-use Rattle.table.proofs.Sameness.Light.{Placed, put-outside}
-use Rattle.table.proofs.Laws.Quant.{left, right, isnt}
+use Rattle.table.proofs.Sameness.Light.{put-outside}
+use Rattle.table.proofs.Laws.Quant.{left, isnt}
 use Rattle.table.proofs.Laws.Steps.{step-made, step-refused}
 use Rattle.table.specs.Answers.{answers, granted, refused}
 use Rattle.table.specs.Calls.{getpid, getppid, handle, handle-off, handle-on, natural, poll, within}
 use Rattle.table.specs.Claims.{OutsideLeaves}
-use Rattle.table.specs.Events.{Place, at, follow, gone, happens, is-inside, next-place, next-table, outside, sheet-of, table-after}
-use Rattle.table.specs.Limits.{process-slots, signals, sigkill, sigstop}
-use Rattle.table.specs.Read.{View, namespace-taken, process, seen, view}
+use Rattle.table.specs.Events.{at, follow, happens, is-inside, outside, sheet-of, table-after}
+use Rattle.table.specs.Limits.{signals, sigkill, sigstop}
+use Rattle.table.specs.Read.{namespace-taken, process, seen, view}
 use Rattle.table.specs.Records.{put, with-signals}
 use Rattle.table.specs.Sheet.{sheet}
-use Rattle.table.specs.SignalSets.{lowest-signal, with-signal, without-signal}
+use Rattle.table.specs.SignalSets.{lowest-signal}
 use Rattle.table.specs.Sound.{SoundTable}
 use Rattle.table.specs.Step.{make, runs, step}
-use Rattle.table.specs.Tests.{_and_, _or_, if_then_else_}
-use Rattle.table.specs.Touches.{allowed, touches}
+use Rattle.table.specs.Tests.{_or_}
+use Rattle.table.specs.Touches.{allowed}
 use Rattle.table.specs.declared.Call.{Call}
 use Rattle.table.specs.declared.Call.the-variants.{Getpid, Getppid, Handle, Poll}
-use Rattle.table.specs.declared.Process.{Process}
-use Rattle.table.specs.declared.Refusal.the-variants.{NotRunning, Einval}
 use Rattle.table.specs.declared.Table.{Table}
 
 -- what is to prove of a call made by a running outsider

@@ -1,34 +1,32 @@
 -- setns, by twin callers.
 use Prim.Native.Nat.{ℕ, zero, suc, _<_}
 use native.Mathlib.Omega.{arith}
-use mathlib.Core.Bool.{Bool, true, false, not, So, false≢true}
-use mathlib.Core.Logic.{_⊎_, inl, inr, ⊎-elim}
-use mathlib.Core.Path.{_≡_, refl, sym, _∙_, ap, ap₂, subst}
-use borrow.Author.Tests.{eqb-true, eq-eqb, ne-eqb}
+use mathlib.Core.Bool.{Bool, true, false}
+use mathlib.Core.Logic.{_⊎_, inl, inr}
+use mathlib.Core.Path.{_≡_, refl, sym, ap}
+use borrow.Author.Tests.{eq-eqb, ne-eqb}
 use lib.Dec.{eqb}
 use lib.IntN.{ℤ, pos, negsuc}
-use Rattle.table.proofs.Sameness.Calls.{Shown, shown, both-refuse, both-change, owns-twins, made-sound, lt-t, lt-u, taken-s, taken-r}
+use Rattle.table.proofs.Sameness.Calls.{shown, both-refuse, both-change, owns-twins, made-sound, lt-t, lt-u, taken-s, taken-r}
 use Rattle.table.proofs.Sameness.Inside.{Kept, Ready, MadeSame}
-use Rattle.table.proofs.Laws.Facts.{Facts, facts}
+use Rattle.table.proofs.Laws.Facts.{facts}
 use Rattle.table.proofs.Laws.Slots.{seen-taken, own-taken}
 use Rattle.table.proofs.Sameness.Light.{Placed, put-light}
 use Rattle.table.proofs.Sameness.Readers.{find-twins}
 use Rattle.table.proofs.Sameness.Remain.{standing}
 use Rattle.table.proofs.Sameness.SetChildrenSame.{same-set-children, remain-set-children, alive-kept}
-use Rattle.table.proofs.Sameness.Twins.{Pair, Twin, Twins, twin-rows}
-use Rattle.table.specs.Answers.{answers, granted, refused}
+use Rattle.table.proofs.Sameness.Twins.{Pair, Twin, twin-rows}
+use Rattle.table.specs.Answers.{answers, granted}
 use Rattle.table.specs.Calls.{named, set-children, setns}
 use Rattle.table.specs.Claims.{KeepsSound}
-use Rattle.table.specs.Freeing.{freed}
 use Rattle.table.specs.Limits.{process-slots}
-use Rattle.table.specs.Read.{View, find, is-ended, process, view}
+use Rattle.table.specs.Read.{is-ended, process, view}
 use Rattle.table.specs.Records.{put, with-children}
-use Rattle.table.specs.Sheet.{Row, name, row}
+use Rattle.table.specs.Sheet.{Row, row}
 use Rattle.table.specs.Sound.{SoundTable}
 use Rattle.table.specs.Step.{make}
-use Rattle.table.specs.Tests.{_and_, _or_, if_then_else_}
+use Rattle.table.specs.Tests.{_or_}
 use Rattle.table.specs.declared.Call.the-variants.{Setns}
-use Rattle.table.specs.declared.Process.{Process}
 use Rattle.table.specs.declared.Refusal.the-variants.{Esrch}
 use Rattle.table.specs.declared.Table.{Table}
 
