@@ -224,6 +224,10 @@ module _ (t : Table) (c : ℕ) (h : SoundTable t) (r : So (runs (view t) c)) whe
       let (x, y, k) = sets t (sane t h) c lives in
       signalled c lives (v .handled c) (without-signal (v .pending c) (lowest-signal (process t c .pending))) (poll-ok _ _ _ k) x (omega (arith, without-signal-le (v .pending c) (lowest-signal (process t c .pending)), y)))
 
+-- a call by a running caller leaves a sound table sound
+pub make-sound : (t : Table) (c : ℕ) (call : Call) → SoundTable t → So (runs (view t) c) → SoundTable (make t c call .table)
+make-sound t c call h r = made-sound t _ h (call-made t c h r call)
+
 pub keeps-sound : KeepsSound
 unfolding KeepsSound
-keeps-sound t c call h = made-or-refused SoundTable t c call h h (λ r. made-sound t _ h (call-made t c h r call))
+keeps-sound t c call h = made-or-refused SoundTable t c call h h (make-sound t c call h)

@@ -7,6 +7,7 @@ use mathlib.Core.Option.{Option, none, some}
 use mathlib.Core.Path.{_≡_, refl, sym, _∙_, ap, subst}
 use borrow.Author.Tests.{eq-eqb, ne-eqb}
 use native.Mathlib.Omega.{arith}
+use Rattle.table.proofs.Keeps.Changes.{keeps-sound}
 use Rattle.table.proofs.Sameness.Find.{Callers, find-same, find-none}
 use Rattle.table.proofs.Laws.Quant.{left, right}
 use Rattle.table.proofs.Laws.Facts.{facts}
@@ -68,10 +69,10 @@ unfolding follow
 follow-self t (gone l) h = refl
 follow-self t (at s) h = rw h
 
-module _ (keeps : KeepsSound) (leaves : OutsideLeaves) (same : InsideSame) where
+module _ (leaves : OutsideLeaves) (same : InsideSame) where
   step-sound : (t : Table) (i : ℕ) (c : Call) → SoundTable t → SoundTable (step t i c .table)
   unfolding KeepsSound
-  step-sound t i c h = keeps t i c h
+  step-sound t i c h = keeps-sound t i c h
 
   -- ---- outside calls
 

@@ -3,6 +3,7 @@ use Prim.Native.Nat.{ℕ}
 use mathlib.Core.Bool.{Bool, true, false, not, So, false≢true}
 use mathlib.Core.Logic.{_⊎_, inr}
 use mathlib.Core.Path.{_≡_, refl, sym, _∙_, ap}
+use Rattle.table.proofs.Keeps.Changes.{make-sound}
 use Rattle.table.proofs.Sameness.Glue.{InsideSame, follow-self}
 use Rattle.table.proofs.Laws.Facts.{facts}
 use Rattle.table.proofs.Laws.Slots.{seen-taken, seen-below, living-own-alive, alive-above}
@@ -44,7 +45,7 @@ pub record Ready (t u : Table) (s r i j : ℕ) : Type 0 where
 
 -- what is left to prove of a call
 unfoldable pub MadeSame : Call → Type 0
-MadeSame c = (t u : Table) (s r i j : ℕ) → Ready t u s r i j → Kept t u s r (make t i c) (make u j c)
+MadeSame c = (t u : Table) (s r i j : ℕ) → Ready t u s r i j → SoundTable (make t i c .table) → SoundTable (make u j c .table) → Kept t u s r (make t i c) (make u j c)
 
 -- a refusal by both
 pub refused-same : (t u : Table) (s r : ℕ) (e : Refusal) → So (namespace-taken (view t) s) → So (namespace-taken (view u) r) → sheet (view t) s ≡ sheet (view u) r → Kept t u s r (refused t e) (refused u e)
@@ -100,5 +101,6 @@ inside-same made t u s r i j c h g hs hr e a b n = go (runs (view t) i) refl
           twin = record { seen-v = a; seen-u = b; pids = n };
           runs-t = k;
           runs-u = sym both-run ∙ k;
-        }))
+        })
+        (make-sound t i c h k) (make-sound u j c g (sym both-run ∙ k)))
     go false k = rw (step-refused t i c h k, step-refused u j c g (sym both-run ∙ k)) (refused-same t u s r NotRunning hs hr e)

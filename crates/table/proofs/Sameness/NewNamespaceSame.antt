@@ -10,7 +10,7 @@ use lib.Seq.{getD-set-same, getD-set-other}
 use Rattle.table.proofs.Sameness.BirthPids.{Cradles}
 use Rattle.table.proofs.Sameness.BirthSame.{birth-same}
 use Rattle.table.proofs.Sameness.BirthTable.{grown, lights, the-child}
-use Rattle.table.proofs.Sameness.Calls.{shown, both-refuse, both-change, owns-twins, own-lives, made-sound}
+use Rattle.table.proofs.Sameness.Calls.{shown, both-refuse, both-change, owns-twins, own-lives}
 use Rattle.table.proofs.Sameness.CloneSame.{no-room-left, no-room-right, one-up}
 use Rattle.table.proofs.Keeps.Changes.{namespace-sane}
 use Rattle.table.proofs.Sameness.DeliverSame.{Fits, fits-of, fits-sound}
@@ -29,7 +29,6 @@ use Rattle.table.proofs.Sameness.Anchor.{up-below}
 use Rattle.table.specs.Answers.{answers, granted}
 use Rattle.table.specs.Births.{birth, newborn}
 use Rattle.table.specs.Calls.{born, clone-new, new-namespace, own-level, set-children, unshare}
-use Rattle.table.specs.Claims.{KeepsSound}
 use Rattle.table.specs.Limits.{deepest, namespace-slots, no-slot, process-slots}
 use Rattle.table.specs.Pids.{free-namespace-slot, free-slot}
 use Rattle.table.specs.Read.{View, alive, below, is-alive, is-init, is-unborn, namespace, namespace-taken, no-namespace, pid-in, process, taken, unborn, view}
@@ -256,48 +255,39 @@ module _ (t u : Table) (s r c d : ℕ) (w : Ready t u s r c d) (ot : own-level (
 
 -- ---- the two calls
 
-module _ (keeps : KeepsSound) where
-  levels-alike : (t u : Table) (s r c d : ℕ) → Ready t u s r c d → own-level (view t) c ≡ own-level (view u) d
-  levels-alike t u s r c d w = twins-level (view t) (view u) s r (w .pair) _ _ (owns-twins t u s r c d w)
+levels-alike : (t u : Table) (s r c d : ℕ) → Ready t u s r c d → own-level (view t) c ≡ own-level (view u) d
+levels-alike t u s r c d w = twins-level (view t) (view u) s r (w .pair) _ _ (owns-twins t u s r c d w)
 
-  unshare-cases : (t u : Table) (s r c d : ℕ) → Ready t u s r c d → SoundTable (unshare t c .table) → SoundTable (unshare u d .table) → Kept t u s r (unshare t c) (unshare u d)
-  unfolding unshare answers granted
-  unshare-cases t u s r c d w h g = go (process t c .unshared) refl (eqb (own-level (view t) c) deepest) refl (eqb (free-namespace-slot (view t)) namespace-slots) refl (eqb (free-namespace-slot (view u)) namespace-slots) refl
-    where
-      mark : process t c .unshared ≡ process u d .unshared
-      mark = shown t u s r (w .pair) c d (w .twin) .marks
+pub unshare-same : MadeSame Unshare
+unfolding MadeSame make unshare answers granted
+unshare-same t u s r c d w h g = go (process t c .unshared) refl (eqb (own-level (view t) c) deepest) refl (eqb (free-namespace-slot (view t)) namespace-slots) refl (eqb (free-namespace-slot (view u)) namespace-slots) refl
+  where
+    mark : process t c .unshared ≡ process u d .unshared
+    mark = shown t u s r (w .pair) c d (w .twin) .marks
 
-      deep : eqb (own-level (view t) c) deepest ≡ eqb (own-level (view u) d) deepest
-      deep = ap (λ n. eqb n deepest) (levels-alike t u s r c d w)
+    deep : eqb (own-level (view t) c) deepest ≡ eqb (own-level (view u) d) deepest
+    deep = ap (λ n. eqb n deepest) (levels-alike t u s r c d w)
 
-      go : (m : Bool) → process t c .unshared ≡ m → (a : Bool) → eqb (own-level (view t) c) deepest ≡ a → (b : Bool) → eqb (free-namespace-slot (view t)) namespace-slots ≡ b → (b′ : Bool) → eqb (free-namespace-slot (view u)) namespace-slots ≡ b′ → Kept t u s r (unshare t c) (unshare u d)
-      go true em a ea b eb b′ eb′ = rw (em, sym mark ∙ em, unshare) (both-refuse t u s r c d w Einval)
-      go false em true ea b eb b′ eb′ = rw (em, sym mark ∙ em, ea, sym deep ∙ ea, unshare) (both-refuse t u s r c d w Enospc)
-      go false em false ea true eb b′ eb′ = rw (em, ea, eb, unshare) (no-room-left t u s r (unshare u d))
-      go false em false ea false eb true eb′ = rw (sym mark ∙ em, sym deep ∙ ea, eb′, unshare) (no-room-right t u s r (unshare t c))
-      go false em false ea false eb false eb′ =
-          rw (em, sym mark ∙ em, ea, sym deep ∙ ea, eb, eb′, unshare)
-          (unshared-kept t u s r c d w (eqb-false _ _ ea) (eqb-false _ _ (sym deep ∙ ea)) (eqb-false _ _ eb) (eqb-false _ _ eb′) (rw (em, ea, eb, unshare) at h) (rw (sym mark ∙ em, sym deep ∙ ea, eb′, unshare) at g))
+    go : (m : Bool) → process t c .unshared ≡ m → (a : Bool) → eqb (own-level (view t) c) deepest ≡ a → (b : Bool) → eqb (free-namespace-slot (view t)) namespace-slots ≡ b → (b′ : Bool) → eqb (free-namespace-slot (view u)) namespace-slots ≡ b′ → Kept t u s r (unshare t c) (unshare u d)
+    go true em a ea b eb b′ eb′ = rw (em, sym mark ∙ em, unshare) (both-refuse t u s r c d w Einval)
+    go false em true ea b eb b′ eb′ = rw (em, sym mark ∙ em, ea, sym deep ∙ ea, unshare) (both-refuse t u s r c d w Enospc)
+    go false em false ea true eb b′ eb′ = rw (em, ea, eb, unshare) (no-room-left t u s r (unshare u d))
+    go false em false ea false eb true eb′ = rw (sym mark ∙ em, sym deep ∙ ea, eb′, unshare) (no-room-right t u s r (unshare t c))
+    go false em false ea false eb false eb′ =
+        rw (em, sym mark ∙ em, ea, sym deep ∙ ea, eb, eb′, unshare)
+        (unshared-kept t u s r c d w (eqb-false _ _ ea) (eqb-false _ _ (sym deep ∙ ea)) (eqb-false _ _ eb) (eqb-false _ _ eb′) (rw (em, ea, eb, unshare) at h) (rw (sym mark ∙ em, sym deep ∙ ea, eb′, unshare) at g))
 
-  pub unshare-same : MadeSame Unshare
-  unfolding MadeSame make
-  unshare-same t u s r i j w = unshare-cases t u s r i j w (made-sound keeps t i Unshare (w .sound-t) (w .runs-t)) (made-sound keeps u j Unshare (w .sound-u) (w .runs-u))
+pub clone-new-same : MadeSame CloneNew
+unfolding MadeSame make clone-new
+clone-new-same t u s r c d w h g = go (eqb (own-level (view t) c) deepest) refl (eqb (free-slot (view t)) process-slots or eqb (free-namespace-slot (view t)) namespace-slots) refl (eqb (free-slot (view u)) process-slots or eqb (free-namespace-slot (view u)) namespace-slots) refl
+  where
+    deep : eqb (own-level (view t) c) deepest ≡ eqb (own-level (view u) d) deepest
+    deep = ap (λ n. eqb n deepest) (levels-alike t u s r c d w)
 
-  clone-new-cases : (t u : Table) (s r c d : ℕ) → Ready t u s r c d → SoundTable (clone-new t c .table) → SoundTable (clone-new u d .table) → Kept t u s r (clone-new t c) (clone-new u d)
-  unfolding clone-new
-  clone-new-cases t u s r c d w h g = go (eqb (own-level (view t) c) deepest) refl (eqb (free-slot (view t)) process-slots or eqb (free-namespace-slot (view t)) namespace-slots) refl (eqb (free-slot (view u)) process-slots or eqb (free-namespace-slot (view u)) namespace-slots) refl
-    where
-      deep : eqb (own-level (view t) c) deepest ≡ eqb (own-level (view u) d) deepest
-      deep = ap (λ n. eqb n deepest) (levels-alike t u s r c d w)
-
-      go : (a : Bool) → eqb (own-level (view t) c) deepest ≡ a → (b : Bool) → eqb (free-slot (view t)) process-slots or eqb (free-namespace-slot (view t)) namespace-slots ≡ b → (b′ : Bool) → eqb (free-slot (view u)) process-slots or eqb (free-namespace-slot (view u)) namespace-slots ≡ b′ → Kept t u s r (clone-new t c) (clone-new u d)
-      go true ea b eb b′ eb′ = rw (ea, sym deep ∙ ea, clone-new) (both-refuse t u s r c d w Enospc)
-      go false ea true eb b′ eb′ = rw (ea, eb, clone-new) (no-room-left t u s r (clone-new u d))
-      go false ea false eb true eb′ = rw (sym deep ∙ ea, eb′, clone-new) (no-room-right t u s r (clone-new t c))
-      go false ea false eb false eb′ =
-          rw (ea, sym deep ∙ ea, eb, eb′, clone-new)
-          (cloned-kept t u s r c d w (eqb-false _ _ ea) (eqb-false _ _ (sym deep ∙ ea)) (eqb-false _ _ (or-false-right _ _ eb)) (eqb-false _ _ (or-false-right _ _ eb′)) (eqb-false _ _ (or-false-left _ _ eb)) (eqb-false _ _ (or-false-left _ _ eb′)) (rw (ea, eb, clone-new) at h) (rw (sym deep ∙ ea, eb′, clone-new) at g))
-
-  pub clone-new-same : MadeSame CloneNew
-  unfolding MadeSame make
-  clone-new-same t u s r i j w = clone-new-cases t u s r i j w (made-sound keeps t i CloneNew (w .sound-t) (w .runs-t)) (made-sound keeps u j CloneNew (w .sound-u) (w .runs-u))
+    go : (a : Bool) → eqb (own-level (view t) c) deepest ≡ a → (b : Bool) → eqb (free-slot (view t)) process-slots or eqb (free-namespace-slot (view t)) namespace-slots ≡ b → (b′ : Bool) → eqb (free-slot (view u)) process-slots or eqb (free-namespace-slot (view u)) namespace-slots ≡ b′ → Kept t u s r (clone-new t c) (clone-new u d)
+    go true ea b eb b′ eb′ = rw (ea, sym deep ∙ ea, clone-new) (both-refuse t u s r c d w Enospc)
+    go false ea true eb b′ eb′ = rw (ea, eb, clone-new) (no-room-left t u s r (clone-new u d))
+    go false ea false eb true eb′ = rw (sym deep ∙ ea, eb′, clone-new) (no-room-right t u s r (clone-new t c))
+    go false ea false eb false eb′ =
+        rw (ea, sym deep ∙ ea, eb, eb′, clone-new)
+        (cloned-kept t u s r c d w (eqb-false _ _ ea) (eqb-false _ _ (sym deep ∙ ea)) (eqb-false _ _ (or-false-right _ _ eb)) (eqb-false _ _ (or-false-right _ _ eb′)) (eqb-false _ _ (or-false-left _ _ eb)) (eqb-false _ _ (or-false-left _ _ eb′)) (rw (ea, eb, clone-new) at h) (rw (sym deep ∙ ea, eb′, clone-new) at g))
