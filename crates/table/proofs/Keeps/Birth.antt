@@ -1,20 +1,20 @@
 -- A birth keeps a table sound.
 use Prim.Native.Nat.{ℕ, zero, suc, _<_, _≤_}
 use native.Mathlib.Omega.{arith}
+use mathlib.Core.Bool.{true, false, So, false≢true}
 use mathlib.Core.Logic.{_⊎_, inl, inr, ⊎-elim}
 use mathlib.Core.Path.{_≡_, refl, sym, _∙_, ap, subst}
-use mathlib.Core.Bool.{true, false, So, false≢true}
 use borrow.Author.Tests.{eq-eqb, ne-eqb, eqb-true, le-leb, leb-true}
 use lib.Dec.{eqb, leb}
-use Rattle.table.proofs.Laws.Cases.{yes-or-no, no-so, isnt-so, zero-or, same-or, life-cases, alive-unborn, dead-unborn}
-use Rattle.table.proofs.Laws.SignalSets.{no-signals}
-use Rattle.table.proofs.Laws.Below.{last-step, above-namespace, above-is, above-same, below-level, root-above}
-use Rattle.table.proofs.Laws.Facts.{Holder, root, member, for-children, child, Facts, Held, Taken, Stands, Lives, Below, Seen, Other, lives-taken, is-seen}
-use Rattle.table.proofs.Laws.Iff.{not-iff}
 use Rattle.table.proofs.Keeps.MemberEnds.{reaches}
 use Rattle.table.proofs.Keeps.NewPid.{Fresh, next-fresh, next-first, nobody, free-is}
+use Rattle.table.proofs.Laws.Below.{last-step, above-namespace, above-is, above-same, below-level, root-above}
+use Rattle.table.proofs.Laws.Cases.{yes-or-no, no-so, isnt-so, zero-or, same-or, life-cases, alive-unborn, dead-unborn}
+use Rattle.table.proofs.Laws.Facts.{Holder, root, member, for-children, child, Facts, Held, Taken, Stands, Lives, Below, Seen, Other, lives-taken, is-seen}
+use Rattle.table.proofs.Laws.Iff.{not-iff}
 use Rattle.table.proofs.Laws.Quant.{left, right, both}
 use Rattle.table.proofs.Laws.Reach.{reach-bounded, reach-zero, reach-step, reach-cases}
+use Rattle.table.proofs.Laws.SignalSets.{no-signals}
 use Rattle.table.proofs.Laws.Tree.{below-refl}
 use Rattle.table.specs.Limits.{greatest-pid, namespace-slots, process-slots}
 use Rattle.table.specs.Pids.{next-pid}

@@ -1,15 +1,15 @@
 -- A birth, as a table.
 use Prim.Native.Nat.{ℕ, _<_, _≤_}
 use native.Mathlib.Omega.{arith}
-use mathlib.Core.Path.{_≡_, refl, _∙_, ap}
 use mathlib.Core.Bool.{Bool, true, false, So}
+use mathlib.Core.Path.{_≡_, refl, _∙_, ap}
 use borrow.Author.Tests.{eq-eqb, lt-leb}
 use lib.Dec.{eqb, leb}
 use lib.ListN.{replicate}
-use Rattle.table.proofs.Laws.Cases.{isnt-so}
 use Rattle.table.proofs.Keeps.Birth.{with-born}
-use Rattle.table.proofs.Laws.Below.{above-namespace, low-level}
 use Rattle.table.proofs.Keeps.Changed.{getD-replicate, view-changed, shaped-changed, process-shaped, view-put, shaped-put, pick, changed-at, length-changed}
+use Rattle.table.proofs.Laws.Below.{above-namespace, low-level}
+use Rattle.table.proofs.Laws.Cases.{isnt-so}
 use Rattle.table.proofs.Laws.Facts.{Facts, Stands}
 use Rattle.table.proofs.Laws.Quant.{both}
 use Rattle.table.specs.Births.{birth, joined, new-pids, newborn}

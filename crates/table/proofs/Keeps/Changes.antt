@@ -1,23 +1,27 @@
 -- Each call as a run of changes, each of which says when it may be made.
 use Prim.Native.Nat.{ℕ, _<_, _≤_, _^_}
 use native.Mathlib.Omega.{arith}
-use mathlib.Core.Logic.{_⊎_, inr}
-use mathlib.Core.Path.{_≡_, refl, sym, _∙_, ap, subst}
 use mathlib.Core.Bool.{Bool, true, false, not, So}
 use mathlib.Core.List.{List, _∷_, []}
+use mathlib.Core.Logic.{_⊎_, inr}
+use mathlib.Core.Path.{_≡_, refl, sym, _∙_, ap, subst}
 use borrow.Author.Tests.{eqb-false, le-leb, lt-ltb, ltb-true}
 use lib.Dec.{eqb}
 use lib.ListN.{length}
-use Rattle.table.proofs.Laws.SignalBits.{with-signal-lt, without-signal-le}
-use Rattle.table.proofs.Laws.Cases.{isnt-so, no-so}
 use Rattle.table.proofs.Keeps.Changed.{shape-at}
 use Rattle.table.proofs.Keeps.Deliver.{Safe, Good, action-good, pend-ok, deliver-sane}
-use Rattle.table.proofs.Laws.Facts.{Facts, Holder, Taken, Stands, Lives, Below, Seen, Other, SignalsOk, lives-taken, not-ended, seen-taken, seen-below, facts, held-in}
 use Rattle.table.proofs.Keeps.FreedKeeps.{freed-keeps}
-use Rattle.table.proofs.Keeps.InitKeeps.{Sane, sane, end-sane}
-use Rattle.table.proofs.Laws.Below.{low-level}
-use Rattle.table.proofs.Keeps.Premises as K
+use Rattle.table.proofs.Keeps.InitKeeps.{end-sane}
+use Rattle.table.proofs.Keeps.MemberKeeps.{runs-lives, running-not-ended, remainder}
 use Rattle.table.proofs.Keeps.NewNamespace.{namespace-pre}
+use Rattle.table.proofs.Keeps.Premises as K
+use Rattle.table.proofs.Keeps.PutKeeps.{with-all, signalled-sane, set-children-sane, reaped-sane, new-namespace-view, new-namespace-shape}
+use Rattle.table.proofs.Laws.Below.{low-level}
+use Rattle.table.proofs.Laws.Cases.{isnt-so, no-so}
+use Rattle.table.proofs.Laws.Facts.{Facts, Holder, Taken, Stands, Lives, Below, Seen, Other, SignalsOk, lives-taken, not-ended, seen-taken, seen-below, facts, held-in, Sane, sane}
+use Rattle.table.proofs.Laws.Quant.{left, right, both, isnt-not, or-false-left, or-false-right}
+use Rattle.table.proofs.Laws.SignalBits.{with-signal-lt, without-signal-le}
+use Rattle.table.proofs.Laws.SignalSets.{poll-ok, on-ok, off-ok}
 use Rattle.table.proofs.Laws.Steps.{made-or-refused}
 use Rattle.table.specs.Answers.{answers, granted, refused}
 use Rattle.table.specs.Births.{birth}
@@ -35,19 +39,15 @@ use Rattle.table.specs.SignalSets.{has, lowest-signal, without-signal}
 use Rattle.table.specs.Sound.{SoundTable, kept-end}
 use Rattle.table.specs.Step.{make, runs}
 use Rattle.table.specs.Tests.{_or_, any, if_then_else_}
-use Rattle.table.specs.declared.Action.{Action}
 use Rattle.table.specs.declared.Action.the-variants.{Finish, Nothing, Pend, Resume, Stop}
-use Rattle.table.proofs.Keeps.MemberKeeps.{runs-lives, running-not-ended, remainder}
-use Rattle.table.proofs.Keeps.PutKeeps.{with-all, signalled-sane, set-children-sane, reaped-sane, new-namespace-view, new-namespace-shape}
-use Rattle.table.proofs.Laws.Quant.{left, right, both, isnt-not, or-false-left, or-false-right}
-use Rattle.table.proofs.Laws.SignalSets.{poll-ok, on-ok, off-ok}
-use Rattle.table.specs.declared.Call.{Call}
+use Rattle.table.specs.declared.Action.{Action}
 use Rattle.table.specs.declared.Call.the-variants.{Clone, CloneNew, Unshare, Setns, Kill, Exit, Wait, Getpid, Getppid, Handle, Poll}
-use Rattle.table.specs.declared.End.{End}
+use Rattle.table.specs.declared.Call.{Call}
 use Rattle.table.specs.declared.End.the-variants.{Signaled, Exited}
+use Rattle.table.specs.declared.End.{End}
 use Rattle.table.specs.declared.Outcome.{Outcome}
-use Rattle.table.specs.declared.State.{State}
 use Rattle.table.specs.declared.State.the-variants.{Running, Stopped, Ended}
+use Rattle.table.specs.declared.State.{State}
 use Rattle.table.specs.declared.Table.{Table}
 
 -- the changes that add no process

@@ -1,26 +1,26 @@
 -- Signals keep a table sound up to freeing.
 use Prim.Native.Nat.{ℕ, _<_, _≤_, _^_}
-use native.Mathlib.Omega.{arith}
 use native.Mathlib.Decide.{ℕ-discrete}
-use mathlib.Core.Path.{_≡_, refl, sym, _∙_, ap, subst}
+use native.Mathlib.Omega.{arith}
 use mathlib.Core.Bool.{Bool, true, false, not, So}
 use mathlib.Core.List.{List, _∷_, []}
+use mathlib.Core.Path.{_≡_, refl, sym, _∙_, ap, subst}
 use borrow.Author.Tests.{eq-eqb, eqb-false, ltb-true, le-leb, lt-ltb}
 use lib.Dec.{eqb}
-use Rattle.table.proofs.Laws.Cases.{no-so, isnt-so}
-use Rattle.table.proofs.Laws.SignalBits.{has-with-other, with-signal-lt}
 use Rattle.table.proofs.Keeps.Changed.{shape-at}
-use Rattle.table.proofs.Laws.Facts.{Facts, Taken, Lives, Other, SignalsOk, lives-taken, not-ended}
-use Rattle.table.proofs.Keeps.InitKeeps.{Sane, end-sane}
+use Rattle.table.proofs.Keeps.InitKeeps.{end-sane}
 use Rattle.table.proofs.Keeps.PutKeeps.{signalled-sane}
+use Rattle.table.proofs.Laws.Cases.{no-so, isnt-so}
+use Rattle.table.proofs.Laws.Facts.{Facts, Taken, Lives, Other, SignalsOk, lives-taken, not-ended, Sane}
 use Rattle.table.proofs.Laws.Quant.{left, right, both, isnt-not, or-false-left, or-false-right}
+use Rattle.table.proofs.Laws.SignalBits.{has-with-other, with-signal-lt}
 use Rattle.table.specs.Delivery.{act, action-on, default-action, deliver, deliver-all, resumed, with-pending}
 use Rattle.table.specs.Limits.{process-slots, signals, sigkill, sigcont, sigstop}
 use Rattle.table.specs.Read.{View, init, is-init, living, view}
 use Rattle.table.specs.SignalSets.{has, with-signal}
 use Rattle.table.specs.Tests.{_and_, _or_, if_then_else_}
-use Rattle.table.specs.declared.Action.{Action}
 use Rattle.table.specs.declared.Action.the-variants.{Finish, Nothing, Pend, Resume, Stop}
+use Rattle.table.specs.declared.Action.{Action}
 use Rattle.table.specs.declared.End.the-variants.{Signaled}
 use Rattle.table.specs.declared.State.the-variants.{Running, Stopped}
 use Rattle.table.specs.declared.Table.{Table}

@@ -9,13 +9,13 @@ use Rattle.table.proofs.Keeps.Changes.{Change, ends, signals-of, turns,
 use Rattle.table.proofs.Keeps.Fixed.{made-fixed}
 use Rattle.table.proofs.Keeps.Freed.{restrict, kept-root}
 use Rattle.table.proofs.Keeps.FreedKeeps.{freed-view}
-use Rattle.table.proofs.Keeps.InitKeeps.{Sane, sane, subtree-view}
+use Rattle.table.proofs.Keeps.InitKeeps.{subtree-view}
 use Rattle.table.proofs.Keeps.MemberKeeps.{member-view}
 use Rattle.table.proofs.Keeps.Premises as K
 use Rattle.table.proofs.Keeps.PutKeeps.{new-namespace-view}
 use Rattle.table.proofs.Laws.Below.{deep-namespace, deep-other, stepwise}
 use Rattle.table.proofs.Laws.Cases.{no-so, alive-unborn, dead-unborn}
-use Rattle.table.proofs.Laws.Facts.{Facts, facts, Taken, Stands, Lives, Below, Seen, Other, lives-taken, not-ended, seen-taken, seen-below}
+use Rattle.table.proofs.Laws.Facts.{Facts, facts, Taken, Stands, Lives, Below, Seen, Other, lives-taken, not-ended, seen-taken, seen-below, Sane, sane}
 use Rattle.table.proofs.Laws.Quant.{cases}
 use Rattle.table.proofs.Laws.Slots.{alive-taken}
 use Rattle.table.proofs.Laws.Steps.{made-or-refused}
@@ -32,8 +32,8 @@ use Rattle.table.specs.Sound.{SoundTable, kept-end}
 use Rattle.table.specs.Step.{make}
 use Rattle.table.specs.Tests.{if_then_else_}
 use Rattle.table.specs.declared.End.{End}
-use Rattle.table.specs.declared.Life.{Life}
 use Rattle.table.specs.declared.Life.the-variants.{Unborn, Alive, Dead}
+use Rattle.table.specs.declared.Life.{Life}
 use Rattle.table.specs.declared.State.the-variants.{Ended}
 use Rattle.table.specs.declared.Table.{Table}
 

@@ -1,29 +1,30 @@
 -- A signal finds exactly the processes of the caller's namespace and those below.
 use Prim.Native.Nat.{ℕ, _<_, zero, suc}
 use native.Mathlib.Omega.{arith}
-use mathlib.Core.Logic.{_↔_, inl, inr, ⊎-elim}
-use mathlib.Core.Path.{_≡_, refl, sym, _∙_, ap, ap₂, subst}
 use mathlib.Core.Bool.{Bool, true, false, not, So}
 use mathlib.Core.List.{List, _∷_, []}
+use mathlib.Core.Logic.{_↔_, inl, inr, ⊎-elim}
+use mathlib.Core.Path.{_≡_, refl, sym, _∙_, ap, ap₂, subst}
 use borrow.Author.Tests.{ne-eqb, eqb-true, le-leb, lt-ltb, eq-eqb, eqb-false}
 use lib.Dec.{eqb}
 use lib.IntN.{ℤ, pos, negsuc}
 use lib.ListN.{length}
+use Rattle.table.proofs.Keeps.Changed.{changed-at, stored, process-count}
+use Rattle.table.proofs.Keeps.Changes.{start, act-run}
+use Rattle.table.proofs.Keeps.Deliver.{Each, Safe, Good, action-good, deliver-sane, deliver-all-sane}
+use Rattle.table.proofs.Keeps.Fixed.{Shrinks, shrinks-trans, run-shrinks}
+use Rattle.table.proofs.Keeps.InitKeeps.{subtree-view}
+use Rattle.table.proofs.Keeps.MemberKeeps.{member-view}
+use Rattle.table.proofs.Keeps.NewPid.{found, free-is}
+use Rattle.table.proofs.Keeps.Premises as K
 use Rattle.table.proofs.Laws.Below.{below-trans, below-level}
 use Rattle.table.proofs.Laws.Cases.{isnt-so, zero-or}
-use Rattle.table.proofs.Keeps.Changed.{changed-at, stored, process-count}
-use Rattle.table.proofs.Keeps.Deliver.{Each, Safe, Good, action-good, deliver-sane, deliver-all-sane}
-use Rattle.table.proofs.Laws.Facts.{Facts, Taken, Stands, Lives, Below, Seen, Other, lives-taken, seen-taken, seen-below, is-seen, facts}
-use Rattle.table.proofs.Keeps.Fixed.{Shrinks, shrinks-trans, run-shrinks}
-use Rattle.table.proofs.Keeps.Changes.{start, act-run}
-use Rattle.table.proofs.Keeps.InitKeeps.{Sane, sane, subtree-view}
-use Rattle.table.proofs.Keeps.MemberKeeps.{member-view}
-use Rattle.table.proofs.Keeps.Premises as K
-use Rattle.table.proofs.Keeps.NewPid.{found, free-is}
+use Rattle.table.proofs.Laws.Facts.{Facts, Taken, Stands, Lives, Below, Seen, Other, lives-taken, seen-taken, seen-below, is-seen, facts, Sane, sane}
 use Rattle.table.proofs.Laws.Lists.{In, some-of-in, in-some-of, only-in, in-only, in-ascending, ascending-in}
 use Rattle.table.proofs.Laws.Quant.{left, right, both, isnt-not}
 use Rattle.table.proofs.Laws.Slots.{pid-pos}
 use Rattle.table.proofs.Laws.Steps.{made-or-refused}
+use Rattle.table.proofs.Sameness.Find.{find-cases}
 use Rattle.table.specs.Answers.{answers, granted, refused}
 use Rattle.table.specs.Calls.{kill, names-group, natural, targets, within, named, others, pid-to}
 use Rattle.table.specs.Claims.{SignalFinds, meant}
@@ -36,17 +37,16 @@ use Rattle.table.specs.Records.{changed, put}
 use Rattle.table.specs.Sound.{SoundTable, kept-end, shaped}
 use Rattle.table.specs.Step.{make, step, runs}
 use Rattle.table.specs.Tests.{if_then_else_, _and_, some-of}
-use Rattle.table.specs.declared.Action.{Action}
 use Rattle.table.specs.declared.Action.the-variants.{Finish, Nothing, Pend, Resume, Stop}
+use Rattle.table.specs.declared.Action.{Action}
 use Rattle.table.specs.declared.Call.the-variants.{Kill}
-use Rattle.table.specs.declared.End.{End}
 use Rattle.table.specs.declared.End.the-variants.{Signaled}
-use Rattle.table.specs.declared.Outcome.{Outcome}
-use Rattle.table.specs.declared.State.the-variants.{Ended}
+use Rattle.table.specs.declared.End.{End}
 use Rattle.table.specs.declared.Namespace.{Namespace}
+use Rattle.table.specs.declared.Outcome.{Outcome}
 use Rattle.table.specs.declared.Process.{Process}
+use Rattle.table.specs.declared.State.the-variants.{Ended}
 use Rattle.table.specs.declared.Table.{Table}
-use Rattle.table.proofs.Sameness.Find.{find-cases}
 
 -- a number that is seen names its process
 pub finds : (v : View) → Facts v → (n i : ℕ) → Stands v n → Seen v n i → find v n (pid-seen v n i) ≡ i

@@ -1,9 +1,9 @@
 -- A table that is sound up to freeing is sound once freed.
-use mathlib.Core.Path.{_≡_, refl, sym, _∙_, subst}
 use mathlib.Core.Bool.{Bool, true, false, So}
+use mathlib.Core.Path.{_≡_, refl, sym, _∙_, subst}
 use Rattle.table.proofs.Keeps.Changed.{view-changed, shaped-changed}
-use Rattle.table.proofs.Laws.Facts.{Facts, Held, sound-from}
 use Rattle.table.proofs.Keeps.Freed.{restrict, freed-pre, freed-held}
+use Rattle.table.proofs.Laws.Facts.{Facts, Held, sound-from}
 use Rattle.table.specs.Freeing.{freed, kept}
 use Rattle.table.specs.Fresh.{empty-namespace}
 use Rattle.table.specs.Read.{namespace, no-namespace, view}

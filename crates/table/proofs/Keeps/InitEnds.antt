@@ -1,23 +1,23 @@
 -- The end of an init: its subtree goes down. It keeps a table sound up to freeing.
 use Prim.Native.Nat.{ℕ, zero, suc}
 use native.Mathlib.Omega.{arith}
+use mathlib.Core.Bool.{Bool, true, false, So, false≢true}
 use mathlib.Core.Logic.{_⊎_, inl, inr, ⊎-elim}
 use mathlib.Core.Path.{_≡_, refl, sym, _∙_, ap, subst}
-use mathlib.Core.Bool.{Bool, true, false, So, false≢true}
 use borrow.Author.Tests.{eqb-true}
 use lib.Dec.{eqb}
-use Rattle.table.proofs.Laws.Cases.{yes-or-no, no-so, isnt-so, false-and, zero-or}
-use Rattle.table.proofs.Laws.SignalSets.{no-signals}
 use Rattle.table.proofs.Laws.Below.{below-trans, below-up, shallow-below, no-level}
+use Rattle.table.proofs.Laws.Cases.{yes-or-no, no-so, isnt-so, false-and, zero-or}
 use Rattle.table.proofs.Laws.Facts.{Facts, Taken, Stands, Lives, Below, Seen, Other, SignalsOk, lives-taken, is-seen, seen-taken, seen-below}
 use Rattle.table.proofs.Laws.Quant.{left, right, both, all-intro}
 use Rattle.table.proofs.Laws.Reach.{reach-zero, reach-step, reach-cases}
+use Rattle.table.proofs.Laws.SignalSets.{no-signals}
 use Rattle.table.specs.Limits.{levels, no-slot, process-slots}
 use Rattle.table.specs.Read.{View, alive, below, dead, init, init-of, is-alive, is-init, living, namespace-taken, pid-seen, seen, taken, unborn}
 use Rattle.table.specs.Sound.{kept-end, reaches-root, zero-namespace, zero-process}
 use Rattle.table.specs.Tests.{_and_, if_then_else_}
-use Rattle.table.specs.declared.End.{End}
 use Rattle.table.specs.declared.End.the-variants.{Signaled}
+use Rattle.table.specs.declared.End.{End}
 use Rattle.table.specs.declared.Life.the-variants.{Dead}
 use Rattle.table.specs.declared.State.the-variants.{Running, Ended}
 

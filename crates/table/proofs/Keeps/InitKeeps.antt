@@ -1,28 +1,26 @@
 -- The end of a process, as a table.
 use Prim.Native.Nat.{ℕ, _≤_}
 use native.Mathlib.Omega.{arith}
-use mathlib.Core.Path.{_≡_, refl, sym, _∙_, ap, subst}
 use mathlib.Core.Bool.{Bool, true, false, not, So}
+use mathlib.Core.Path.{_≡_, refl, sym, _∙_, ap, subst}
 use lib.Dec.{eqb}
-use Rattle.table.proofs.Laws.Cases.{isnt-so}
-use Rattle.table.proofs.Laws.Below.{shallow-below, no-level}
 use Rattle.table.proofs.Keeps.Changed.{getD-replicate, view-changed, shaped-changed, process-shaped}
-use Rattle.table.proofs.Laws.Facts.{Facts, Lives, Other, lives-taken, seen-taken, facts, shape}
-use Rattle.table.proofs.Keeps.FreedKeeps.{freed-keeps}
 use Rattle.table.proofs.Keeps.InitEnds.{gone, subtree-gone, subtree-pre}
 use Rattle.table.proofs.Keeps.MemberEnds.{member-pre}
 use Rattle.table.proofs.Keeps.MemberKeeps.{member-view, member-shape}
+use Rattle.table.proofs.Laws.Below.{shallow-below, no-level}
+use Rattle.table.proofs.Laws.Cases.{isnt-so}
+use Rattle.table.proofs.Laws.Facts.{Facts, Lives, Other, lives-taken, seen-taken, facts, Sane}
 use Rattle.table.proofs.Laws.Quant.{left, both}
 use Rattle.table.specs.Ends.{end, init-ends, namespace-dies}
-use Rattle.table.specs.Freeing.{freed}
 use Rattle.table.specs.Fresh.{empty-process}
 use Rattle.table.specs.Limits.{levels, namespace-slots, no-slot, process-slots}
 use Rattle.table.specs.Read.{View, below, is-ended, is-init, namespace, no-pid, pid-at, process, seen, view}
 use Rattle.table.specs.Records.{as-ended, changed, with-life}
-use Rattle.table.specs.Sound.{SoundTable, kept-end, shaped}
+use Rattle.table.specs.Sound.{kept-end, shaped}
 use Rattle.table.specs.Tests.{_and_, if_then_else_}
-use Rattle.table.specs.declared.End.{End}
 use Rattle.table.specs.declared.End.the-variants.{Signaled}
+use Rattle.table.specs.declared.End.{End}
 use Rattle.table.specs.declared.Life.the-variants.{Dead}
 use Rattle.table.specs.declared.Namespace.{Namespace}
 use Rattle.table.specs.declared.Process.{Process}
@@ -126,10 +124,6 @@ module _ (t : Table) (g : So (shaped t)) (f : Facts (view t)) (p : ℕ) (e : End
 
 -- ---- an end, of any process but the root init
 
-pub record Sane (t : Table) : Type 0 where
-  pub shape-of : So (shaped t)
-  pub facts : Facts (view t)
-
 pub end-sane : (t : Table) → Sane t → (p : ℕ) (e : End) → Lives (view t) p → Other p → So (kept-end (Ended e)) → Sane (end t p e)
 unfolding end
 end-sane t s p e lives other ok = go (is-init (view t) p) refl
@@ -137,9 +131,3 @@ end-sane t s p e lives other ok = go (is-init (view t) p) refl
     go : (b : Bool) → is-init (view t) p ≡ b → Sane (end t p e)
     go true i = rw (i, end) (record { shape-of = subtree-shape t (s .shape-of) (s .facts) p e lives i other ok; facts = subst Facts (sym (subtree-view t (s .shape-of) (s .facts) p e lives i other ok)) (subtree-pre (view t) (s .facts) p e lives i other ok) })
     go false i = rw (i, end) (record { shape-of = member-shape t (s .shape-of) (s .facts) p e lives i ok; facts = subst Facts (sym (member-view t (s .shape-of) (s .facts) p e lives i ok)) (member-pre (view t) (s .facts) p e lives i ok) })
-
-pub freed-sane : (t : Table) → Sane t → SoundTable (freed t)
-freed-sane t s = freed-keeps t (s .shape-of) (s .facts)
-
-pub sane : (t : Table) → SoundTable t → Sane t
-sane t h = record { shape-of = shape t h; facts = facts t h }

@@ -1,18 +1,18 @@
 -- The end of a process that is no init keeps a table sound up to freeing.
 use Prim.Native.Nat.{ℕ, zero, suc}
-use native.Mathlib.Omega.{arith}
 use native.Mathlib.Decide.{ℕ-discrete}
+use native.Mathlib.Omega.{arith}
+use mathlib.Core.Bool.{true, false, So, false≢true}
 use mathlib.Core.Logic.{_⊎_, inl, inr, ⊎-elim}
 use mathlib.Core.Path.{_≡_, refl, sym, _∙_, ap, subst}
-use mathlib.Core.Bool.{true, false, So, false≢true}
 use borrow.Author.Tests.{eq-eqb, ne-eqb}
 use lib.Dec.{eqb}
-use Rattle.table.proofs.Laws.Cases.{and-false, false-and, zero-or, life-cases}
-use Rattle.table.proofs.Laws.SignalSets.{no-signals}
 use Rattle.table.proofs.Laws.Below.{below-trans, up-not-below}
+use Rattle.table.proofs.Laws.Cases.{and-false, false-and, zero-or, life-cases}
 use Rattle.table.proofs.Laws.Facts.{Facts, Taken, Stands, Lives, Below, Other, lives-taken, not-ended, root-namespace, is-seen}
 use Rattle.table.proofs.Laws.Quant.{left, right, both}
 use Rattle.table.proofs.Laws.Reach.{reach-bounded, reach-zero, reach-step, reach-cases, no-self}
+use Rattle.table.proofs.Laws.SignalSets.{no-signals}
 use Rattle.table.proofs.Laws.Tree.{below-refl}
 use Rattle.table.specs.Limits.{no-slot, process-slots}
 use Rattle.table.specs.Read.{View, alive, below, child-of, init, is-init, living, namespace-taken, pid-seen, seen, taken}

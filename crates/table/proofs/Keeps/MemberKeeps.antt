@@ -1,15 +1,15 @@
 -- exit by a process that is no init keeps a table sound.
 use Prim.Native.Nat.{ℕ, _≤_, _-_, _%_, pred}
 use native.Mathlib.Omega.{arith}
-use mathlib.Core.Path.{_≡_, refl, _∙_, ap}
 use mathlib.Core.Bool.{Bool, true, false, not, So, false≢true}
+use mathlib.Core.Path.{_≡_, refl, _∙_, ap}
 use borrow.Author.Tests.{ne-eqb, lt-ltb}
 use lib.Dec.{eqb}
 use lib.IntN.{ℤ, pos, negsuc}
-use Rattle.table.proofs.Laws.Cases.{false-and}
 use Rattle.table.proofs.Keeps.Changed.{view-changed, shaped-changed, process-shaped}
-use Rattle.table.proofs.Laws.Facts.{Facts, Lives, lives-taken}
 use Rattle.table.proofs.Keeps.MemberEnds.{member-gone}
+use Rattle.table.proofs.Laws.Cases.{false-and}
+use Rattle.table.proofs.Laws.Facts.{Facts, Lives, lives-taken}
 use Rattle.table.proofs.Laws.Quant.{left, right, both}
 use Rattle.table.specs.Calls.{status}
 use Rattle.table.specs.Ends.{member-ends}
@@ -19,11 +19,11 @@ use Rattle.table.specs.Records.{as-ended, changed, with-parent}
 use Rattle.table.specs.Sound.{kept-end, shaped}
 use Rattle.table.specs.Step.{runs}
 use Rattle.table.specs.Tests.{if_then_else_}
-use Rattle.table.specs.declared.End.{End}
 use Rattle.table.specs.declared.End.the-variants.{Exited}
+use Rattle.table.specs.declared.End.{End}
 use Rattle.table.specs.declared.Process.{Process}
-use Rattle.table.specs.declared.State.{State}
 use Rattle.table.specs.declared.State.the-variants.{Running, Stopped, Ended}
+use Rattle.table.specs.declared.State.{State}
 use Rattle.table.specs.declared.Table.{Table}
 
 module _ (t : Table) (g : So (shaped t)) (f : Facts (view t)) (p : ℕ) (e : End) (lives : Lives (view t) p) (no-init : is-init (view t) p ≡ false) (ok : So (kept-end (Ended e))) where

@@ -1,21 +1,21 @@
 -- A new namespace, unborn, keeps a table sound up to its holder.
 use Prim.Native.Nat.{ℕ, zero, suc, _<_, _≤_}
 use native.Mathlib.Omega.{arith}
+use mathlib.Core.Bool.{Bool, true, false, So, false≢true}
 use mathlib.Core.Logic.{_⊎_, inl, inr, ⊎-elim}
 use mathlib.Core.Path.{_≡_, refl, sym, _∙_, ap, subst}
-use mathlib.Core.Bool.{Bool, true, false, So, false≢true}
 use borrow.Author.Tests.{eq-eqb, ne-eqb}
 use lib.Dec.{eqb}
-use Rattle.table.proofs.Laws.Cases.{same-or}
 use Rattle.table.proofs.Laws.Below.{above-namespace, deep-namespace, deep-other, stepwise, below-up}
+use Rattle.table.proofs.Laws.Cases.{same-or}
 use Rattle.table.proofs.Laws.Facts.{Holder, root, member, for-children, child, Facts, Held, Taken, Stands, Lives, Below, Seen, Other, child-namespace, seen-taken, seen-below, root-namespace}
+use Rattle.table.proofs.Laws.Quant.{left, right, both}
 use Rattle.table.proofs.Laws.Tree.{below-refl}
 use Rattle.table.specs.Limits.{deepest, namespace-slots}
 use Rattle.table.specs.Pids.{free-slot}
 use Rattle.table.specs.Read.{View, below, climb, dead, living, namespace-taken, pid-seen, seen, taken, unborn}
 use Rattle.table.specs.Sound.{zero-namespace, zero-process}
 use Rattle.table.specs.Tests.{if_then_else_}
-use Rattle.table.proofs.Laws.Quant.{left, right, both}
 use Rattle.table.specs.declared.Life.the-variants.{Unborn}
 
 abbrev pub with-namespace : View → ℕ → ℕ → View

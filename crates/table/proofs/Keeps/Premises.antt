@@ -1,25 +1,24 @@
 -- What a call needs of a sound table: free slots, whom a number names, when a child may be born.
 use Prim.Native.Nat.{ℕ, zero, suc, _<_, _≤_, _^_}
 use native.Mathlib.Omega.{arith}
-use mathlib.Core.Logic.{_⊎_}
-use mathlib.Core.Path.{_≡_, refl, sym, _∙_, ap, subst}
 use mathlib.Core.Bool.{Bool, true, false, not, So, false≢true}
 use mathlib.Core.List.{List, _∷_, []}
+use mathlib.Core.Logic.{_⊎_}
+use mathlib.Core.Path.{_≡_, refl, sym, _∙_, ap, subst}
 use borrow.Author.Tests.{eqb-false, leb-true, ltb-true}
 use lib.Dec.{eqb, ltb}
 use lib.IntN.{ℤ, pos, negsuc}
-use Rattle.table.proofs.Laws.Cases.{no-so, isnt-so}
-use Rattle.table.proofs.Laws.Below.{shallow-below, low-level}
 use Rattle.table.proofs.Keeps.Birth.{born-pre, born-held}
 use Rattle.table.proofs.Keeps.BirthKeeps.{birth-view, birth-shape}
 use Rattle.table.proofs.Keeps.Deliver.{Each, Safe}
-use Rattle.table.proofs.Laws.Facts.{Holder, Facts, Held, Taken, Stands, Lives, Below, Seen, SignalsOk, lives-taken, not-ended, seen-below, facts, held-in, shape, sound-from}
-use Rattle.table.proofs.Keeps.Signal.{signalled-held}
-use Rattle.table.proofs.Keeps.InitKeeps.{sane}
-use Rattle.table.proofs.Laws.Lowest.{lowest-is}
 use Rattle.table.proofs.Keeps.MemberKeeps.{runs-lives, running-not-ended}
 use Rattle.table.proofs.Keeps.NewNamespace.{Ready, ready, with-namespace}
-use Rattle.table.proofs.Keeps.PutKeeps.{signalled-sane, signalled-view, new-namespace-view, new-namespace-shape}
+use Rattle.table.proofs.Keeps.PutKeeps.{signalled-sane, signalled-view, new-namespace-view}
+use Rattle.table.proofs.Keeps.Signal.{signalled-held}
+use Rattle.table.proofs.Laws.Below.{shallow-below, low-level}
+use Rattle.table.proofs.Laws.Cases.{no-so, isnt-so}
+use Rattle.table.proofs.Laws.Facts.{Holder, Facts, Held, Taken, Stands, Lives, Below, Seen, SignalsOk, lives-taken, not-ended, seen-below, facts, held-in, sound-from, sane}
+use Rattle.table.proofs.Laws.Lowest.{lowest-is}
 use Rattle.table.proofs.Laws.Quant.{left, right}
 use Rattle.table.specs.Births.{birth}
 use Rattle.table.specs.Calls.{named, natural, new-namespace, others, targets, within}
@@ -167,7 +166,4 @@ module _ (t : Table) (c : ℕ) (h : SoundTable t) (r : So (runs (view t) c)) whe
     next = new-namespace t c
 
     pub ready-next : Ready (view (new-namespace t c)) c j (free-slot v)
-    ready-next = subst (λ u. Ready u c j (free-slot v)) (sym (new-namespace-view t (shape t h) c j-low)) (ready v f a j a-namespace low not-dead (f .members c here .1) j-low j-free c lives refl (held-in t h))
-
-    pub next-shape : So (shaped (new-namespace t c))
-    next-shape = new-namespace-shape t (shape t h) c j-low
+    ready-next = subst (λ u. Ready u c j (free-slot v)) (sym (new-namespace-view t (h .shape) c j-low)) (ready v f a j a-namespace low not-dead (f .members c here .1) j-low j-free c lives refl (held-in t h))

@@ -1,21 +1,20 @@
 -- The changes of one slot, as tables.
 use Prim.Native.Nat.{ℕ, suc, _<_, _^_}
-use native.Mathlib.Omega.{arith}
 use native.Mathlib.Decide.{decLt}
-use mathlib.Core.Path.{_≡_, refl, sym, _∙_, ap, subst}
+use native.Mathlib.Omega.{arith}
 use mathlib.Core.Bool.{Bool, false, So, false≢true}
+use mathlib.Core.Path.{_≡_, refl, sym, _∙_, ap, subst}
 use borrow.Author.Tests.{lt-ltb}
 use lib.Dec.{eqb}
 use lib.ListN.{List·getD-eq-default}
-use Rattle.table.proofs.Laws.Cases.{isnt-so}
 use Rattle.table.proofs.Keeps.Changed.{getD-replicate, view-put, shaped-put, shape-at, pick, pick-same, process-count, view-put-namespace, shaped-put-namespace}
-use Rattle.table.proofs.Laws.Facts.{Facts, Taken, Stands, Lives, Below, SignalsOk, lives-taken, not-ended}
-use Rattle.table.proofs.Keeps.InitKeeps.{Sane}
 use Rattle.table.proofs.Keeps.NewNamespace.{with-namespace}
-use Rattle.table.proofs.Laws.Quant.{left, both}
 use Rattle.table.proofs.Keeps.Reap.{without, reaped-pre}
-use Rattle.table.proofs.Keeps.Signal.{with-signalled, signalled-pre}
 use Rattle.table.proofs.Keeps.SetChildren.{with-other-children, set-children-pre}
+use Rattle.table.proofs.Keeps.Signal.{with-signalled, signalled-pre}
+use Rattle.table.proofs.Laws.Cases.{isnt-so}
+use Rattle.table.proofs.Laws.Facts.{Facts, Taken, Stands, Lives, Below, SignalsOk, lives-taken, not-ended, Sane}
+use Rattle.table.proofs.Laws.Quant.{left, both}
 use Rattle.table.specs.Calls.{new-namespace}
 use Rattle.table.specs.Fresh.{empty-process}
 use Rattle.table.specs.Limits.{levels, namespace-slots, process-slots, signals}

@@ -1,8 +1,8 @@
 -- The removal of an ended process keeps a table sound up to freeing.
 use Prim.Native.Nat.{ℕ, zero, suc}
+use mathlib.Core.Bool.{false, So, false≢true}
 use mathlib.Core.Logic.{⊎-elim}
 use mathlib.Core.Path.{_≡_, refl, sym, _∙_, subst}
-use mathlib.Core.Bool.{false, So, false≢true}
 use borrow.Author.Tests.{eq-eqb, ne-eqb}
 use lib.Dec.{eqb}
 use Rattle.table.proofs.Laws.Cases.{zero-or, same-or}

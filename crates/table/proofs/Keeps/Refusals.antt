@@ -14,13 +14,13 @@ use Rattle.table.specs.Sound.{sound}
 use Rattle.table.specs.Step.{make, runs, step}
 use Rattle.table.specs.Tests.{_or_, if_then_else_, any}
 use Rattle.table.specs.declared.Answer.the-variants.{Refused}
-use Rattle.table.specs.declared.Call.{Call}
 use Rattle.table.specs.declared.Call.the-variants.{Clone, CloneNew, Unshare, Setns, Kill, Exit, Wait, Getpid, Getppid, Handle, Poll}
+use Rattle.table.specs.declared.Call.{Call}
 use Rattle.table.specs.declared.Outcome.{Outcome}
-use Rattle.table.specs.declared.Refusal.{Refusal}
 use Rattle.table.specs.declared.Refusal.the-variants.{Unsound, NotRunning, Einval, Enosys, Esrch, Ebusy, Echild, Enospc, Enomem, Eagain}
-use Rattle.table.specs.declared.State.{State}
+use Rattle.table.specs.declared.Refusal.{Refusal}
 use Rattle.table.specs.declared.State.the-variants.{Running, Stopped, Ended}
+use Rattle.table.specs.declared.State.{State}
 use Rattle.table.specs.declared.Table.{Table}
 
 -- If the outcome is a refusal, it leaves t and tells no slot.

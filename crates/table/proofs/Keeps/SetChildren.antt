@@ -1,8 +1,8 @@
 -- Another children's namespace keeps a table sound up to freeing.
 use Prim.Native.Nat.{ℕ}
+use mathlib.Core.Bool.{Bool, So}
 use mathlib.Core.Logic.{_⊎_, inl, inr, ⊎-elim}
 use mathlib.Core.Path.{_≡_, sym, _∙_, ap, subst}
-use mathlib.Core.Bool.{Bool, So}
 use borrow.Author.Tests.{eq-eqb, ne-eqb}
 use lib.Dec.{eqb}
 use Rattle.table.proofs.Laws.Cases.{same-or}

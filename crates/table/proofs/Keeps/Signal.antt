@@ -1,8 +1,8 @@
 -- Another state, not ended, and other signals keep a table sound.
 use Prim.Native.Nat.{ℕ}
+use mathlib.Core.Bool.{So}
 use mathlib.Core.Logic.{⊎-elim}
 use mathlib.Core.Path.{sym, subst}
-use mathlib.Core.Bool.{So}
 use borrow.Author.Tests.{eq-eqb, ne-eqb}
 use lib.Dec.{eqb}
 use Rattle.table.proofs.Laws.Cases.{same-or}

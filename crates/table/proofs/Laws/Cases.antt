@@ -1,17 +1,17 @@
 -- Cases of a test, of a number, of a condition.
 use Prim.Native.Nat.{ℕ}
 use native.Mathlib.Decide.{ℕ-discrete}
+use mathlib.Core.Bool.{Bool, true, false, So, false≢true}
 use mathlib.Core.Logic.{_⊎_, inl, inr}
 use mathlib.Core.Path.{_≡_, refl, sym, _∙_}
-use mathlib.Core.Bool.{Bool, true, false, So, false≢true}
 use borrow.Author.Tests.{ne-eqb}
 use lib.Dec.{eqb}
 use Rattle.table.proofs.Laws.Iff.{not-iff}
 use Rattle.table.proofs.Laws.Quant.{isnt}
 use Rattle.table.specs.Read.{is-alive, is-dead, is-unborn}
 use Rattle.table.specs.Tests.{_and_}
-use Rattle.table.specs.declared.Life.{Life}
 use Rattle.table.specs.declared.Life.the-variants.{Unborn, Alive, Dead}
+use Rattle.table.specs.declared.Life.{Life}
 
 pub yes-or-no : (b : Bool) → So b ⊎ (b ≡ false)
 yes-or-no true = inl refl

@@ -2,9 +2,9 @@
 use Prim.Native.Nat.{ℕ, suc, _<_, _≤_}
 use native.Mathlib.Decide.{decLt}
 use native.Mathlib.Omega.{arith}
+use mathlib.Core.Bool.{Bool, true, false, not, So}
 use mathlib.Core.Logic.{_⊎_, inl, inr, ⊎-elim}
 use mathlib.Core.Path.{_≡_, refl, sym, _∙_, ap, subst}
-use mathlib.Core.Bool.{Bool, true, false, not, So}
 use borrow.Author.Tests.{eq-eqb, eqb-true}
 use lib.Dec.{eqb, leb}
 use lib.ListN.{length, List·getD-eq-default}
@@ -14,9 +14,9 @@ use Rattle.table.proofs.Laws.Quant.{left, right, both, cases, or-left, 
 use Rattle.table.specs.Limits.{deepest, greatest-pid, levels, namespace-slots, no-slot, process-slots, signals}
 use Rattle.table.specs.Read.{View, view, no-process, no-namespace, taken, namespace-taken, living, alive, dead, unborn, init, below, seen, pid-seen, is-running, is-unborn, pid-at}
 use Rattle.table.specs.SignalSets.{has}
+use Rattle.table.specs.Sound as S
 use Rattle.table.specs.Sound.{SoundTable, held, holds, kept-end, reaches-root, shaped, zero-namespace, zero-process}
 use Rattle.table.specs.Tests.{_and_, if_then_else_, one, all}
-use Rattle.table.specs.Sound as S
 use Rattle.table.specs.declared.Namespace.{Namespace}
 use Rattle.table.specs.declared.Process.{Process}
 use Rattle.table.specs.declared.Table.{Table}
@@ -308,8 +308,13 @@ facts t h = facts-of (view t) (past-of t (h .shape)) (sound-is (view t) (h .rule
 pub held-in : (t : Table) → SoundTable t → Held (view t)
 held-in t h = held-of (view t) (past-of t (h .shape)) (sound-is (view t) (h .rules))
 
-pub shape : (t : Table) → SoundTable t → So (shaped t)
-shape t h = h .shape
-
 pub sound-from : (t : Table) → So (shaped t) → Facts (view t) → Held (view t) → SoundTable t
 sound-from t g p h = record { shape = g; rules = is-sound (view t) (is-sound-view (view t) p h) }
+
+-- A table in the middle of a call: of the declared type, with all facts but those that freeing restores.
+pub record Sane (t : Table) : Type 0 where
+  pub shape-of : So (shaped t)
+  pub facts : Facts (view t)
+
+pub sane : (t : Table) → SoundTable t → Sane t
+sane t h = record { shape-of = h .shape; facts = facts t h }

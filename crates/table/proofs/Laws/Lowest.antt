@@ -1,9 +1,9 @@
 -- The lowest number of which a test holds.
 use Prim.Native.Nat.{ℕ, zero, suc, _<_, _≤_, _+_}
-use native.Mathlib.Omega.{arith}
 use native.Mathlib.Decide.{ℕ-discrete}
-use mathlib.Core.Path.{_≡_, refl}
+use native.Mathlib.Omega.{arith}
 use mathlib.Core.Bool.{Bool, true, false, So}
+use mathlib.Core.Path.{_≡_, refl}
 use Rattle.table.specs.Tests.{lowest}
 
 pub record Lowest (f : ℕ → Bool) (n k r : ℕ) : Type 0 where

@@ -1,11 +1,11 @@
 -- Laws of the tests. A test holds where it is `true`: `So b` is `b ≡ true`.
 use Prim.Native.Nat.{ℕ, zero, suc, _<_}
-use native.Mathlib.Nat.{not-suc-le-zero}
 use native.Mathlib.Decide.{ℕ-discrete}
+use native.Mathlib.Nat.{not-suc-le-zero}
 use native.Mathlib.Omega.{arith}
+use mathlib.Core.Bool.{Bool, true, false, not, So, false≢true}
 use mathlib.Core.Logic.{_⊎_, inl, inr}
 use mathlib.Core.Path.{_≡_, refl, sym, _∙_, ap}
-use mathlib.Core.Bool.{Bool, true, false, not, So, false≢true}
 use Rattle.table.specs.Tests.{_and_, _implies_, _or_, agree, all, any}
 
 pub left : (a b : Bool) → So (a and b) → So a

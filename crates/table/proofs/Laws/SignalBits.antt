@@ -4,8 +4,8 @@ use native.Mathlib.Nat.{not-suc-le-zero, le-of-suc-le-suc}
 use native.Mathlib.Omega.{arith}
 use mathlib.Core.Bool.{false, So}
 use mathlib.Core.Path.{_≡_, refl, _∙_, ap}
-use lib.Dec.{eqb}
 use borrow.Author.Tests.{eq-eqb, ne-eqb}
+use lib.Dec.{eqb}
 use Rattle.table.specs.SignalSets.{has, with-signal, without-signal}
 
 pub has-with-same : (m s : ℕ) → So (has (with-signal m s) s)

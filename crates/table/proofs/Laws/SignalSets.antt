@@ -1,11 +1,11 @@
 -- The sets of signals that handle and poll make.
 use Prim.Native.Nat.{ℕ, zero, suc, _≤_}
-use native.Mathlib.Omega.{arith}
 use native.Mathlib.Decide.{ℕ-discrete}
-use mathlib.Core.Path.{_≡_, sym, _∙_, subst}
+use native.Mathlib.Omega.{arith}
 use mathlib.Core.Bool.{So, false≢true}
-use Rattle.table.proofs.Laws.SignalBits.{has-with-same, has-with-other, has-without-same, has-without-other}
+use mathlib.Core.Path.{_≡_, sym, _∙_, subst}
 use Rattle.table.proofs.Laws.Facts.{SignalsOk}
+use Rattle.table.proofs.Laws.SignalBits.{has-with-same, has-with-other, has-without-same, has-without-other}
 use Rattle.table.specs.SignalSets.{has, with-signal, without-signal}
 
 no-bits : (s : ℕ) → So (has 0 s) → ⊥

@@ -17,8 +17,8 @@ use Rattle.table.specs.Limits.{deepest, levels, namespace-slots, no-slot
 use Rattle.table.specs.Read.{View, alive, below, climb, dead, init, is-alive, is-dead, is-unborn, living, namespace-taken, pid-seen, seen, taken, unborn, up-by}
 use Rattle.table.specs.Sound.{zero-namespace}
 use Rattle.table.specs.Tests.{_and_}
-use Rattle.table.specs.declared.Life.{Life}
 use Rattle.table.specs.declared.Life.the-variants.{Unborn, Alive, Dead}
+use Rattle.table.specs.declared.Life.{Life}
 
 -- ---- lives
 

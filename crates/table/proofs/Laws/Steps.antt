@@ -13,8 +13,8 @@ use Rattle.table.specs.Sound.{SoundTable}
 use Rattle.table.specs.Step.{make, runs, step}
 use Rattle.table.specs.Tests.{_or_}
 use Rattle.table.specs.declared.Answer.the-variants.{Number}
-use Rattle.table.specs.declared.Call.{Call}
 use Rattle.table.specs.declared.Call.the-variants.{Getpid, CloneNew}
+use Rattle.table.specs.declared.Call.{Call}
 use Rattle.table.specs.declared.Refusal.the-variants.{NotRunning, Enospc}
 use Rattle.table.specs.declared.Table.{Table}
 

@@ -1,7 +1,7 @@
 -- The nearest living namespace, and the name that a sheet gives.
 use Prim.Native.Nat.{ℕ, zero, suc}
-use native.Mathlib.Omega.{arith}
 use native.Mathlib.Decide.{ℕ-discrete}
+use native.Mathlib.Omega.{arith}
 use mathlib.Core.Bool.{Bool, true, false, So, false≢true}
 use mathlib.Core.Path.{_≡_, refl, sym, _∙_, ap, subst}
 use borrow.Author.Tests.{ne-eqb}
@@ -11,8 +11,8 @@ use Rattle.table.proofs.Laws.Tree.{below-refl}
 use Rattle.table.specs.Limits.{no-slot}
 use Rattle.table.specs.Read.{View, alive, below, init, init-of, is-alive, is-unborn, namespace-taken, pid-in, unborn, up-by}
 use Rattle.table.specs.Sheet.{Name, by-init, dead-at, name, name-by, nearest, nearest-alive, no-name, unborn-name}
-use Rattle.table.specs.declared.Life.{Life}
 use Rattle.table.specs.declared.Life.the-variants.{Unborn, Alive, Dead}
+use Rattle.table.specs.declared.Life.{Life}
 
 abbrev pub anchor : View → ℕ → ℕ
 anchor v n = nearest-alive v (v .level n) n

@@ -1,31 +1,30 @@
 -- clone and clone new by an outsider, the child being born outside S.
 use Prim.Native.Nat.{ℕ, suc, pred, _-_, _<_, _≤_}
-use native.Mathlib.Omega.{arith}
 use native.Mathlib.Decide.{ℕ-discrete}
+use native.Mathlib.Omega.{arith}
 use mathlib.Core.Bool.{Bool, true, false, not, So, false≢true}
 use mathlib.Core.Logic.{inl, inr, ⊎-elim}
 use mathlib.Core.Path.{_≡_, refl, sym, _∙_, ap, subst}
 use borrow.Author.Tests.{eqb-false, ne-eqb}
 use lib.Dec.{eqb}
 use lib.Seq.{getD-set-other}
+use Rattle.table.proofs.Keeps.Changes.{namespace-sane}
+use Rattle.table.proofs.Laws.Facts.{Facts, facts, Sane, sane}
+use Rattle.table.proofs.Laws.Quant.{left, right, both, cases, or-false-left, or-false-right}
+use Rattle.table.proofs.Laws.Slots.{seen-taken, seen-below, children-of, own-taken, living-taken, below-level, below-same, below-trans, below-parent, up-by-level, up-by-end, below-up-by, no-heirs}
+use Rattle.table.proofs.Laws.Tree.{below-refl}
 use Rattle.table.proofs.Sameness.BirthSame.{Lights}
 use Rattle.table.proofs.Sameness.BirthTable.{grown, lights}
-use Rattle.table.proofs.Keeps.Changes.{namespace-sane}
-use Rattle.table.proofs.Sameness.DeliverSame.{Fits, fits-of, fits-sound}
 use Rattle.table.proofs.Sameness.ExitSame.{runs-living}
 use Rattle.table.proofs.Sameness.Grown.{Grown, below-grown, old, seen-grown, life-born, life-other}
-use Rattle.table.proofs.Laws.Facts.{Facts, facts}
-use Rattle.table.proofs.Laws.Slots.{seen-taken, seen-below, children-of, own-taken, living-taken, below-level, below-same, below-trans, below-parent, up-by-level, up-by-end, below-up-by, no-heirs}
 use Rattle.table.proofs.Sameness.Leaves.{stands-leaves}
+use Rattle.table.proofs.Sameness.Namespaces.{children-taken}
 use Rattle.table.proofs.Sameness.NewNamespaceSame.{namespace-remain, the-namespace, taken-other, x-taken, K}
 use Rattle.table.proofs.Sameness.Outside.{MadeLeaves, as-it-was, outsider}
-use Rattle.table.proofs.Laws.Quant.{left, right, both, cases, or-false-left, or-false-right}
 use Rattle.table.proofs.Sameness.Remain.{Remain, seen-remain, below-remain}
 use Rattle.table.proofs.Sameness.Same.{Same}
-use Rattle.table.proofs.Sameness.Namespaces.{children-taken}
-use Rattle.table.proofs.Sameness.Still.{Still, same-still, stands-still, near, near-here, near-up, near-own, near-children}
 use Rattle.table.proofs.Sameness.SetChildrenSame.{everyone}
-use Rattle.table.proofs.Laws.Tree.{below-refl}
+use Rattle.table.proofs.Sameness.Still.{Still, same-still, stands-still, near, near-here, near-up, near-own, near-children}
 use Rattle.table.proofs.Sameness.Twins.{bool-ext}
 use Rattle.table.proofs.Sameness.WaitLeaves.{untouched-made}
 use Rattle.table.specs.Answers.{is-refused, refused}
@@ -108,7 +107,7 @@ module _ (v v′ : View) (f : Facts v) (k n c : ℕ) (w : Grown v v′ k n) (p :
       not-above : (i : ℕ) → So (seen v s i) → below v n (v .own i) ≡ false
       not-above i h = bool-ext _ _ (λ b. absurd (false≢true (sym o ∙ below-trans v f n (v .own i) s b (seen-below v f s i h)))) (λ b. absurd (false≢true b))
 
-module _ (t : Table) (w : Fits t) (c n : ℕ) (tn : So (namespace-taken (view t) n)) (room : free-slot (view t) ≡ process-slots → ⊥) (s : ℕ) (o : below (view t) n s ≡ false) where
+module _ (t : Table) (w : Sane t) (c n : ℕ) (tn : So (namespace-taken (view t) n)) (room : free-slot (view t) ≡ process-slots → ⊥) (s : ℕ) (o : below (view t) n s ≡ false) where
   still : Still (view t) (view (birth t c n)) s (near (view t) s)
   still = birth-still (view t) (view (birth t c n)) (w .facts) (free-slot (view t)) n c (grown t w c n tn room) (lights t w c n tn room) tn s o
 
@@ -127,7 +126,7 @@ clone-leaves t s i h hs k a g = go (dead (view t) (view t .children i)) refl (eq
     go false ea true eb g = rw (ea, eb, clone) (as-it-was t s hs)
     go false ea false eb g =
         rw (ea, eb, clone)
-        (stands-leaves t (birth t i n) s h (rw (ea, eb, clone) at g) hs (birth-stands t (fits-sound t h) i n tn (eqb-false _ _ eb) s o hs) (birth-same t (fits-sound t h) i n tn (eqb-false _ _ eb) s o))
+        (stands-leaves t (birth t i n) s h (rw (ea, eb, clone) at g) hs (birth-stands t (sane t h) i n tn (eqb-false _ _ eb) s o hs) (birth-same t (sane t h) i n tn (eqb-false _ _ eb) s o))
       where
         n : ℕ
         n = view t .children i
@@ -141,8 +140,8 @@ clone-leaves t s i h hs k a g = go (dead (view t) (view t .children i)) refl (eq
 -- ---- a fresh namespace
 
 module _ (t : Table) (h : SoundTable t) (c : ℕ) (room : free-namespace-slot (view t) ≡ namespace-slots → ⊥) (s : ℕ) (hs : So (namespace-taken (view t) s)) where
-  ft : Fits t
-  ft = fits-sound t h
+  ft : Sane t
+  ft = sane t h
 
   abbrev x : ℕ
   x = free-namespace-slot (view t)
@@ -189,7 +188,7 @@ module _ (t : Table) (h : SoundTable t) (c : ℕ) (room : free-namespace-slot (v
   new-seen i = new-still .seens i
 
   -- it is not of S if the caller is not
-  pub new-outside : So (taken (view t) c) → Fits t₁ → seen (view t) s c ≡ false → below (view t₁) x s ≡ false
+  pub new-outside : So (taken (view t) c) → Sane t₁ → seen (view t) s c ≡ false → below (view t₁) x s ≡ false
   unfolding seen
   new-outside tc f₁ o = bool-ext _ _ (λ b. absurd (go b (ℕ-discrete (view t₁ .level x) (view t₁ .level s)))) (λ b. absurd (false≢true b))
     where
@@ -232,11 +231,11 @@ clone-new-leaves t s i h hs k a g = go (eqb (own-level (view t) i) deepest) refl
         li : So (living (view t) i)
         li = runs-living t i k
 
-        f₁ : Fits t₁
-        f₁ = fits-of t₁ (namespace-sane t (fits-sound t h .sane-of) i li (eqb-false _ _ ea) room)
+        f₁ : Sane t₁
+        f₁ = (namespace-sane t (sane t h) i li (eqb-false _ _ ea) room)
 
         tx : So (namespace-taken (view t₁) x)
-        tx = x-taken t (fits-sound t h) i room
+        tx = x-taken t (sane t h) i room
 
         room₁ : free-slot (view t₁) ≡ process-slots → ⊥
         room₁ e = eqb-false _ _ (or-false-left _ _ eb) (sym (same-free t i) ∙ e)

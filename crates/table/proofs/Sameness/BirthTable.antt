@@ -1,7 +1,7 @@
 -- A birth, on one table.
 use Prim.Native.Nat.{ℕ, zero, suc, _-_, _<_, _≤_}
-use native.Mathlib.Omega.{arith}
 use native.Mathlib.Decide.{decLt}
+use native.Mathlib.Omega.{arith}
 use mathlib.Core.Bool.{Bool, true, false, not, So, false≢true}
 use mathlib.Core.Logic.{⊎-elim}
 use mathlib.Core.Path.{_≡_, refl, sym, _∙_, ap, fun-ext}
@@ -9,14 +9,15 @@ use borrow.Author.Tests.{ne-eqb, le-leb}
 use lib.Dec.{leb}
 use lib.ListN.{getD, replicate, getD-replicate}
 use lib.Seq.{getD-set-same, getD-set-other}
-use Rattle.table.proofs.Sameness.BirthSame.{Lights}
+use Rattle.table.proofs.Keeps.Changed.{process-count, namespace-count}
 use Rattle.table.proofs.Laws.ChangedTo.{changed-at, changed-past, changed-kept}
-use Rattle.table.proofs.Sameness.DeliverSame.{Fits}
-use Rattle.table.proofs.Sameness.Find.{lowest-cases}
+use Rattle.table.proofs.Laws.Facts.{Sane}
 use Rattle.table.proofs.Laws.FrameEnd.{read-changed}
-use Rattle.table.proofs.Sameness.Grown.{Grown}
-use Rattle.table.proofs.Laws.Slots.{namespace-lt, below-taken}
 use Rattle.table.proofs.Laws.Quant.{isnt}
+use Rattle.table.proofs.Laws.Slots.{namespace-lt, below-taken}
+use Rattle.table.proofs.Sameness.BirthSame.{Lights}
+use Rattle.table.proofs.Sameness.Find.{lowest-cases}
+use Rattle.table.proofs.Sameness.Grown.{Grown}
 use Rattle.table.proofs.Sameness.Twins.{bool-ext}
 use Rattle.table.specs.Births.{birth, joined, new-pids, newborn}
 use Rattle.table.specs.Limits.{greatest-pid, levels, namespace-slots, process-slots, restart-pid}
@@ -24,8 +25,8 @@ use Rattle.table.specs.Pids.{free-pid, free-slot, next-pid}
 use Rattle.table.specs.Read.{View, above-at, below, is-unborn, namespace, namespace-taken, no-namespace, no-pid, no-process, pid-at, process, taken, view}
 use Rattle.table.specs.Records.{to-pid}
 use Rattle.table.specs.Tests.{if_then_else_, lowest}
-use Rattle.table.specs.declared.Life.{Life}
 use Rattle.table.specs.declared.Life.the-variants.{Alive}
+use Rattle.table.specs.declared.Life.{Life}
 use Rattle.table.specs.declared.Namespace.{Namespace}
 use Rattle.table.specs.declared.Table.{Table}
 
@@ -60,7 +61,7 @@ new-pid v n l h =
     go true = refl
     go false = ap (λ p. p .0) (getD-replicate levels l no-pid no-pid h)
 
-module _ (t : Table) (w : Fits t) (c n : ℕ) (tn : So (namespace-taken (view t) n)) (room : free-slot (view t) ≡ process-slots → ⊥) where
+module _ (t : Table) (w : Sane t) (c n : ℕ) (tn : So (namespace-taken (view t) n)) (room : free-slot (view t) ≡ process-slots → ⊥) where
   abbrev k : ℕ
   k = free-slot (view t)
 
@@ -69,7 +70,7 @@ module _ (t : Table) (w : Fits t) (c n : ℕ) (tn : So (namespace-taken (view t)
 
   pub the-child : process t′ k ≡ newborn (view t) c n
   unfolding birth
-  the-child = changed-kept (λ i p. p) no-process _ process-slots k refl ∙ getD-set-same (t .processes) k (newborn (view t) c n) no-process (omega (arith, w .length-processes, slot-free (view t) room .1))
+  the-child = changed-kept (λ i p. p) no-process _ process-slots k refl ∙ getD-set-same (t .processes) k (newborn (view t) c n) no-process (omega (arith, process-count t (w .shape-of), slot-free (view t) room .1))
 
   pub the-others : (i : ℕ) → (i ≡ k → ⊥) → process t′ i ≡ process t i
   unfolding birth
@@ -89,7 +90,7 @@ module _ (t : Table) (w : Fits t) (c n : ℕ) (tn : So (namespace-taken (view t)
 
   namespace-at : (m : ℕ) → m < namespace-slots → namespace t′ m ≡ joined (view t) k n m (namespace t m)
   unfolding birth
-  namespace-at m l = changed-at (joined (view t) k n) no-namespace (t .namespaces) namespace-slots m l (omega (arith, w .length-namespaces))
+  namespace-at m l = changed-at (joined (view t) k n) no-namespace (t .namespaces) namespace-slots m l (omega (arith, namespace-count t (w .shape-of)))
 
   namespace-past : (m : ℕ) → namespace-slots ≤ m → namespace t′ m ≡ namespace t m
   unfolding birth

@@ -1,7 +1,7 @@
 -- The calls that leave who is where: getpid, getppid, handle, poll, by twin callers.
 use Prim.Native.Nat.{ℕ, _<_}
-use native.Mathlib.Omega.{arith}
 use native.Mathlib.Decide.{ℕ-discrete}
+use native.Mathlib.Omega.{arith}
 use mathlib.Core.Bool.{Bool, true, false, not, So, false≢true}
 use mathlib.Core.Logic.{inr}
 use mathlib.Core.Path.{_≡_, refl, sym, _∙_, ap, ap₂, subst}
@@ -9,12 +9,12 @@ use borrow.Author.Tests.{eqb-true}
 use lib.Dec.{eqb}
 use lib.IntN.{ℤ}
 use lib.ListN.{length}
+use Rattle.table.proofs.Laws.Facts.{facts}
+use Rattle.table.proofs.Laws.Quant.{left, right, both}
+use Rattle.table.proofs.Laws.Slots.{slot-lt, seen-taken, living-own-alive, alive-taken}
 use Rattle.table.proofs.Sameness.Glue.{follow-self}
 use Rattle.table.proofs.Sameness.Inside.{Kept, Ready, MadeSame, refused-same, stands-same}
-use Rattle.table.proofs.Laws.Facts.{facts}
-use Rattle.table.proofs.Laws.Slots.{slot-lt, seen-taken, living-own-alive, alive-taken}
 use Rattle.table.proofs.Sameness.Light.{Lights, same-light, Placed, put-light, put-same, put-other}
-use Rattle.table.proofs.Laws.Quant.{left, right, both}
 use Rattle.table.proofs.Sameness.Readers.{parent-pid}
 use Rattle.table.proofs.Sameness.Same.{Same, sheets-of-same}
 use Rattle.table.proofs.Sameness.Twins.{Pair, Twin, Twins, twin-rows, twin-unique, flip-pair, flip-twin, owns, pid-twins}
@@ -32,10 +32,10 @@ use Rattle.table.specs.Tests.{_or_}
 use Rattle.table.specs.declared.Answer.the-variants.{Number}
 use Rattle.table.specs.declared.Call.the-variants.{Getpid, Getppid, Handle, Poll}
 use Rattle.table.specs.declared.Process.{Process}
-use Rattle.table.specs.declared.Refusal.{Refusal}
 use Rattle.table.specs.declared.Refusal.the-variants.{Einval}
-use Rattle.table.specs.declared.State.{State}
+use Rattle.table.specs.declared.Refusal.{Refusal}
 use Rattle.table.specs.declared.State.the-variants.{Running, Stopped, Ended}
+use Rattle.table.specs.declared.State.{State}
 use Rattle.table.specs.declared.Table.{Table}
 
 pub processes-length : (t : Table) → SoundTable t → length (t .processes) ≡ process-slots

@@ -5,20 +5,19 @@ use mathlib.Core.Logic.{inl, inr}
 use mathlib.Core.Path.{_≡_, refl, sym, _∙_, ap, subst₂}
 use borrow.Author.Tests.{eqb-true, eqb-false, eq-eqb}
 use lib.Dec.{eqb}
+use Rattle.table.proofs.Laws.Facts.{Facts, facts, Sane, sane}
+use Rattle.table.proofs.Laws.Quant.{or-true}
+use Rattle.table.proofs.Laws.Slots.{seen-taken, seen-below, below-trans, alive-otherwise, root-only, up-level, alive-not-unborn}
 use Rattle.table.proofs.Sameness.Anchor.{anchor-self, root-alive, is-unborn-name, is-dead-name, name-taken}
 use Rattle.table.proofs.Sameness.BirthPids.{Cradles}
 use Rattle.table.proofs.Sameness.BirthSame.{birth-same}
 use Rattle.table.proofs.Sameness.BirthTable.{grown, lights, the-child}
 use Rattle.table.proofs.Sameness.Calls.{both-refuse, owns-twins, taken-s, taken-r, the-rows}
-use Rattle.table.proofs.Sameness.DeliverSame.{Fits, fits-sound}
 use Rattle.table.proofs.Sameness.ExitSame.{runs-living}
 use Rattle.table.proofs.Sameness.Inside.{Kept, Ready, MadeSame, stands-same}
-use Rattle.table.proofs.Laws.Facts.{Facts, facts}
-use Rattle.table.proofs.Laws.Slots.{seen-taken, seen-below, below-trans, alive-otherwise, root-only, up-level, alive-not-unborn}
-use Rattle.table.proofs.Sameness.NextPid.{next-twins}
-use Rattle.table.proofs.Laws.Quant.{or-true}
-use Rattle.table.proofs.Sameness.Readers.{twin-eqb}
 use Rattle.table.proofs.Sameness.Namespaces.{children-taken, children-below, name-unborn, anchors-of}
+use Rattle.table.proofs.Sameness.NextPid.{next-twins}
+use Rattle.table.proofs.Sameness.Readers.{twin-eqb}
 use Rattle.table.proofs.Sameness.Twins.{Twin, Twins, bool-ext}
 use Rattle.table.specs.Answers.{is-no-room, refused, number-of, refusal-number}
 use Rattle.table.specs.Births.{birth, newborn}
@@ -32,8 +31,8 @@ use Rattle.table.specs.Step.{make}
 use Rattle.table.specs.Tests.{_or_}
 use Rattle.table.specs.declared.Answer.the-variants.{Number}
 use Rattle.table.specs.declared.Call.the-variants.{Clone}
-use Rattle.table.specs.declared.Life.{Life}
 use Rattle.table.specs.declared.Life.the-variants.{Unborn, Alive, Dead}
+use Rattle.table.specs.declared.Life.{Life}
 use Rattle.table.specs.declared.Outcome.{Outcome}
 use Rattle.table.specs.declared.Refusal.the-variants.{Enomem, Eagain}
 use Rattle.table.specs.declared.Table.{Table}
@@ -125,11 +124,11 @@ module _ (t u : Table) (s r c d : ℕ) (w : Ready t u s r c d) where
       (λ q. eq-eqb _ _ (ap (view u .children) (eqb-true j d (sym e ∙ eq-eqb i c (ft .unborn-one _ hn h i c ti (eqb-true _ _ q) tc refl)))))
       (λ q. eq-eqb _ _ (ap (view t .children) (eqb-true i c (e ∙ eq-eqb j d (fu .unborn-one _ hm h′ j d tj (eqb-true _ _ q) td refl)))))
 
-  fits-t : Fits t
-  fits-t = fits-sound t (w .sound-t)
+  fits-t : Sane t
+  fits-t = sane t (w .sound-t)
 
-  fits-u : Fits u
-  fits-u = fits-sound u (w .sound-u)
+  fits-u : Sane u
+  fits-u = sane u (w .sound-u)
 
   born-kept : dead (view t) (view t .children c) ≡ false → (free-slot (view t) ≡ process-slots → ⊥) → (free-slot (view u) ≡ process-slots → ⊥) → SoundTable (birth t c (view t .children c)) → SoundTable (birth u d (view u .children d)) → Kept t u s r (born t c (birth t c (view t .children c))) (born u d (birth u d (view u .children d)))
   unfolding newborn namespace-taken

@@ -8,58 +8,37 @@ use mathlib.Core.Logic.{_⊎_, inl, inr}
 use mathlib.Core.Path.{_≡_, refl, sym, _∙_, ap, ap₂, subst, subst₂}
 use borrow.Author.Tests.{eqb-true, eq-eqb, le-leb, lt-ltb}
 use lib.Dec.{eqb}
-use lib.ListN.{length}
-use Rattle.table.proofs.Sameness.Calls.{Shown, shown, same-put}
+use Rattle.table.proofs.Keeps.Changed.{process-count}
 use Rattle.table.proofs.Keeps.Deliver.{Good, action-good, act-sane}
-use Rattle.table.proofs.Keeps.InitKeeps.{Sane, sane}
-use Rattle.table.proofs.Laws.Facts.{Facts}
-use Rattle.table.proofs.Laws.Slots.{slot-lt, seen-taken, living-own-alive, living-taken, root-only, below-taken, own-taken, below-level, root-own, level-of-root}
-use Rattle.table.proofs.Sameness.Light.{relight, Placed, put-light, put-other}
+use Rattle.table.proofs.Laws.Facts.{Facts, Sane}
 use Rattle.table.proofs.Laws.Quant.{left, right, both, or-true}
+use Rattle.table.proofs.Laws.Slots.{slot-lt, seen-taken, living-own-alive, living-taken, root-only, below-taken, own-taken, below-level, root-own, level-of-root}
+use Rattle.table.proofs.Sameness.Calls.{Shown, shown, same-put}
+use Rattle.table.proofs.Sameness.Light.{relight, Placed, put-light, put-other}
 use Rattle.table.proofs.Sameness.Readers.{is-init-twins}
 use Rattle.table.proofs.Sameness.Same.{Same}
 use Rattle.table.proofs.Sameness.Targets.{Along}
 use Rattle.table.proofs.Sameness.Twins.{Pair, Twin, Twins, flip-pair, flip-twins, bool-ext, owns, twins-unique}
 use Rattle.table.specs.Delivery.{act, action-on, default-action, deliver, deliver-all, resumed, with-pending}
 use Rattle.table.specs.Ends.{end}
-use Rattle.table.specs.Limits.{namespace-slots, process-slots, signals}
+use Rattle.table.specs.Limits.{signals}
 use Rattle.table.specs.Read.{View, alive, below, is-ended, is-init, living, pid-at, pid-seen, process, seen, taken, view}
 use Rattle.table.specs.Records.{put, with-state}
 use Rattle.table.specs.SignalSets.{has, with-signal}
-use Rattle.table.specs.Sound.{SoundTable, kept-end, shaped}
+use Rattle.table.specs.Sound.{kept-end}
 use Rattle.table.specs.Tests.{_and_, _or_, if_then_else_}
-use Rattle.table.specs.declared.Action.{Action}
 use Rattle.table.specs.declared.Action.the-variants.{Finish, Nothing, Pend, Resume, Stop}
-use Rattle.table.specs.declared.End.{End}
+use Rattle.table.specs.declared.Action.{Action}
 use Rattle.table.specs.declared.End.the-variants.{Signaled}
+use Rattle.table.specs.declared.End.{End}
 use Rattle.table.specs.declared.Process.{Process}
 use Rattle.table.specs.declared.State.the-variants.{Running, Ended}
 use Rattle.table.specs.declared.Table.{Table}
 
--- a table in the middle of a call
-pub record Fits (t : Table) : Type 0 where
-  pub sane-of : Sane t
-  pub facts : Facts (view t)
-  pub length-processes : length (t .processes) ≡ process-slots
-  pub length-namespaces : length (t .namespaces) ≡ namespace-slots
-
-pub fits-of : (t : Table) → Sane t → Fits t
-unfolding shaped
-fits-of t h =
-    record {
-      sane-of = h;
-      facts = h .facts;
-      length-processes = eqb-true (length (t .processes)) process-slots (left _ _ (left _ _ (h .shape-of)));
-      length-namespaces = eqb-true (length (t .namespaces)) namespace-slots (right _ _ (left _ _ (h .shape-of)));
-    }
-
-pub fits-sound : (t : Table) → SoundTable t → Fits t
-fits-sound t h = fits-of t (sane t h)
-
 -- two tables in the middle of a call by twin callers, whose own namespaces are f and g
 pub record Held (t u : Table) (s r f g : ℕ) : Type 0 where
-  pub fits-t : Fits t
-  pub fits-u : Fits u
+  pub fits-t : Sane t
+  pub fits-u : Sane u
   pub alive-s : So (alive (view t) s)
   pub alive-r : So (alive (view u) r)
   pub same : Same (view t) (view u) s r
@@ -147,11 +126,11 @@ module _ (t u : Table) (s r f g : ℕ) (w : Held t u s r f g) (x y : ℕ) (k : T
   pub light-onward : (p q : Process) → Placed p (process t x) → Placed q (process u y) → Shown t u s r p q → Sane (put t x p) → Sane (put u y q) → Onward t u s r f g (put t x p) (put u y q)
   light-onward p q a b h ft fu = (
     record {
-      fits-t = fits-of (put t x p) ft;
-      fits-u = fits-of (put u y q) fu;
+      fits-t = ft;
+      fits-u = fu;
       alive-s = w .alive-s;
       alive-r = w .alive-r;
-      same = same-put t u s r x y z k (omega (arith, w .fits-t .length-processes, slot-lt (view t) (w .fits-t .facts) x (living-taken (view t) (w .fits-t .facts) x lx))) (omega (arith, w .fits-u .length-processes, slot-lt (view u) (w .fits-u .facts) y (living-taken (view u) (w .fits-u .facts) y ly))) p q a b h;
+      same = same-put t u s r x y z k (omega (arith, process-count t (w .fits-t .shape-of), slot-lt (view t) (w .fits-t .facts) x (living-taken (view t) (w .fits-t .facts) x lx))) (omega (arith, process-count u (w .fits-u .shape-of), slot-lt (view u) (w .fits-u .facts) y (living-taken (view u) (w .fits-u .facts) y ly))) p q a b h;
       from = light-twins (view t) (view u) (view (put t x p)) (view (put u y q)) s r (put-light t x p a) (put-light u y q b) f g (w .from);
     },
     λ i j. elim [
@@ -224,13 +203,13 @@ module _ (ends : EndSame) (t u : Table) (s r f g : ℕ) (w : Held t u s r f g) (
   z = shown t u s r (pair-of t u s r f g w) x y k
 
   good : (e : Action) → action-on (view t) f x n ≡ e → Good (view t) x n e
-  good e q = subst (Good (view t) x n) q (action-good (view t) x n f (w .fits-t .sane-of .facts) (root-safe (view t) (w .fits-t .facts) f x hx))
+  good e q = subst (Good (view t) x n) q (action-good (view t) x n f (w .fits-t .facts) (root-safe (view t) (w .fits-t .facts) f x hx))
 
   sane-t : (e : Action) → Good (view t) x n e → Sane (act t x n e)
-  sane-t e a = act-sane t (w .fits-t .sane-of) x n low e a
+  sane-t e a = act-sane t (w .fits-t) x n low e a
 
   sane-u : (e : Action) → Good (view u) y n e → Sane (act u y n e)
-  sane-u e a = act-sane u (w .fits-u .sane-of) y n low e a
+  sane-u e a = act-sane u (w .fits-u) y n low e a
 
   stop-onward : Sane (act t x n Stop) → Sane (act u y n Stop) → Onward t u s r f g (act t x n Stop) (act u y n Stop)
   unfolding act

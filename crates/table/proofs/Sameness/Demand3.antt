@@ -2,7 +2,6 @@
 use Rattle.table.proofs.Sameness.BirthLeaves.{clone-leaves, clone-new-leaves}
 use Rattle.table.proofs.Sameness.Calls.{getpid-same, getppid-same, handle-same, poll-same}
 use Rattle.table.proofs.Sameness.CloneSame.{clone-same}
-use Rattle.table.proofs.Sameness.NewNamespaceSame.{clone-new-same, unshare-same}
 use Rattle.table.proofs.Sameness.EndLeaves.{exit-leaves}
 use Rattle.table.proofs.Sameness.ExitSame.{exit-same}
 use Rattle.table.proofs.Sameness.Glue.{sameness}
@@ -10,14 +9,15 @@ use Rattle.table.proofs.Sameness.Inside.{MadeSame, inside-same}
 use Rattle.table.proofs.Sameness.Kill.{kill-same}
 use Rattle.table.proofs.Sameness.KillLeaves.{kill-leaves}
 use Rattle.table.proofs.Sameness.Leaves.{setns-leaves}
+use Rattle.table.proofs.Sameness.NewNamespaceSame.{clone-new-same, unshare-same}
 use Rattle.table.proofs.Sameness.Outside.{MadeLeaves, outside-leaves, getpid-leaves, getppid-leaves, handle-leaves, poll-leaves}
 use Rattle.table.proofs.Sameness.Setns.{setns-same}
 use Rattle.table.proofs.Sameness.UnshareLeaves.{unshare-leaves}
 use Rattle.table.proofs.Sameness.WaitLeaves.{wait-leaves}
 use Rattle.table.proofs.Sameness.WaitSame.{wait-same}
 use Rattle.table.specs.Claims.{OutsideLeaves, Sameness}
-use Rattle.table.specs.declared.Call.{Call}
 use Rattle.table.specs.declared.Call.the-variants.{Clone, CloneNew, Unshare, Setns, Kill, Exit, Wait, Getpid, Getppid, Handle, Poll}
+use Rattle.table.specs.declared.Call.{Call}
 
 all-inside : (c : Call) → MadeSame c
 all-inside Clone = clone-same

@@ -1,16 +1,17 @@
 -- The end of an init, on one table: what remains, and the lives of the namespaces.
 use Prim.Native.Nat.{ℕ, _<_, _≤_}
-use native.Mathlib.Omega.{arith}
 use native.Mathlib.Decide.{decLt}
+use native.Mathlib.Omega.{arith}
 use mathlib.Core.Bool.{Bool, true, false, not, So, false≢true}
 use mathlib.Core.Path.{_≡_, refl, sym, _∙_, ap, subst, fun-ext}
 use borrow.Author.Tests.{ne-eqb}
 use lib.Dec.{eqb}
+use Rattle.table.proofs.Keeps.Changed.{process-count, namespace-count}
 use Rattle.table.proofs.Laws.ChangedTo.{changed-at, changed-past}
-use Rattle.table.proofs.Sameness.DeliverSame.{Fits}
+use Rattle.table.proofs.Laws.Facts.{Sane}
 use Rattle.table.proofs.Laws.FrameEnd.{read-changed}
-use Rattle.table.proofs.Laws.Slots.{slot-lt, namespace-lt, own-taken, seen-taken, init-own, child-seen, past-level}
 use Rattle.table.proofs.Laws.Quant.{left, right, both, and-false, true-and, isnt-not}
+use Rattle.table.proofs.Laws.Slots.{slot-lt, namespace-lt, own-taken, seen-taken, init-own, child-seen, past-level}
 use Rattle.table.proofs.Sameness.Shape.{Shape}
 use Rattle.table.proofs.Sameness.Twins.{bool-ext}
 use Rattle.table.specs.Ends.{init-ends, namespace-dies}
@@ -19,8 +20,8 @@ use Rattle.table.specs.Limits.{namespace-slots, process-slots}
 use Rattle.table.specs.Read.{alive, below, climb, init, is-ended, namespace, no-namespace, no-process, pid-at, process, seen, taken, view}
 use Rattle.table.specs.Records.{as-ended, changed, with-life}
 use Rattle.table.specs.Tests.{_and_, if_then_else_}
-use Rattle.table.specs.declared.End.{End}
 use Rattle.table.specs.declared.End.the-variants.{Signaled}
+use Rattle.table.specs.declared.End.{End}
 use Rattle.table.specs.declared.Life.the-variants.{Dead}
 use Rattle.table.specs.declared.Namespace.{Namespace}
 use Rattle.table.specs.declared.Process.{Process}
@@ -38,13 +39,13 @@ module _ (t : Table) (x : ℕ) where
   pub not-seen-stays : (i : ℕ) → seen (view t) (view t .own x) i ≡ false → So (stays i)
   not-seen-stays i e = ap not (ap (λ (b : Bool). b and seen (view t) (view t .own x) (view t .parent i)) e ∙ and-false _)
 
-module _ (t : Table) (w : Fits t) (x : ℕ) (e : End) where
+module _ (t : Table) (w : Sane t) (x : ℕ) (e : End) where
   abbrev pub fallen : Table
   fallen = changed t (init-ends (view t) x e) (namespace-dies (view t) (view t .own x))
 
   pub process-at : (i : ℕ) → i < process-slots → process fallen i ≡ ended-by e (seen (view t) (view t .own x) i) (seen (view t) (view t .own x) (view t .parent i)) (eqb i x) (is-ended (process t i .state)) (process t i)
   unfolding init-ends
-  process-at i l = changed-at (init-ends (view t) x e) no-process (t .processes) process-slots i l (omega (arith, w .length-processes))
+  process-at i l = changed-at (init-ends (view t) x e) no-process (t .processes) process-slots i l (omega (arith, process-count t (w .shape-of)))
 
   process-past : (i : ℕ) → process-slots ≤ i → process fallen i ≡ process t i
   process-past i l = changed-past (init-ends (view t) x e) no-process (t .processes) process-slots i l
@@ -119,7 +120,7 @@ module _ (t : Table) (w : Fits t) (x : ℕ) (e : End) where
         dies false s = refl
 
         go : Dec (n < namespace-slots) → view fallen .life n ≡ (if below (view t) n (view t .own x) then Dead else view t .life n)
-        go (yes l) = ap (λ s. s .life) (changed-at (namespace-dies (view t) (view t .own x)) no-namespace (t .namespaces) namespace-slots n l (omega (arith, w .length-namespaces))) ∙ dies (below (view t) n (view t .own x)) (namespace t n)
+        go (yes l) = ap (λ s. s .life) (changed-at (namespace-dies (view t) (view t .own x)) no-namespace (t .namespaces) namespace-slots n l (omega (arith, namespace-count t (w .shape-of)))) ∙ dies (below (view t) n (view t .own x)) (namespace t n)
         go (no o) =
             ap (λ s. s .life) (changed-past (namespace-dies (view t) (view t .own x)) no-namespace (t .namespaces) namespace-slots n (omega arith))
             ∙ sym (ap (λ (b : Bool). if b then Dead else view t .life n) (below-past n (omega arith)))

@@ -5,33 +5,33 @@ use mathlib.Core.Bool.{Bool, true, false, not, So, false≢true}
 use mathlib.Core.Path.{_≡_, refl, sym, _∙_, ap, ap₂, subst, fun-ext}
 use borrow.Author.Tests.{ne-eqb}
 use lib.Dec.{eqb}
+use Rattle.table.proofs.Laws.Facts.{Facts, Sane}
+use Rattle.table.proofs.Laws.Quant.{right, both, true-and}
+use Rattle.table.proofs.Laws.Slots.{slot-lt, seen-taken, seen-below, own-taken, below-trans}
 use Rattle.table.proofs.Sameness.Anchor.{anchor, is-unborn-name}
 use Rattle.table.proofs.Sameness.Calls.{shown}
-use Rattle.table.proofs.Sameness.DeliverSame.{Fits, Held, pair-of}
+use Rattle.table.proofs.Sameness.DeliverSame.{Held, pair-of}
 use Rattle.table.proofs.Sameness.EndInit.{ended-by, stays, fallen, process-at, fallen-shape, fallen-parent, fallen-lasts, fallen-lives, init-stays, parent-stays}
-use Rattle.table.proofs.Laws.Facts.{Facts}
-use Rattle.table.proofs.Laws.Slots.{slot-lt, seen-taken, seen-below, own-taken, below-trans}
-use Rattle.table.proofs.Laws.Quant.{right, both, true-and}
+use Rattle.table.proofs.Sameness.Namespaces.{children-taken, children-below, name-unborn, unborn-outside, anchors-of, below-named, level-named, parent-in-twins}
 use Rattle.table.proofs.Sameness.Readers.{twin-eqb}
 use Rattle.table.proofs.Sameness.Same.{Same}
-use Rattle.table.proofs.Sameness.Shape.{Shape, same-shape, pid-in-shape, name-in, name-out}
-use Rattle.table.proofs.Sameness.Namespaces.{children-taken, children-below, name-unborn, unborn-outside, anchors-of, below-named, level-named, parent-in-twins}
 use Rattle.table.proofs.Sameness.SetChildrenSame.{name-no-slot}
+use Rattle.table.proofs.Sameness.Shape.{Shape, same-shape, pid-in-shape, name-in, name-out}
 use Rattle.table.proofs.Sameness.Twins.{Pair, Twin, Twins, bool-ext, twin-rows, seen-twins, own-levels, owns, twins-level}
 use Rattle.table.specs.Limits.{levels, no-slot}
 use Rattle.table.specs.Read.{View, alive, below, init, init-of, is-ended, is-init, living, namespace-taken, pid-in, process, seen, taken, unborn, view}
 use Rattle.table.specs.Sheet.{Row, dead-at, name, row}
-use Rattle.table.specs.Tests.{_and_, if_then_else_, values}
 use Rattle.table.specs.Sound as S
+use Rattle.table.specs.Tests.{_and_, if_then_else_, values}
 use Rattle.table.specs.declared.End.{End}
-use Rattle.table.specs.declared.Life.{Life}
 use Rattle.table.specs.declared.Life.the-variants.{Dead}
+use Rattle.table.specs.declared.Life.{Life}
 use Rattle.table.specs.declared.Process.{Process}
 use Rattle.table.specs.declared.Table.{Table}
 
 -- ---- one table
 
-module _ (t : Table) (w : Fits t) (x : ℕ) (e : End) where
+module _ (t : Table) (w : Sane t) (x : ℕ) (e : End) where
   in-fallen : (i : ℕ) → So (taken (view t) i) → So (stays t x i) → So (seen (view t) (view t .own x) i) → view (fallen t w x e) .children i ≡ no-slot
   unfolding S.ended-bare
   in-fallen i h s a =
@@ -59,7 +59,7 @@ pids-shape v v′ Q w s i q =
     ap₂ (λ (f : ℕ → ℕ) (level : ℕ → ℕ). values f (levels - level s) (level s)) (fun-ext (λ l. w .pids i l q)) (w .levels)
 
 -- the last number that a row shows
-one-last : (t : Table) (w : Fits t) (x : ℕ) (e : End) (tx : So (taken (view t) x)) (i : ℕ) → So (taken (view t) i) → So (stays t x i) → (if eqb (init (view (fallen t w x e)) (view (fallen t w x e) .own i)) i then view (fallen t w x e) .last (view (fallen t w x e) .own i) else 0) ≡ (if below (view t) (view t .own i) (view t .own x) then 0 else (if eqb (init (view t) (view t .own i)) i then view t .last (view t .own i) else 0))
+one-last : (t : Table) (w : Sane t) (x : ℕ) (e : End) (tx : So (taken (view t) x)) (i : ℕ) → So (taken (view t) i) → So (stays t x i) → (if eqb (init (view (fallen t w x e)) (view (fallen t w x e) .own i)) i then view (fallen t w x e) .last (view (fallen t w x e) .own i) else 0) ≡ (if below (view t) (view t .own i) (view t .own x) then 0 else (if eqb (init (view t) (view t .own i)) i then view t .last (view t .own i) else 0))
 one-last t w x e tx i h q =
     ap (λ n. if eqb (init (view (fallen t w x e)) n) i then view (fallen t w x e) .last n else 0) (fallen-shape t w x e .owns i q)
     ∙ ap₂ (λ (l : Life) (f : ℕ → ℕ). if eqb (init-of l) i then f (view t .own i) else 0) (fallen-lives t w x e tx (view t .own i)) (fallen-lasts t w x e)

@@ -1,7 +1,7 @@
 -- The end of one outside S, no init above S; exit by an outsider.
 use Prim.Native.Nat.{ℕ, zero, suc, _<_, _≤_}
-use native.Mathlib.Omega.{arith}
 use native.Mathlib.Decide.{ℕ-discrete, decLt}
+use native.Mathlib.Omega.{arith}
 use mathlib.Core.Bool.{Bool, true, false, not, So, false≢true}
 use mathlib.Core.List.{List}
 use mathlib.Core.Logic.{_⊎_, inl, inr, ⊎-elim}
@@ -11,23 +11,22 @@ use lib.Dec.{eqb}
 use lib.IntN.{ℤ}
 use lib.ListN.{getD, set, length, length-set, List·getD-eq-default}
 use lib.Seq.{getD-set-same, getD-set-other}
-use Rattle.table.proofs.Sameness.DeliverSame.{Fits, fits-sound}
+use Rattle.table.proofs.Keeps.MemberKeeps.{remainder}
+use Rattle.table.proofs.Laws.Facts.{Facts, facts, Sane, sane}
+use Rattle.table.proofs.Laws.FrameEnd.{read-changed}
+use Rattle.table.proofs.Laws.Quant.{left, right, both, cases, isnt-not, any-intro}
+use Rattle.table.proofs.Laws.Slots.{slot-lt, namespace-lt, seen-taken, seen-below, own-taken, up-level, below-level, below-same, below-parent, below-trans, init-own, living-own-alive, living-taken}
+use Rattle.table.proofs.Laws.Tree.{below-refl}
 use Rattle.table.proofs.Sameness.EndInit as I
 use Rattle.table.proofs.Sameness.EndMember as M
 use Rattle.table.proofs.Sameness.EndSame.{end-fits}
 use Rattle.table.proofs.Sameness.ExitSame.{runs-living}
-use Rattle.table.proofs.Laws.FrameEnd.{read-changed}
-use Rattle.table.proofs.Laws.Facts.{Facts, facts}
-use Rattle.table.proofs.Laws.Slots.{slot-lt, namespace-lt, seen-taken, seen-below, own-taken, up-level, below-level, below-same, below-parent, below-trans, init-own, living-own-alive, living-taken}
-use Rattle.table.proofs.Keeps.MemberKeeps.{remainder}
 use Rattle.table.proofs.Sameness.Outside.{MadeLeaves, as-it-was, outsider}
-use Rattle.table.proofs.Laws.Quant.{left, right, both, cases, isnt-not, any-intro}
 use Rattle.table.proofs.Sameness.Readers.{pid-in-unseen}
 use Rattle.table.proofs.Sameness.Remain.{Remain, seen-remain}
+use Rattle.table.proofs.Sameness.SetChildrenSame.{everyone}
 use Rattle.table.proofs.Sameness.Shape.{Shape, seen-shape, seen-gone}
 use Rattle.table.proofs.Sameness.Still.{Still, same-still, stands-still, near, near-here, near-up, near-own, near-children, freed-after}
-use Rattle.table.proofs.Laws.Tree.{below-refl}
-use Rattle.table.proofs.Sameness.SetChildrenSame.{everyone}
 use Rattle.table.proofs.Sameness.WaitLeaves.{untouched-made}
 use Rattle.table.specs.Answers.{answers, granted, is-refused, refused}
 use Rattle.table.specs.Calls.{exit, status}
@@ -44,8 +43,8 @@ use Rattle.table.specs.Step.{make}
 use Rattle.table.specs.Tests.{changed-to, if_then_else_}
 use Rattle.table.specs.Touches.{ends-above, touched}
 use Rattle.table.specs.declared.Call.the-variants.{Exit}
-use Rattle.table.specs.declared.End.{End}
 use Rattle.table.specs.declared.End.the-variants.{Exited}
+use Rattle.table.specs.declared.End.{End}
 use Rattle.table.specs.declared.Life.the-variants.{Dead}
 use Rattle.table.specs.declared.Namespace.{Namespace}
 use Rattle.table.specs.declared.Process.{Process}
@@ -73,7 +72,7 @@ unlike false h = refl
 
 -- ---- not an init
 
-module _ (t : Table) (w : Fits t) (x : ℕ) (e : End) (lives : So (alive (view t) (view t .own x))) (tx : So (taken (view t) x)) (s : ℕ) (o : seen (view t) s x ≡ false) where
+module _ (t : Table) (w : Sane t) (x : ℕ) (e : End) (lives : So (alive (view t) (view t .own x))) (tx : So (taken (view t) x)) (s : ℕ) (o : seen (view t) s x ≡ false) where
   f : Facts (view t)
   f = w .facts
 
@@ -135,7 +134,7 @@ module _ (t : Table) (w : Fits t) (x : ℕ) (e : End) (lives : So (alive (view t
 
 -- ---- an init, not above S
 
-module _ (t : Table) (w : Fits t) (x : ℕ) (e : End) (tx : So (taken (view t) x)) (s : ℕ) (o : seen (view t) s x ≡ false) (n : below (view t) s (view t .own x) ≡ false) where
+module _ (t : Table) (w : Sane t) (x : ℕ) (e : End) (tx : So (taken (view t) x)) (s : ℕ) (o : seen (view t) s x ≡ false) (n : below (view t) s (view t .own x) ≡ false) where
   f₂ : Facts (view t)
   f₂ = w .facts
 
@@ -189,7 +188,7 @@ module _ (t : Table) (w : Fits t) (x : ℕ) (e : End) (tx : So (taken (view t) x
 
 -- ---- either
 
-pub end-still : (t : Table) (w : Fits t) (x : ℕ) (e : End) → So (living (view t) x) → (s : ℕ) → seen (view t) s x ≡ false → (So (is-init (view t) x) → below (view t) s (view t .own x) ≡ false) → Still (view t) (view (end t x e)) s (near (view t) s)
+pub end-still : (t : Table) (w : Sane t) (x : ℕ) (e : End) → So (living (view t) x) → (s : ℕ) → seen (view t) s x ≡ false → (So (is-init (view t) x) → below (view t) s (view t .own x) ≡ false) → Still (view t) (view (end t x e)) s (near (view t) s)
 unfolding end
 end-still t w x e l s o n = go (is-init (view t) x) refl
   where
@@ -198,7 +197,7 @@ end-still t w x e l s o n = go (is-init (view t) x) refl
     go false q = rw (q, end) (member-still t w x e (living-own-alive (view t) (w .facts) x l) (living-taken (view t) (w .facts) x l) s o)
 
 -- an init's namespace lives no more
-pub end-dies : (t : Table) (w : Fits t) (x : ℕ) (e : End) → So (taken (view t) x) → So (is-init (view t) x) → alive (view (end t x e)) (view t .own x) ≡ false
+pub end-dies : (t : Table) (w : Sane t) (x : ℕ) (e : End) → So (taken (view t) x) → So (is-init (view t) x) → alive (view (end t x e)) (view t .own x) ≡ false
 unfolding end
 end-dies t w x e tx q = rw (q, end) (ap is-alive (I.fallen-lives t w x e tx (view t .own x) ∙ ap (λ (b : Bool). if b then Dead else view t .life (view t .own x)) (below-refl (view t) (view t .own x))))
 
@@ -266,7 +265,7 @@ exit-leaves z t s i h hs k a g = go (eqb i 0) refl g
     go true q g = rw (q, exit) (as-it-was t s hs)
     go false q g =
         rw (q, exit)
-        (freed-after t t₁ s h (end-fits t i e (fits-sound t h) li (eqb-false _ _ q) (remainder z)) (rw (q, exit) at g) hs (stands-still (view t) (view t₁) s (near (view t) s) (facts t h) still hs) (same-still (view t) (view t₁) s (near (view t) s) (facts t h) still))
+        (freed-after t t₁ s h (end-fits t i e (sane t h) li (eqb-false _ _ q) (remainder z)) (rw (q, exit) at g) hs (stands-still (view t) (view t₁) s (near (view t) s) (facts t h) still hs) (same-still (view t) (view t₁) s (near (view t) s) (facts t h) still))
       where
         e : End
         e = Exited (status z)
@@ -290,7 +289,7 @@ exit-leaves z t s i h hs k a g = go (eqb i 0) refl g
         not-above m =
             unlike _
             (λ b. lives-on t (freed t₁) s no-touch (view t .own i) (namespace-lt (view t) (facts t h) _ (own-taken (view t) (facts t h) i (living-taken (view t) (facts t h) i li))) own-not b (living-own-alive (view t) (facts t h) i li)
-            (unlike _ (λ y. false≢true (sym (end-dies t (fits-sound t h) i e (living-taken (view t) (facts t h) i li) m) ∙ freed-back t₁ (view t .own i) y))))
+            (unlike _ (λ y. false≢true (sym (end-dies t (sane t h) i e (living-taken (view t) (facts t h) i li) m) ∙ freed-back t₁ (view t .own i) y))))
 
         still : Still (view t) (view t₁) s (near (view t) s)
-        still = end-still t (fits-sound t h) i e li s o not-above
+        still = end-still t (sane t h) i e li s o not-above

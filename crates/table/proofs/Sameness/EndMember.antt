@@ -5,11 +5,13 @@ use mathlib.Core.Bool.{Bool, true, false, So, false≢true}
 use mathlib.Core.Logic.{_⊎_, inr, ⊎-elim}
 use mathlib.Core.Path.{_≡_, refl, sym, _∙_, ap, ap₂, subst}
 use lib.Dec.{eqb}
-use Rattle.table.proofs.Sameness.Calls.{shown}
+use Rattle.table.proofs.Keeps.Changed.{process-count}
 use Rattle.table.proofs.Laws.ChangedTo.{changed-at}
-use Rattle.table.proofs.Sameness.DeliverSame.{Fits, Held, pair-of}
+use Rattle.table.proofs.Laws.Facts.{Sane}
 use Rattle.table.proofs.Laws.FrameEnd.{read-changed}
 use Rattle.table.proofs.Laws.Slots.{slot-lt, seen-taken, children-of, init-seen}
+use Rattle.table.proofs.Sameness.Calls.{shown}
+use Rattle.table.proofs.Sameness.DeliverSame.{Held, pair-of}
 use Rattle.table.proofs.Sameness.Readers.{twin-eqb, child-twins}
 use Rattle.table.proofs.Sameness.Remain.{Remain, Lit, same-remain, pid-in-remain, name-remain}
 use Rattle.table.proofs.Sameness.Same.{Same}
@@ -28,13 +30,13 @@ use Rattle.table.specs.declared.Table.{Table}
 abbrev pub left-by : End → Bool → Bool → ℕ → Process → Process
 left-by e a b n q = if a then as-ended q e else (if b then with-parent q n else q)
 
-module _ (t : Table) (w : Fits t) (x : ℕ) (e : End) where
+module _ (t : Table) (w : Sane t) (x : ℕ) (e : End) where
   abbrev pub without : Table
   without = changed t (member-ends (view t) x e) (λ n s. s)
 
   pub process-at : (i : ℕ) → i < process-slots → process without i ≡ left-by e (eqb i x) (child-of (view t) x i) (init (view t) (view t .own x)) (process t i)
   unfolding member-ends
-  process-at i l = changed-at (member-ends (view t) x e) no-process (t .processes) process-slots i l (omega (arith, w .length-processes))
+  process-at i l = changed-at (member-ends (view t) x e) no-process (t .processes) process-slots i l (omega (arith, process-count t (w .shape-of)))
 
   left-as : {X : Type 0} (g : Process → X) → ((q : Process) → g (as-ended q e) ≡ g q) → ((q : Process) (n : ℕ) → g (with-parent q n) ≡ g q) → (i : ℕ) → g (process without i) ≡ g (process t i)
   unfolding member-ends

@@ -1,28 +1,28 @@
 -- The end of two twins, inits or not: what a kill needs of it.
 use Prim.Native.Nat.{ℕ, _<_, _≤_}
-use native.Mathlib.Omega.{arith}
 use native.Mathlib.Decide.{decLt}
+use native.Mathlib.Omega.{arith}
 use mathlib.Core.Bool.{Bool, true, false, not, So, false≢true}
 use mathlib.Core.Logic.{inl, inr}
 use mathlib.Core.Path.{_≡_, refl, sym, _∙_, ap, subst₂, fun-ext}
 use borrow.Author.Tests.{eq-eqb}
 use lib.Dec.{eqb}
+use Rattle.table.proofs.Keeps.InitKeeps.{end-sane}
 use Rattle.table.proofs.Laws.ChangedTo.{changed-past}
-use Rattle.table.proofs.Sameness.DeliverSame.{Fits, fits-of, Held, pair-of, Target, Onward, EndSame, living-twins}
+use Rattle.table.proofs.Laws.Facts.{Facts, Sane}
+use Rattle.table.proofs.Laws.Quant.{and-false}
+use Rattle.table.proofs.Laws.Slots.{seen-taken, seen-below, below-level, below-same, living-own-alive, root-own, level-of-root}
+use Rattle.table.proofs.Sameness.DeliverSame.{Held, pair-of, Target, Onward, EndSame, living-twins}
 use Rattle.table.proofs.Sameness.EndInit as I
 use Rattle.table.proofs.Sameness.EndInit.{ended-by, stays, fallen, fallen-shape, fallen-lives, init-stays}
 use Rattle.table.proofs.Sameness.EndInitSame.{init-same, both-stay}
 use Rattle.table.proofs.Sameness.EndMember as M
 use Rattle.table.proofs.Sameness.EndMember.{without, member-same, member-remain, left-by}
-use Rattle.table.proofs.Keeps.InitKeeps.{end-sane}
-use Rattle.table.proofs.Laws.Facts.{Facts}
-use Rattle.table.proofs.Laws.Slots.{seen-taken, seen-below, below-level, below-same, living-own-alive, root-own, level-of-root}
-use Rattle.table.proofs.Laws.Quant.{and-false}
+use Rattle.table.proofs.Sameness.Namespaces.{above-pid}
 use Rattle.table.proofs.Sameness.Readers.{is-init-twins}
 use Rattle.table.proofs.Sameness.Remain.{Remain}
-use Rattle.table.proofs.Sameness.Shape.{Shape, twin-shape, seen-shape, pid-shape, below-shape}
-use Rattle.table.proofs.Sameness.Namespaces.{above-pid}
 use Rattle.table.proofs.Sameness.SetChildrenSame.{everyone}
+use Rattle.table.proofs.Sameness.Shape.{Shape, twin-shape, seen-shape, pid-shape, below-shape}
 use Rattle.table.proofs.Sameness.Twins.{Pair, Twin, Twins, bool-ext, owns, twins-level}
 use Rattle.table.specs.Ends.{end, init-ends, member-ends, namespace-dies}
 use Rattle.table.specs.Limits.{process-slots}
@@ -37,8 +37,8 @@ use Rattle.table.specs.declared.State.the-variants.{Ended}
 use Rattle.table.specs.declared.Table.{Table}
 
 -- an end of one that lives, and is not the root init, leaves a table fit
-pub end-fits : (t : Table) (x : ℕ) (e : End) → Fits t → So (living (view t) x) → (x ≡ 0 → ⊥) → So (kept-end (Ended e)) → Fits (end t x e)
-end-fits t x e w l o k = fits-of (end t x e) (end-sane t (w .sane-of) x e l o k)
+pub end-fits : (t : Table) (x : ℕ) (e : End) → Sane t → So (living (view t) x) → (x ≡ 0 → ⊥) → So (kept-end (Ended e)) → Sane (end t x e)
+end-fits t x e w l o k = (end-sane t (w) x e l o k)
 
 abbrev lives-in : Process → Bool
 lives-in q = not (eqb (pid-at q 0) 0) and not (is-ended (q .state))
@@ -50,7 +50,7 @@ and-not-true false = refl
 
 -- ---- one table: who does not live does not live then
 
-pub fallen-dead : (t : Table) (w : Fits t) (x : ℕ) (e : End) (a : ℕ) → living (view t) a ≡ false → living (view (fallen t w x e)) a ≡ false
+pub fallen-dead : (t : Table) (w : Sane t) (x : ℕ) (e : End) (a : ℕ) → living (view t) a ≡ false → living (view (fallen t w x e)) a ≡ false
 unfolding living taken
 fallen-dead t w x e a h = go (decLt a process-slots)
   where
@@ -65,7 +65,7 @@ fallen-dead t w x e a h = go (decLt a process-slots)
     go (yes l) = ap lives-in (I.process-at t w x e a l) ∙ by-cases (seen (view t) (view t .own x) a) (seen (view t) (view t .own x) (view t .parent a)) (eqb a x) (is-ended (process t a .state)) (process t a) refl h
     go (no o) = ap lives-in (changed-past (init-ends (view t) x e) no-process (t .processes) process-slots a (omega arith)) ∙ h
 
-pub without-dead : (t : Table) (w : Fits t) (x : ℕ) (e : End) (a : ℕ) → living (view t) a ≡ false → living (view (without t w x e)) a ≡ false
+pub without-dead : (t : Table) (w : Sane t) (x : ℕ) (e : End) (a : ℕ) → living (view t) a ≡ false → living (view (without t w x e)) a ≡ false
 unfolding living taken
 without-dead t w x e a h = go (decLt a process-slots)
   where
@@ -120,7 +120,7 @@ module _ (t u : Table) (s r f g x y : ℕ) (e : End) (w : Held t u s r f g) (k :
 
   -- ---- no init
 
-  member-onward : Fits (without t (w .fits-t) x e) → Fits (without u (w .fits-u) y e) → Onward t u s r f g (without t (w .fits-t) x e) (without u (w .fits-u) y e)
+  member-onward : Sane (without t (w .fits-t) x e) → Sane (without u (w .fits-u) y e) → Onward t u s r f g (without t (w .fits-t) x e) (without u (w .fits-u) y e)
   member-onward ft fu =
       let a = member-remain t (w .fits-t) x e in
       let b = member-remain u (w .fits-u) y e in (
@@ -157,10 +157,10 @@ module _ (t u : Table) (s r f g x y : ℕ) (e : End) (w : Held t u s r f g) (k :
     out : (v : View) (h : Facts v) (n top : ℕ) → v .level n < v .level top → below v n top ≡ false
     out v h n top l = bool-ext _ _ (λ b. absurd (omega (arith, below-level v h n top b))) (λ b. absurd (false≢true b))
 
-    spared : (z : Table) (h : Fits z) (c n : ℕ) → So (taken (view z) c) → view z .level n < view z .level (view z .own c) → view (fallen z h c e) .life n ≡ view z .life n
+    spared : (z : Table) (h : Sane z) (c n : ℕ) → So (taken (view z) c) → view z .level n < view z .level (view z .own c) → view (fallen z h c e) .life n ≡ view z .life n
     spared z h c n tc l = fallen-lives z h c e tc n ∙ ap (λ (b : Bool). if b then Dead else view z .life n) (out (view z) (h .facts) n (view z .own c) l)
 
-    init-onward : Fits (fallen t (w .fits-t) x e) → Fits (fallen u (w .fits-u) y e) → Onward t u s r f g (fallen t (w .fits-t) x e) (fallen u (w .fits-u) y e)
+    init-onward : Sane (fallen t (w .fits-t) x e) → Sane (fallen u (w .fits-u) y e) → Onward t u s r f g (fallen t (w .fits-t) x e) (fallen u (w .fits-u) y e)
     init-onward ft fu =
         let tx = seen-taken (view t) (w .fits-t .facts) s x (k .seen-v) in
         let ty = seen-taken (view u) (w .fits-u .facts) r y (k .seen-u) in
@@ -181,11 +181,11 @@ module _ (t u : Table) (s r f g x y : ℕ) (e : End) (w : Held t u s r f g) (k :
         )
 
 -- the root init is an init, of a namespace at level 0
-zero-init : (t : Table) (w : Fits t) (x : ℕ) → x ≡ 0 → So (is-init (view t) x)
+zero-init : (t : Table) (w : Sane t) (x : ℕ) → x ≡ 0 → So (is-init (view t) x)
 unfolding is-init
 zero-init t w x z = eq-eqb (init (view t) (view t .own x)) x (ap (λ (y : ℕ). init (view t) (view t .own y)) z ∙ ap (init (view t)) (root-own (view t) (w .facts)) ∙ w .facts .root-init ∙ sym z)
 
-zero-level : (t : Table) (w : Fits t) (x : ℕ) → x ≡ 0 → view t .level (view t .own x) ≡ 0
+zero-level : (t : Table) (w : Sane t) (x : ℕ) → x ≡ 0 → view t .level (view t .own x) ≡ 0
 zero-level t w x z = ap (λ (y : ℕ). view t .level (view t .own y)) z ∙ ap (view t .level) (root-own (view t) (w .facts)) ∙ level-of-root (view t) (w .facts)
 
 pub end-of-init : (t : Table) (x : ℕ) (e : End) → So (is-init (view t) x) → end t x e ≡ changed t (init-ends (view t) x e) (namespace-dies (view t) (view t .own x))
@@ -196,11 +196,11 @@ pub end-of-member : (t : Table) (x : ℕ) (e : End) → is-init (view t) x ≡ f
 unfolding end
 end-of-member t x e h = ap (λ (b : Bool). if b then changed t (init-ends (view t) x e) (namespace-dies (view t) (view t .own x)) else changed t (member-ends (view t) x e) (λ n s. s)) h
 
-end-cases : (t u : Table) (s r f g x y : ℕ) (e : End) (w : Held t u s r f g) → Twin (view t) (view u) s r x y → So (seen (view t) f x) → So (living (view t) x) → (So (is-init (view t) x) → view t .own x ≡ f → ⊥) → is-init (view t) x ≡ is-init (view u) y → Fits (end t x e) → Fits (end u y e) → (b : Bool) → is-init (view t) x ≡ b → Onward t u s r f g (end t x e) (end u y e)
+end-cases : (t u : Table) (s r f g x y : ℕ) (e : End) (w : Held t u s r f g) → Twin (view t) (view u) s r x y → So (seen (view t) f x) → So (living (view t) x) → (So (is-init (view t) x) → view t .own x ≡ f → ⊥) → is-init (view t) x ≡ is-init (view u) y → Sane (end t x e) → Sane (end u y e) → (b : Bool) → is-init (view t) x ≡ b → Onward t u s r f g (end t x e) (end u y e)
 end-cases t u s r f g x y e w k sx lx other q ft fu true h =
-    subst₂ (λ a b. Fits a → Fits b → Onward t u s r f g a b) (sym (end-of-init t x e h)) (sym (end-of-init u y e (sym q ∙ h))) (init-onward t u s r f g x y e w k sx lx (other h)) ft fu
+    subst₂ (λ a b. Sane a → Sane b → Onward t u s r f g a b) (sym (end-of-init t x e h)) (sym (end-of-init u y e (sym q ∙ h))) (init-onward t u s r f g x y e w k sx lx (other h)) ft fu
 end-cases t u s r f g x y e w k sx lx other q ft fu false h =
-    subst₂ (λ a b. Fits a → Fits b → Onward t u s r f g a b) (sym (end-of-member t x e h)) (sym (end-of-member u y e (sym q ∙ h))) (member-onward t u s r f g x y e w k sx lx) ft fu
+    subst₂ (λ a b. Sane a → Sane b → Onward t u s r f g a b) (sym (end-of-member t x e h)) (sym (end-of-member u y e (sym q ∙ h))) (member-onward t u s r f g x y e w k sx lx) ft fu
 
 pub end-same : EndSame
 unfolding EndSame
@@ -224,8 +224,8 @@ end-same t u s r f g x y e w k sx lx ok other = end-cases t u s r f g x y e w k 
     y-not-zero : y ≡ 0 → ⊥
     y-not-zero z = omega (arith, levels, zero-level u (w .fits-u) y z, deeper t u s r f g x y e w k sx lx (other (both-init ∙ zero-init u (w .fits-u) y z)))
 
-    ft : Fits (end t x e)
+    ft : Sane (end t x e)
     ft = end-fits t x e (w .fits-t) lx x-not-zero ok
 
-    fu : Fits (end u y e)
+    fu : Sane (end u y e)
     fu = end-fits u y e (w .fits-u) (sym (living-twins t u s r pr x y k) ∙ lx) y-not-zero ok

@@ -1,27 +1,28 @@
 -- exit, by twin callers: also by the init of S itself.
 use Prim.Native.Nat.{ℕ, suc, pred, _<_}
-use native.Mathlib.Omega.{arith}
 use native.Mathlib.Decide.{ℕ-discrete}
+use native.Mathlib.Omega.{arith}
 use mathlib.Core.Bool.{Bool, true, false, not, So, false≢true}
 use mathlib.Core.Logic.{inr}
 use mathlib.Core.Path.{_≡_, refl, sym, _∙_, ap, ap₂, subst, subst₂}
 use borrow.Author.Tests.{eqb-true, eqb-false, eq-eqb}
 use lib.Dec.{eqb}
 use lib.IntN.{ℤ}
+use Rattle.table.proofs.Keeps.Changed.{namespace-count}
+use Rattle.table.proofs.Keeps.MemberKeeps.{remainder}
+use Rattle.table.proofs.Laws.Facts.{Facts, facts, Sane, sane}
+use Rattle.table.proofs.Laws.Quant.{left, right, both}
+use Rattle.table.proofs.Laws.Slots.{seen-below, alive-taken, init-pid, init-own, root-own, root-only, level-of-root, below-level, pid-unique, up-level, alive-up, init-seen}
+use Rattle.table.proofs.Laws.Tree.{below-refl}
 use Rattle.table.proofs.Sameness.Calls.{both-refuse, both-change, owns-twins, own-lives, taken-s, taken-r}
-use Rattle.table.proofs.Sameness.DeliverSame.{Fits, fits-sound, Held, pair-of, EndSame}
+use Rattle.table.proofs.Sameness.DeliverSame.{Held, pair-of, EndSame}
 use Rattle.table.proofs.Sameness.EndInit.{fallen, fallen-shape}
 use Rattle.table.proofs.Sameness.EndInitSame.{init-same}
 use Rattle.table.proofs.Sameness.EndSame.{end-fits, end-same}
 use Rattle.table.proofs.Sameness.FreedRow.{freed-places}
 use Rattle.table.proofs.Sameness.Inside.{Kept, Ready, MadeSame}
-use Rattle.table.proofs.Laws.Facts.{Facts, facts}
-use Rattle.table.proofs.Laws.Slots.{seen-below, alive-taken, init-pid, init-own, root-own, root-only, level-of-root, below-level, pid-unique, up-level, alive-up, init-seen}
-use Rattle.table.proofs.Keeps.MemberKeeps.{remainder}
-use Rattle.table.proofs.Laws.Quant.{left, right, both}
 use Rattle.table.proofs.Sameness.Readers.{is-init-twins, pid-in-unseen}
 use Rattle.table.proofs.Sameness.Same.{Same}
-use Rattle.table.proofs.Laws.Tree.{below-refl}
 use Rattle.table.proofs.Sameness.SetChildrenSame.{same-freed-only, stands-freed}
 use Rattle.table.proofs.Sameness.Twins.{Pair, Twin, Twins, flip-pair, flip-twin, bool-ext, twins-unique}
 use Rattle.table.specs.Answers.{answers, granted}
@@ -34,11 +35,11 @@ use Rattle.table.specs.Sound.{SoundTable, kept-end}
 use Rattle.table.specs.Step.{make, runs}
 use Rattle.table.specs.Tests.{_or_}
 use Rattle.table.specs.declared.Call.the-variants.{Exit}
-use Rattle.table.specs.declared.End.{End}
 use Rattle.table.specs.declared.End.the-variants.{Exited}
+use Rattle.table.specs.declared.End.{End}
 use Rattle.table.specs.declared.Refusal.the-variants.{Ebusy}
-use Rattle.table.specs.declared.State.{State}
 use Rattle.table.specs.declared.State.the-variants.{Running, Stopped, Ended}
+use Rattle.table.specs.declared.State.{State}
 use Rattle.table.specs.declared.Table.{Table}
 
 -- S and S
@@ -92,7 +93,7 @@ above-zero v f s a l =
 unseen-above : (v : View) (f : Facts v) (s n : ℕ) → So (alive v s) → n ≡ s → 0 < v .level s → pid-in v s (init v (v .up n)) ≡ 0
 unseen-above v f s n a e l = ap (λ x. pid-in v s (init v (v .up x))) e ∙ above-zero v f s a l
 
-still-taken : (t : Table) (w : Fits t) (x : ℕ) (e : End) (n : ℕ) → So (namespace-taken (view t) n) → So (namespace-taken (view (fallen t w x e)) n)
+still-taken : (t : Table) (w : Sane t) (x : ℕ) (e : End) (n : ℕ) → So (namespace-taken (view t) n) → So (namespace-taken (view (fallen t w x e)) n)
 unfolding namespace-taken
 still-taken t w x e n h = ap (λ (l : ℕ → ℕ). eqb n 0 or not (eqb (l n) 0)) (fallen-shape t w x e .levels) ∙ h
 
@@ -108,8 +109,8 @@ module _ (t u : Table) (s r c d : ℕ) (w : Ready t u s r c d) (e : End) (ok : S
   held : Held t u s r s r
   held =
       record {
-        fits-t = fits-sound t (w .sound-t);
-        fits-u = fits-sound u (w .sound-u);
+        fits-t = sane t (w .sound-t);
+        fits-u = sane u (w .sound-u);
         alive-s = w .pair .alive-v;
         alive-r = w .pair .alive-u;
         same = w .pair .same;
@@ -126,7 +127,7 @@ module _ (t u : Table) (s r c d : ℕ) (w : Ready t u s r c d) (e : End) (ok : S
   -- S's init ends
   dies : So (is-init (view t) c) → view t .own c ≡ s → (c ≡ 0 → ⊥) → (d ≡ 0 → ⊥) → SoundTable (freed (end t c e)) → SoundTable (freed (end u d e)) → Kept t u s r (answers (freed (end t c e)) 0) (answers (freed (end u d e)) 0)
   unfolding answers granted end
-  dies ic oc nc nd h g = inr (refl, rw (ic, id, end) (freed-places t u (fallen t (held .fits-t) c e) (fallen u (held .fits-u) d e) (ft .facts) (fu .facts) s r (ft .length-namespaces) (fu .length-namespaces) (rw (ic, end) at h) (rw (id, end) at g) (still-taken t (held .fits-t) c e s (taken-s t u s r c d w)) (still-taken u (held .fits-u) d e r (taken-r t u s r c d w)) (ap (λ (l : ℕ → ℕ). l s) (fallen-shape t (held .fits-t) c e .levels)) (ap (λ (l : ℕ → ℕ). l r) (fallen-shape u (held .fits-u) d e .levels)) same))
+  dies ic oc nc nd h g = inr (refl, rw (ic, id, end) (freed-places t u (fallen t (held .fits-t) c e) (fallen u (held .fits-u) d e) (ft .facts) (fu .facts) s r (namespace-count _ (ft .shape-of)) (namespace-count _ (fu .shape-of)) (rw (ic, end) at h) (rw (id, end) at g) (still-taken t (held .fits-t) c e s (taken-s t u s r c d w)) (still-taken u (held .fits-u) d e r (taken-r t u s r c d w)) (ap (λ (l : ℕ → ℕ). l s) (fallen-shape t (held .fits-t) c e .levels)) (ap (λ (l : ℕ → ℕ). l r) (fallen-shape u (held .fits-u) d e .levels)) same))
     where
       p : Pair (view t) (view u) s r
       p = w .pair
@@ -134,10 +135,10 @@ module _ (t u : Table) (s r c d : ℕ) (w : Ready t u s r c d) (e : End) (ok : S
       id : So (is-init (view u) d)
       id = sym (is-init-twins (view t) (view u) s r p c d (w .twin) (own-lives t u s r c d w)) ∙ ic
 
-      ft : Fits (fallen t (held .fits-t) c e)
+      ft : Sane (fallen t (held .fits-t) c e)
       ft = rw (ic, end) at (end-fits t c e (held .fits-t) (runs-living t c (w .runs-t)) nc ok)
 
-      fu : Fits (fallen u (held .fits-u) d e)
+      fu : Sane (fallen u (held .fits-u) d e)
       fu = rw (id, end) at (end-fits u d e (held .fits-u) (runs-living u d (w .runs-u)) nd ok)
 
       same : Same (view (fallen t (held .fits-t) c e)) (view (fallen u (held .fits-u) d e)) s r

@@ -9,9 +9,9 @@ use mathlib.Core.Path.{_≡_, refl, sym, _∙_, ap, subst}
 use borrow.Author.Tests.{eq-eqb, eqb-true}
 use lib.Dec.{eqb}
 use Rattle.table.proofs.Laws.Facts.{Facts}
-use Rattle.table.proofs.Laws.Slots.{slot-lt, seen-taken, pid-unique}
 use Rattle.table.proofs.Laws.Lists.{In, in-map}
 use Rattle.table.proofs.Laws.Quant.{left, right, both}
+use Rattle.table.proofs.Laws.Slots.{slot-lt, seen-taken, pid-unique}
 use Rattle.table.proofs.Sameness.Same.{Same, same-of-sheets, row-key, level-lt, key, seen-listed}
 use Rattle.table.specs.Limits.{levels, process-slots}
 use Rattle.table.specs.Read.{View, all-seen, find, namespace-taken, pid-seen, seen}

@@ -8,11 +8,11 @@ use mathlib.Core.Path.{_≡_, refl, sym, _∙_, ap, ap₂}
 use lib.Dec.{eqb}
 use lib.ListN.{length}
 use Rattle.table.proofs.Laws.ChangedTo.{changed-at}
-use Rattle.table.proofs.Sameness.FreedSame.{process-freed, namespace-freed, own-is-kept, children-is-kept, freed-remain}
 use Rattle.table.proofs.Laws.Facts.{Facts, facts}
-use Rattle.table.proofs.Laws.Slots.{slot-lt, namespace-lt, seen-taken, children-of, past-level}
 use Rattle.table.proofs.Laws.Lists.{In}
 use Rattle.table.proofs.Laws.Quant.{left, right, both, or-left, or-right, any-intro, or-false-left, false-or-false}
+use Rattle.table.proofs.Laws.Slots.{slot-lt, namespace-lt, seen-taken, children-of, past-level}
+use Rattle.table.proofs.Sameness.FreedSame.{process-freed, namespace-freed, own-is-kept, children-is-kept, freed-remain}
 use Rattle.table.proofs.Sameness.Remain.{Remain, lit, row-remain, seen-remain, pid-in-remain, name-remain, standing}
 use Rattle.table.proofs.Sameness.Same.{Same, sheets-of-same, listed-seen}
 use Rattle.table.proofs.Sameness.SetChildrenSame.{everyone, light-remain, name-no-slot}

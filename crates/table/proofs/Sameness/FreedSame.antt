@@ -6,13 +6,13 @@ use mathlib.Core.Logic.{_⊎_, inl, inr, ⊎-elim}
 use mathlib.Core.Path.{_≡_, refl, sym, _∙_, ap, subst}
 use borrow.Author.Tests.{eqb-true}
 use lib.Dec.{eqb}
-use Rattle.table.proofs.Sameness.Anchor.{up-below}
 use Rattle.table.proofs.Laws.ChangedTo.{changed-kept}
 use Rattle.table.proofs.Laws.Facts.{Facts}
-use Rattle.table.proofs.Laws.Slots.{slot-lt, below-trans, not-root, past-level}
 use Rattle.table.proofs.Laws.Quant.{left, right, both, cases, or-left, or-right, any-elim, any-intro}
-use Rattle.table.proofs.Sameness.Remain.{Remain, below-remain, taken-remain}
+use Rattle.table.proofs.Laws.Slots.{slot-lt, below-trans, not-root, past-level}
 use Rattle.table.proofs.Laws.Tree.{below-refl}
+use Rattle.table.proofs.Sameness.Anchor.{up-below}
+use Rattle.table.proofs.Sameness.Remain.{Remain, below-remain, taken-remain}
 use Rattle.table.specs.Freeing.{freed, kept}
 use Rattle.table.specs.Fresh.{empty-namespace}
 use Rattle.table.specs.Limits.{namespace-slots, no-slot, process-slots}

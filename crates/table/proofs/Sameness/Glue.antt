@@ -1,18 +1,18 @@
 -- Demand 3 from facts about single calls: `Sameness` follows from `KeepsSound`, `OutsideLeaves` and `InsideSame`.
 use Prim.Native.Nat.{ℕ}
+use native.Mathlib.Omega.{arith}
 use mathlib.Core.Bool.{Bool, true, false, So, false≢true}
 use mathlib.Core.List.{List, _∷_, []}
 use mathlib.Core.Logic.{_⊎_, inl, inr, ⊎-elim}
 use mathlib.Core.Option.{Option, none, some}
 use mathlib.Core.Path.{_≡_, refl, sym, _∙_, ap, subst}
 use borrow.Author.Tests.{eq-eqb, ne-eqb}
-use native.Mathlib.Omega.{arith}
 use Rattle.table.proofs.Keeps.Changes.{keeps-sound}
-use Rattle.table.proofs.Sameness.Find.{Callers, find-same, find-none}
-use Rattle.table.proofs.Laws.Quant.{left, right}
 use Rattle.table.proofs.Laws.Facts.{facts}
-use Rattle.table.proofs.Laws.Slots.{alive-taken}
 use Rattle.table.proofs.Laws.Lists.{heads-equal, tails-equal, not-empty}
+use Rattle.table.proofs.Laws.Quant.{left, right}
+use Rattle.table.proofs.Laws.Slots.{alive-taken}
+use Rattle.table.proofs.Sameness.Find.{Callers, find-same, find-none}
 use Rattle.table.specs.Answers.{is-no-room}
 use Rattle.table.specs.Claims.{Agree, KeepsSound, Observed, OutsideLeaves, Sameness, observations, observe, lacks-room}
 use Rattle.table.specs.Events.{Event, Place, answer-of, at, follow, gone, happens, inside, inside-calls, next-place, next-table, outside, sheet-of, slot-of, table-after}

@@ -4,14 +4,14 @@ use mathlib.Core.Bool.{Bool, true, false, not, So, false≢true}
 use mathlib.Core.Logic.{_⊎_, inr}
 use mathlib.Core.Path.{_≡_, refl, sym, _∙_, ap}
 use Rattle.table.proofs.Keeps.Changes.{make-sound}
-use Rattle.table.proofs.Sameness.Glue.{InsideSame, follow-self}
 use Rattle.table.proofs.Laws.Facts.{facts}
-use Rattle.table.proofs.Laws.Slots.{seen-taken, seen-below, living-own-alive, alive-above}
-use Rattle.table.proofs.Sameness.Find.{row-pid}
 use Rattle.table.proofs.Laws.Quant.{left, right, both}
-use Rattle.table.proofs.Sameness.Same.{Same, same-of-sheets, sheets-of-same, level-lt}
 use Rattle.table.proofs.Laws.Slots.{pid-unique}
+use Rattle.table.proofs.Laws.Slots.{seen-taken, seen-below, living-own-alive, alive-above}
 use Rattle.table.proofs.Laws.Steps.{step-made, step-refused}
+use Rattle.table.proofs.Sameness.Find.{row-pid}
+use Rattle.table.proofs.Sameness.Glue.{InsideSame, follow-self}
+use Rattle.table.proofs.Sameness.Same.{Same, same-of-sheets, sheets-of-same, level-lt}
 use Rattle.table.proofs.Sameness.Twins.{Pair, Twin}
 use Rattle.table.specs.Answers.{is-no-room, refused}
 use Rattle.table.specs.Events.{at, follow, sheet-of}
@@ -22,10 +22,10 @@ use Rattle.table.specs.Step.{make, runs, step}
 use Rattle.table.specs.Tests.{_and_, _or_}
 use Rattle.table.specs.declared.Call.{Call}
 use Rattle.table.specs.declared.Outcome.{Outcome}
-use Rattle.table.specs.declared.Refusal.{Refusal}
 use Rattle.table.specs.declared.Refusal.the-variants.{NotRunning}
-use Rattle.table.specs.declared.State.{State}
+use Rattle.table.specs.declared.Refusal.{Refusal}
 use Rattle.table.specs.declared.State.the-variants.{Running, Stopped, Ended}
+use Rattle.table.specs.declared.State.{State}
 use Rattle.table.specs.declared.Table.{Table}
 
 -- no room on one table, or the same answer and the same sheet

@@ -6,14 +6,14 @@ use mathlib.Core.Path.{_≡_, refl, sym, _∙_, ap}
 use lib.Dec.{eqb}
 use lib.IntN.{ℤ}
 use lib.ListN.{length}
+use Rattle.table.proofs.Keeps.Premises.{natural-low}
+use Rattle.table.proofs.Laws.Facts.{facts, sane}
 use Rattle.table.proofs.Sameness.Calls.{both-refuse, both-change, owns-twins}
-use Rattle.table.proofs.Sameness.DeliverSame.{fits-sound, Held, pair-of, Target, deliver-all-held}
+use Rattle.table.proofs.Sameness.DeliverSame.{Held, pair-of, Target, deliver-all-held}
 use Rattle.table.proofs.Sameness.EndSame.{end-same}
 use Rattle.table.proofs.Sameness.Inside.{Kept, Ready, MadeSame}
-use Rattle.table.proofs.Laws.Facts.{facts}
-use Rattle.table.proofs.Keeps.Premises.{natural-low}
-use Rattle.table.proofs.Sameness.Targets.{along-length, along-with, targets-twins, targets-seen}
 use Rattle.table.proofs.Sameness.SetChildrenSame.{same-freed-only, stands-freed}
+use Rattle.table.proofs.Sameness.Targets.{along-length, along-with, targets-twins, targets-seen}
 use Rattle.table.proofs.Sameness.Twins.{Twin}
 use Rattle.table.specs.Answers.{answers, granted}
 use Rattle.table.specs.Calls.{kill, names-group, natural, targets, within}
@@ -29,8 +29,8 @@ module _ (t u : Table) (s r i j : ℕ) (w : Ready t u s r i j) where
   held : Held t u s r (view t .own i) (view u .own j)
   held =
       record {
-        fits-t = fits-sound t (w .sound-t);
-        fits-u = fits-sound u (w .sound-u);
+        fits-t = sane t (w .sound-t);
+        fits-u = sane u (w .sound-u);
         alive-s = w .pair .alive-v;
         alive-r = w .pair .alive-u;
         same = w .pair .same;

@@ -6,23 +6,22 @@ use mathlib.Core.Path.{_≡_, refl, sym, _∙_, ap, subst}
 use lib.Dec.{eqb}
 use lib.IntN.{ℤ}
 use lib.ListN.{length}
-use Rattle.table.proofs.Laws.Lists.{some-of-false}
-use Rattle.table.proofs.Sameness.BirthLeaves.{same-trans}
 use Rattle.table.proofs.Keeps.Deliver.{Safe, deliver-sane}
-use Rattle.table.proofs.Sameness.DeliverEnded.{deliver-nothing, ended-end}
-use Rattle.table.proofs.Sameness.DeliverSame.{Fits, fits-of, fits-sound, not-living-put, resumed-placed}
-use Rattle.table.proofs.Sameness.EndLeaves.{unlike, end-still, end-dies, end-back, freed-back, lives-on, not-own}
-use Rattle.table.proofs.Keeps.InitKeeps.{Sane}
-use Rattle.table.proofs.Laws.Facts.{Facts, facts}
+use Rattle.table.proofs.Keeps.Premises.{natural-low, targets-safe}
+use Rattle.table.proofs.Laws.Facts.{Facts, facts, Sane, sane}
+use Rattle.table.proofs.Laws.Lists.{some-of-false}
+use Rattle.table.proofs.Laws.Quant.{both, or-false-left, or-false-right}
 use Rattle.table.proofs.Laws.Slots.{namespace-lt, own-taken, living-own-alive, living-taken}
+use Rattle.table.proofs.Sameness.BirthLeaves.{same-trans}
+use Rattle.table.proofs.Sameness.DeliverEnded.{deliver-nothing, ended-end}
+use Rattle.table.proofs.Sameness.DeliverSame.{not-living-put, resumed-placed}
+use Rattle.table.proofs.Sameness.EndLeaves.{unlike, end-still, end-dies, end-back, freed-back, lives-on, not-own}
 use Rattle.table.proofs.Sameness.Light.{Placed, put-light, put-other}
 use Rattle.table.proofs.Sameness.Outside.{MadeLeaves, as-it-was}
-use Rattle.table.proofs.Keeps.Premises.{natural-low, targets-safe}
-use Rattle.table.proofs.Laws.Quant.{both, or-false-left, or-false-right}
 use Rattle.table.proofs.Sameness.Remain.{seen-remain}
 use Rattle.table.proofs.Sameness.Same.{Same}
-use Rattle.table.proofs.Sameness.Still.{Still, same-still, stands-still, below-still, near, near-here, near-up, near-own, near-children, freed-after}
 use Rattle.table.proofs.Sameness.SetChildrenSame.{everyone, light-remain}
+use Rattle.table.proofs.Sameness.Still.{Still, same-still, stands-still, below-still, near, near-here, near-up, near-own, near-children, freed-after}
 use Rattle.table.proofs.Sameness.WaitLeaves.{untouched-made}
 use Rattle.table.specs.Answers.{answers, granted, is-refused, refused}
 use Rattle.table.specs.Calls.{kill, names-group, natural, targets, within}
@@ -38,8 +37,8 @@ use Rattle.table.specs.Sound.{SoundTable}
 use Rattle.table.specs.Step.{make}
 use Rattle.table.specs.Tests.{_and_, _or_, some-of}
 use Rattle.table.specs.Touches.{signals-into, touched}
-use Rattle.table.specs.declared.Action.{Action}
 use Rattle.table.specs.declared.Action.the-variants.{Finish, Nothing, Pend, Resume, Stop}
+use Rattle.table.specs.declared.Action.{Action}
 use Rattle.table.specs.declared.Call.the-variants.{Kill}
 use Rattle.table.specs.declared.End.the-variants.{Signaled}
 use Rattle.table.specs.declared.Process.{Process}
@@ -48,7 +47,7 @@ use Rattle.table.specs.declared.Table.{Table}
 
 -- in the middle of the deliveries: S is as it was, and what lives lived before
 record Going (t₀ t : Table) (s : ℕ) : Type 0 where
-  fits : Fits t
+  fits : Sane t
   same : Same (view t) (view t₀) s s
   stands : So (namespace-taken (view t) s)
   seens : (i : ℕ) → seen (view t) s i ≡ seen (view t₀) s i
@@ -56,7 +55,7 @@ record Going (t₀ t : Table) (s : ℕ) : Type 0 where
   backs : (n : ℕ) → So (alive (view t) n) → So (alive (view t₀) n)
   ended : (i : ℕ) → living (view t₀) i ≡ false → living (view t) i ≡ false
 
-start : (t : Table) (s : ℕ) → Fits t → So (namespace-taken (view t) s) → Going t t s
+start : (t : Table) (s : ℕ) → Sane t → So (namespace-taken (view t) s) → Going t t s
 start t s w h =
     record {
       fits = w;
@@ -68,7 +67,7 @@ start t s w h =
       ended = λ i k. k;
     }
 
-onward : (t₀ t t′ : Table) (s : ℕ) → Going t₀ t s → Fits t′ → Still (view t) (view t′) s (near (view t) s) → ((n : ℕ) → So (alive (view t′) n) → So (alive (view t) n)) → ((i : ℕ) → living (view t) i ≡ false → living (view t′) i ≡ false) → Going t₀ t′ s
+onward : (t₀ t t′ : Table) (s : ℕ) → Going t₀ t s → Sane t′ → Still (view t) (view t′) s (near (view t) s) → ((n : ℕ) → So (alive (view t′) n) → So (alive (view t) n)) → ((i : ℕ) → living (view t) i ≡ false → living (view t′) i ≡ false) → Going t₀ t′ s
 onward t₀ t t′ s g w d b z =
     record {
       fits = w;
@@ -136,11 +135,11 @@ module _ (t₀ t : Table) (s x n : ℕ) (g : Going t₀ t s) (o : seen (view t) 
   f = g .fits .facts
 
   light : (p : Process) → Placed p (process t x) → Sane (put t x p) → Going t₀ (put t x p) s
-  light p k w = onward t₀ t (put t x p) s g (fits-of (put t x p) w) (put-still t f x p k s o) (λ j h. h) (not-living-put t x p k l)
+  light p k w = onward t₀ t (put t x p) s g (w) (put-still t f x p k s o) (λ j h. h) (not-living-put t x p k l)
 
   finished : Sane (end t x (Signaled n)) → Above t₀ s (end t x (Signaled n)) → Going t₀ (end t x (Signaled n)) s
   finished w h =
-      onward t₀ t (end t x (Signaled n)) s g (fits-of (end t x (Signaled n)) w) (end-still t (g .fits) x (Signaled n) l s o not-above) (end-back t x (Signaled n))
+      onward t₀ t (end t x (Signaled n)) s g (w) (end-still t (g .fits) x (Signaled n) l s o not-above) (end-back t x (Signaled n))
       (ended-end t (g .fits) x (Signaled n))
     where
       tx : So (taken (view t) x)
@@ -172,7 +171,7 @@ module _ (from n : ℕ) (low : n < signals) where
       go : (b : Bool) → living (view t) x ≡ b → Going t₀ (deliver t from x n) s
       go true l =
           applied t₀ t s x n g (unlike _ (λ k. false≢true (sym o ∙ both _ _ (sym (g .seens x) ∙ k) (lived l (living (view t₀) x) refl)))) l (action-on (view t) from x n)
-          (deliver-sane t (g .fits .sane-of) x n low from safe) h
+          (deliver-sane t (g .fits) x n low from safe) h
       go false l = subst (λ u. Going t₀ u s) (sym (deliver-nothing t from x n l)) g
 
   all-going : (xs : List ℕ) (t₀ t : Table) (s : ℕ) → Safe from xs → Going t₀ t s → some-of (λ i. is-inside t₀ (at s) i and living (view t₀) i) xs ≡ false → Above t₀ s (deliver-all t from xs n) → Going t₀ (deliver-all t from xs n) s
@@ -207,14 +206,14 @@ kill-leaves z n t s i h hs k a g = go (within 0 signals n) refl (names-group z) 
     done : natural n < signals → touched t (freed t₁) (at s) i (Kill z n) ≡ false → SoundTable (freed t₁) → (b : Bool) → eqb (natural n) 0 ≡ b → sheet-of (freed t₁) (follow t (freed t₁) (at s)) ≡ sheet (view t) s
     done low o g true e =
         let q = all-zero xs t (view t .own i) (natural n) e in
-        let w = start t s (fits-sound t h) hs in
-        subst (λ y. sheet-of (freed y) (follow t (freed y) (at s)) ≡ sheet (view t) s) (sym q) (freed-after t t s h (fits-sound t h) (subst (λ y. SoundTable (freed y)) q g) hs hs (w .same))
+        let w = start t s (sane t h) hs in
+        subst (λ y. sheet-of (freed y) (follow t (freed y) (at s)) ≡ sheet (view t) s) (sym q) (freed-after t t s h (sane t h) (subst (λ y. SoundTable (freed y)) q g) hs hs (w .same))
     done low o g false e =
         freed-after t t₁ s h (w .fits) g hs (w .stands) (w .same)
       where
         w : Going t t₁ s
         w =
-            all-going (view t .own i) (natural n) low xs t t s (targets-safe (view t) (fits-sound t h .sane-of .facts) i z) (start t s (fits-sound t h) hs) (sent (eqb (natural n) 0) (some-of (λ j. is-inside t (at s) j and living (view t) j) xs) e (or-false-left _ _ o))
+            all-going (view t .own i) (natural n) low xs t t s (targets-safe (view t) (sane t h .facts) i z) (start t s (sane t h) hs) (sent (eqb (natural n) 0) (some-of (λ j. is-inside t (at s) j and living (view t) j) xs) e (or-false-left _ _ o))
             (λ m l c b d y. lives-on t (freed t₁) s (or-false-right _ _ o) m l c b d (unlike _ (λ v. false≢true (sym y ∙ freed-back t₁ m v))))
 
     go : (x : Bool) → within 0 signals n ≡ x → (y : Bool) → names-group z ≡ y → (b : Bool) → eqb (length (targets (view t) i z)) 0 ≡ b → SoundTable (kill t i z n .table) → sheet-of (kill t i z n .table) (follow t (kill t i z n .table) (at s)) ≡ sheet (view t) s

@@ -6,14 +6,14 @@ use mathlib.Core.Path.{_≡_, refl, sym, _∙_, ap, subst}
 use lib.Dec.{eqb}
 use lib.IntN.{ℤ}
 use lib.ListN.{length}
-use Rattle.table.proofs.Sameness.Calls.{namespaces-length}
-use Rattle.table.proofs.Sameness.FreedSame.{process-freed, namespace-freed, children-is-kept}
-use Rattle.table.proofs.Sameness.FreedRow.{empty-sheet, freed-away}
 use Rattle.table.proofs.Laws.Facts.{Facts, facts}
+use Rattle.table.proofs.Laws.Quant.{left, right, both, or-left, or-right, any-intro}
 use Rattle.table.proofs.Laws.Slots.{slot-lt, namespace-lt, seen-taken, children-of}
+use Rattle.table.proofs.Sameness.Calls.{namespaces-length}
+use Rattle.table.proofs.Sameness.FreedRow.{empty-sheet, freed-away}
+use Rattle.table.proofs.Sameness.FreedSame.{process-freed, namespace-freed, children-is-kept}
 use Rattle.table.proofs.Sameness.Light.{relight, Placed, put-light, put-other}
 use Rattle.table.proofs.Sameness.Outside.{MadeLeaves, as-it-was, outsider}
-use Rattle.table.proofs.Laws.Quant.{left, right, both, or-left, or-right, any-intro}
 use Rattle.table.proofs.Sameness.Remain.{Remain, lit, row-remain, seen-remain, below-remain, taken-remain, pid-in-remain, name-remain, standing}
 use Rattle.table.proofs.Sameness.Same.{Same, sheets-of-same}
 use Rattle.table.proofs.Sameness.SetChildrenSame.{everyone, name-no-slot, K, remain-freed, light-remain}

@@ -16,8 +16,8 @@ use Rattle.table.specs.Read.{View, all-seen, below, init, is-init, no-pr
 use Rattle.table.specs.Records.{put}
 use Rattle.table.specs.Sheet.{Name, Row, by-init, dead-at, name, name-by, nearest-alive, no-name, row, sheet}
 use Rattle.table.specs.Tests.{if_then_else_, values}
-use Rattle.table.specs.declared.Life.{Life}
 use Rattle.table.specs.declared.Life.the-variants.{Unborn, Alive, Dead}
+use Rattle.table.specs.declared.Life.{Life}
 use Rattle.table.specs.declared.Process.{Process}
 use Rattle.table.specs.declared.State.{State}
 use Rattle.table.specs.declared.Table.{Table}

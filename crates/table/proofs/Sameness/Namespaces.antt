@@ -3,17 +3,17 @@ use Prim.Native.Nat.{ℕ, _<_, _≤_}
 use native.Mathlib.Omega.{arith}
 use mathlib.Core.Bool.{Bool, true, false, So, false≢true}
 use mathlib.Core.Path.{_≡_, refl, sym, _∙_, ap, subst}
-use Rattle.table.proofs.Sameness.Anchor.{anchor, anchor-self, anchor-alive, anchor-below, anchor-least, is-by-init, is-unborn-name, name-pid, name-taken, name-alive, name-anchor}
 use Rattle.table.proofs.Laws.Facts.{Facts}
-use Rattle.table.proofs.Laws.Slots.{living-taken, below-trans, below-level, below-same, below-parent, init-seen, alive-not-unborn}
 use Rattle.table.proofs.Laws.Quant.{both}
+use Rattle.table.proofs.Laws.Slots.{living-taken, below-trans, below-level, below-same, below-parent, init-seen, alive-not-unborn}
+use Rattle.table.proofs.Sameness.Anchor.{anchor, anchor-self, anchor-alive, anchor-below, anchor-least, is-by-init, is-unborn-name, name-pid, name-taken, name-alive, name-anchor}
 use Rattle.table.proofs.Sameness.Readers.{parent-seen, parent-twin, seen-above}
 use Rattle.table.proofs.Sameness.Twins.{Pair, Twin, Twins, bool-ext, pid-in-seen, below-twins, seen-twins, twins-up, twins-level}
 use Rattle.table.specs.Read.{View, alive, below, init, is-alive, is-unborn, living, namespace-taken, pid-in, seen, unborn}
 use Rattle.table.specs.Sheet.{Name, by-init, dead-at, name, name-by, no-name, unborn-name}
 use Rattle.table.specs.Sound as S
-use Rattle.table.specs.declared.Life.{Life}
 use Rattle.table.specs.declared.Life.the-variants.{Unborn, Alive, Dead}
+use Rattle.table.specs.declared.Life.{Life}
 
 abbrev name-level : Name → ℕ
 name-level (by-init k) = 0

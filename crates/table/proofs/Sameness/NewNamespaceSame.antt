@@ -7,25 +7,25 @@ use mathlib.Core.Path.{_≡_, refl, sym, _∙_, ap, subst, subst₂}
 use borrow.Author.Tests.{eqb-false, ne-eqb}
 use lib.Dec.{eqb}
 use lib.Seq.{getD-set-same, getD-set-other}
+use Rattle.table.proofs.Keeps.Changed.{process-count, namespace-count}
+use Rattle.table.proofs.Keeps.Changes.{namespace-sane}
+use Rattle.table.proofs.Laws.Facts.{Facts, facts, Sane, sane}
+use Rattle.table.proofs.Laws.Quant.{isnt, or-right, or-false-left, or-false-right}
+use Rattle.table.proofs.Laws.Slots.{seen-taken, slot-lt, own-taken, up-taken, alive-taken, children-of, below-trans}
+use Rattle.table.proofs.Sameness.Anchor.{up-below}
 use Rattle.table.proofs.Sameness.BirthPids.{Cradles}
 use Rattle.table.proofs.Sameness.BirthSame.{birth-same}
 use Rattle.table.proofs.Sameness.BirthTable.{grown, lights, the-child}
 use Rattle.table.proofs.Sameness.Calls.{shown, both-refuse, both-change, owns-twins, own-lives}
 use Rattle.table.proofs.Sameness.CloneSame.{no-room-left, no-room-right, one-up}
-use Rattle.table.proofs.Keeps.Changes.{namespace-sane}
-use Rattle.table.proofs.Sameness.DeliverSame.{Fits, fits-of, fits-sound}
 use Rattle.table.proofs.Sameness.ExitSame.{runs-living}
 use Rattle.table.proofs.Sameness.Find.{lowest-cases}
 use Rattle.table.proofs.Sameness.Inside.{Kept, Ready, MadeSame, stands-same}
-use Rattle.table.proofs.Laws.Facts.{Facts, facts}
-use Rattle.table.proofs.Laws.Slots.{seen-taken, slot-lt, own-taken, up-taken, alive-taken, children-of, below-trans}
 use Rattle.table.proofs.Sameness.Light.{Placed, put-light}
 use Rattle.table.proofs.Sameness.NextPid.{next-twins}
-use Rattle.table.proofs.Laws.Quant.{isnt, or-right, or-false-left, or-false-right}
 use Rattle.table.proofs.Sameness.Remain.{Remain, Lit, same-remain, standing, pid-in-remain, name-remain, seen-remain, pid-remain}
 use Rattle.table.proofs.Sameness.SetChildrenSame.{everyone, name-no-slot, same-set-children, remain-set-children, alive-kept}
 use Rattle.table.proofs.Sameness.Twins.{Pair, Twin, Twins, twin-rows, twins-level, owns}
-use Rattle.table.proofs.Sameness.Anchor.{up-below}
 use Rattle.table.specs.Answers.{answers, granted}
 use Rattle.table.specs.Births.{birth, newborn}
 use Rattle.table.specs.Calls.{born, clone-new, new-namespace, own-level, set-children, unshare}
@@ -47,7 +47,7 @@ namespace-slot-free : (v : View) → (free-namespace-slot v ≡ namespace-slots 
 unfolding free-namespace-slot
 namespace-slot-free v h = ⊎-elim (λ x. (x .0, x .1)) (λ x. absurd (h (x .0))) (lowest-cases (λ n. not (namespace-taken v n)) namespace-slots 0)
 
-module _ (t : Table) (f : Fits t) (c : ℕ) (room : free-namespace-slot (view t) ≡ namespace-slots → ⊥) where
+module _ (t : Table) (f : Sane t) (c : ℕ) (room : free-namespace-slot (view t) ≡ namespace-slots → ⊥) where
   abbrev pub x : ℕ
   x = free-namespace-slot (view t)
 
@@ -64,7 +64,7 @@ module _ (t : Table) (f : Fits t) (c : ℕ) (room : free-namespace-slot (view t)
 
   pub the-namespace : namespace t₁ x ≡ record { parent = record { 0 = view t .own c }; level = suc (view t .level (view t .own c)); last = to-pid 0; life = Unborn }
   unfolding new-namespace
-  the-namespace = getD-set-same (t .namespaces) x _ no-namespace (omega (arith, f .length-namespaces, namespace-slot-free (view t) room .1))
+  the-namespace = getD-set-same (t .namespaces) x _ no-namespace (omega (arith, namespace-count t (f .shape-of), namespace-slot-free (view t) room .1))
 
   pub taken-other : (n : ℕ) → So (namespace-taken (view t) n) → n ≡ x → ⊥
   taken-other n h e = false≢true (sym (isnt _ (namespace-slot-free (view t) room .0)) ∙ ap (namespace-taken (view t)) (sym e) ∙ h)
@@ -130,11 +130,11 @@ still-there t c i h = h
 -- ---- two tables
 
 module _ (t u : Table) (s r c d : ℕ) (w : Ready t u s r c d) (ot : own-level (view t) c ≡ deepest → ⊥) (ou : own-level (view u) d ≡ deepest → ⊥) (rt : free-namespace-slot (view t) ≡ namespace-slots → ⊥) (ru : free-namespace-slot (view u) ≡ namespace-slots → ⊥) where
-  ft : Fits t
-  ft = fits-sound t (w .sound-t)
+  ft : Sane t
+  ft = sane t (w .sound-t)
 
-  fu : Fits u
-  fu = fits-sound u (w .sound-u)
+  fu : Sane u
+  fu = sane u (w .sound-u)
 
   abbrev tn : Table
   tn = new-namespace t c
@@ -142,11 +142,11 @@ module _ (t u : Table) (s r c d : ℕ) (w : Ready t u s r c d) (ot : own-level (
   abbrev un : Table
   un = new-namespace u d
 
-  gt : Fits tn
-  gt = fits-of tn (namespace-sane t (ft .sane-of) c (runs-living t c (w .runs-t)) ot rt)
+  gt : Sane tn
+  gt = (namespace-sane t (ft) c (runs-living t c (w .runs-t)) ot rt)
 
-  gu : Fits un
-  gu = fits-of un (namespace-sane u (fu .sane-of) d (runs-living u d (w .runs-u)) ou ru)
+  gu : Sane un
+  gu = (namespace-sane u (fu) d (runs-living u d (w .runs-u)) ou ru)
 
   new-lit : (i j : ℕ) → Twin (view t) (view u) s r i j → Lit (view t) (view u) (view tn) (view un) s r i j
   unfolding row
@@ -165,7 +165,7 @@ module _ (t u : Table) (s r c d : ℕ) (w : Ready t u s r c d) (ot : own-level (
         lasts = last-there t ft c rt i ti ∙ ap (λ (o : Row). o .last) rows ∙ sym (last-there u fu d ru j tj);
       }
     where
-      parent-there : (z : Table) (f : Fits z) (e : ℕ) (room : free-namespace-slot (view z) ≡ namespace-slots → ⊥) (q i : ℕ) → So (alive (view z) q) → pid-in (view (new-namespace z e)) q (view (new-namespace z e) .parent i) ≡ pid-in (view z) q (view z .parent i)
+      parent-there : (z : Table) (f : Sane z) (e : ℕ) (room : free-namespace-slot (view z) ≡ namespace-slots → ⊥) (q i : ℕ) → So (alive (view z) q) → pid-in (view (new-namespace z e)) q (view (new-namespace z e) .parent i) ≡ pid-in (view z) q (view z .parent i)
       parent-there z f e room q i a =
           ap (λ p. pid-in (view (new-namespace z e)) q (p .parent .0)) (same-process z f e room i)
           ∙ pid-in-remain (view z) (view (new-namespace z e)) (K z f e room) everyone (f .facts) (namespace-remain z f e room) q (view z .parent i) (alive-kept-there z f e room q a) refl
@@ -192,7 +192,7 @@ module _ (t u : Table) (s r c d : ℕ) (w : Ready t u s r c d) (ot : own-level (
 
   -- ---- unshare
 
-  stands-here : (z : Table) (f : Fits z) (e : ℕ) (room : free-namespace-slot (view z) ≡ namespace-slots → ⊥) (q : ℕ) → So (alive (view z) q) → So (namespace-taken (view (new-namespace z e)) q)
+  stands-here : (z : Table) (f : Sane z) (e : ℕ) (room : free-namespace-slot (view z) ≡ namespace-slots → ⊥) (q : ℕ) → So (alive (view z) q) → So (namespace-taken (view (new-namespace z e)) q)
   stands-here z f e room q a = standing (view z) (view (new-namespace z e)) (K z f e room) everyone (namespace-remain z f e room) q (alive-kept-there z f e room q a) (alive-taken (view z) (f .facts) q a)
 
   unshared-kept : SoundTable (set-children tn c (free-namespace-slot (view t)) true) → SoundTable (set-children un d (free-namespace-slot (view u)) true) → Kept t u s r (answers (set-children tn c (free-namespace-slot (view t)) true) 0) (answers (set-children un d (free-namespace-slot (view u)) true) 0)
@@ -205,7 +205,7 @@ module _ (t u : Table) (s r c d : ℕ) (w : Ready t u s r c d) (ot : own-level (
       both-change t u s r c d w _ _ 0 0 refl h g
       (standing _ _ _ _ (remain-set-children tn (gt .facts) c _ a) s (alive-kept (view tn) (gt .facts) (put tn c _) (put-light tn c _ a) s (new-pair .alive-v)) (stands-here t ft c rt s (w .pair .alive-v)))
       (standing _ _ _ _ (remain-set-children un (gu .facts) d _ b) r (alive-kept (view un) (gu .facts) (put un d _) (put-light un d _ b) r (new-pair .alive-u)) (stands-here u fu d ru r (w .pair .alive-u)))
-      (same-set-children tn un s r c d new-pair k (omega (arith, gt .length-processes, slot-lt (view t) (ft .facts) c (seen-taken (view t) (ft .facts) s c (w .twin .seen-v)))) (omega (arith, gu .length-processes, slot-lt (view u) (fu .facts) d (seen-taken (view u) (fu .facts) r d (w .twin .seen-u)))) _ _ a b
+      (same-set-children tn un s r c d new-pair k (omega (arith, process-count tn (gt .shape-of), slot-lt (view t) (ft .facts) c (seen-taken (view t) (ft .facts) s c (w .twin .seen-v)))) (omega (arith, process-count un (gu .shape-of), slot-lt (view u) (fu .facts) d (seen-taken (view u) (fu .facts) r d (w .twin .seen-u)))) _ _ a b
       (record { states = z .states; handleds = z .handleds; pendings = z .pendings; marks = refl; childrens = x-name t ft c rt s ∙ sym (x-name u fu d ru r) })
       (inl (x-taken t ft c rt)) (inl (x-taken u fu d ru)))
 
@@ -229,7 +229,7 @@ module _ (t u : Table) (s r c d : ℕ) (w : Ready t u s r c d) (ot : own-level (
       })
 
   -- the fresh namespace lies below S
-  fresh-below : (z : Table) (f : Fits z) (e : ℕ) (room : free-namespace-slot (view z) ≡ namespace-slots → ⊥) (g : Facts (view (new-namespace z e))) (q : ℕ) → So (below (view (new-namespace z e)) (view z .own e) q) → So (below (view (new-namespace z e)) (free-namespace-slot (view z)) q)
+  fresh-below : (z : Table) (f : Sane z) (e : ℕ) (room : free-namespace-slot (view z) ≡ namespace-slots → ⊥) (g : Facts (view (new-namespace z e))) (q : ℕ) → So (below (view (new-namespace z e)) (view z .own e) q) → So (below (view (new-namespace z e)) (free-namespace-slot (view z)) q)
   fresh-below z f e room g q h =
       below-trans (view (new-namespace z e)) g _ (view z .own e) q
       (subst (λ n. So (below (view (new-namespace z e)) (free-namespace-slot (view z)) n)) (ap (λ q. q .parent .0) (the-namespace z f e room)) (up-below (view (new-namespace z e)) g (free-namespace-slot (view z)) _ (ap (λ q. q .level) (the-namespace z f e room)))) h

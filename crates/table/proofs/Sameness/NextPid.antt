@@ -5,8 +5,8 @@ use mathlib.Core.Path.{_≡_, refl, sym, _∙_, ap, ap₂, fun-ext}
 use borrow.Author.Tests.{eq-eqb, eqb-true}
 use lib.Dec.{eqb, leb}
 use Rattle.table.proofs.Laws.Facts.{Facts}
-use Rattle.table.proofs.Laws.Slots.{slot-lt, seen-taken, init-own}
 use Rattle.table.proofs.Laws.Quant.{left, right, both, any-elim, any-intro}
+use Rattle.table.proofs.Laws.Slots.{slot-lt, seen-taken, init-own}
 use Rattle.table.proofs.Sameness.Readers.{seen-above}
 use Rattle.table.proofs.Sameness.Twins.{Pair, Twins, flip-pair, flip-twins, bool-ext, twin-there, twin-rows, seen-twins, pid-twins, inits-twin}
 use Rattle.table.specs.Limits.{greatest-pid, process-slots, restart-pid}

@@ -5,10 +5,10 @@ use mathlib.Core.Path.{_≡_, refl}
 use lib.Dec.{eqb}
 use lib.IntN.{ℤ}
 use Rattle.table.proofs.Keeps.Changes.{make-sound}
-use Rattle.table.proofs.Sameness.Glue.{follow-self}
-use Rattle.table.proofs.Sameness.Light.{put-outside}
 use Rattle.table.proofs.Laws.Quant.{left, isnt}
 use Rattle.table.proofs.Laws.Steps.{step-made, step-refused}
+use Rattle.table.proofs.Sameness.Glue.{follow-self}
+use Rattle.table.proofs.Sameness.Light.{put-outside}
 use Rattle.table.specs.Answers.{answers, granted, refused}
 use Rattle.table.specs.Calls.{getpid, getppid, handle, handle-off, handle-on, natural, poll, within}
 use Rattle.table.specs.Claims.{OutsideLeaves}
@@ -22,8 +22,8 @@ use Rattle.table.specs.Sound.{SoundTable}
 use Rattle.table.specs.Step.{make, runs, step}
 use Rattle.table.specs.Tests.{_or_}
 use Rattle.table.specs.Touches.{allowed}
-use Rattle.table.specs.declared.Call.{Call}
 use Rattle.table.specs.declared.Call.the-variants.{Getpid, Getppid, Handle, Poll}
+use Rattle.table.specs.declared.Call.{Call}
 use Rattle.table.specs.declared.Table.{Table}
 
 -- what is to prove of a call made by a running outsider

@@ -6,10 +6,10 @@ use mathlib.Core.Logic.{_⊎_, inl, inr}
 use mathlib.Core.Path.{_≡_, refl, sym, _∙_, ap, ap₂, subst}
 use borrow.Author.Tests.{eq-eqb, ne-eqb, eqb-true}
 use lib.Dec.{eqb}
-use Rattle.table.proofs.Sameness.Find.{Found, find-cases}
 use Rattle.table.proofs.Laws.Facts.{Facts}
-use Rattle.table.proofs.Laws.Slots.{slot-lt, seen-taken, seen-below, below-level, below-trans, pid-pos, alive-taken, pid-unique}
 use Rattle.table.proofs.Laws.Quant.{left, right, both}
+use Rattle.table.proofs.Laws.Slots.{slot-lt, seen-taken, seen-below, below-level, below-trans, pid-pos, alive-taken, pid-unique}
+use Rattle.table.proofs.Sameness.Find.{Found, find-cases}
 use Rattle.table.proofs.Sameness.Twins.{Pair, Twin, Twins, flip-pair, flip-twin, bool-ext, pid-in-seen, twin-rows, twin-there, twin-unique, seen-twins, pid-twins, inits-twin, owns}
 use Rattle.table.specs.Limits.{process-slots}
 use Rattle.table.specs.Read.{View, alive, below, child-of, find, is-init, pid-in, pid-seen, seen}

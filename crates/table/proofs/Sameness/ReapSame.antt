@@ -1,18 +1,18 @@
 -- wait, by twin callers.
 use Prim.Native.Nat.{ℕ, zero, suc, _<_, _≤_}
-use native.Mathlib.Omega.{arith}
 use native.Mathlib.Decide.{ℕ-discrete}
+use native.Mathlib.Omega.{arith}
 use mathlib.Core.Bool.{Bool, true, false, not, So, false≢true}
 use mathlib.Core.Logic.{_⊎_, inl, inr, ⊎-elim}
 use mathlib.Core.Path.{_≡_, refl, sym, _∙_, ap, subst}
 use borrow.Author.Tests.{eqb-true, eqb-false, ne-eqb, ltb-true, ltb-false}
 use lib.Dec.{eqb, ltb}
 use lib.Seq.{getD-set-same, getD-set-other}
+use Rattle.table.proofs.Laws.Facts.{Facts, facts}
+use Rattle.table.proofs.Laws.Quant.{right, both, isnt, and-false, true-and, true-or, false-or-true, false-or-false, true-and-false}
+use Rattle.table.proofs.Laws.Slots.{slot-lt, seen-taken, children-of, alive-taken, init-taken, init-own, init-living, parent-living, past-level}
 use Rattle.table.proofs.Sameness.Calls.{shown, processes-length}
 use Rattle.table.proofs.Sameness.FreedSame.{process-freed, namespace-freed, own-is-kept, children-is-kept, freed-remain}
-use Rattle.table.proofs.Laws.Facts.{Facts, facts}
-use Rattle.table.proofs.Laws.Slots.{slot-lt, seen-taken, children-of, alive-taken, init-taken, init-own, init-living, parent-living, past-level}
-use Rattle.table.proofs.Laws.Quant.{right, both, isnt, and-false, true-and, true-or, false-or-true, false-or-false, true-and-false}
 use Rattle.table.proofs.Sameness.Readers.{twin-eqb}
 use Rattle.table.proofs.Sameness.Remain.{Remain, Lit, same-remain, standing, pid-in-remain, name-remain, taken-remain}
 use Rattle.table.proofs.Sameness.Same.{Same}

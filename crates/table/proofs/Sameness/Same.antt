@@ -6,8 +6,8 @@ use mathlib.Core.List.{map}
 use mathlib.Core.Path.{_≡_, sym, _∙_, ap, subst}
 use lib.ListN.{getD}
 use Rattle.table.proofs.Laws.Facts.{Facts}
-use Rattle.table.proofs.Laws.Slots.{slot-lt, seen-taken, pid-unique, level-deepest}
 use Rattle.table.proofs.Laws.Lists.{In, in-map, map-in, in-ascending, ascending-in, ascending-sorted, Sorted, map-sorted, sorted-unique}
+use Rattle.table.proofs.Laws.Slots.{slot-lt, seen-taken, pid-unique, level-deepest}
 use Rattle.table.specs.Limits.{levels, process-slots}
 use Rattle.table.specs.Read.{View, all-seen, namespace-taken, pid-seen, seen}
 use Rattle.table.specs.Sheet.{Row, row, sheet}

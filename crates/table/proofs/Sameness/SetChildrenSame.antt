@@ -1,18 +1,18 @@
 -- A process changed in its lights, then namespaces freed: setns, and the first half of unshare.
 use Prim.Native.Nat.{ℕ, _<_}
-use native.Mathlib.Omega.{arith}
 use native.Mathlib.Decide.{ℕ-discrete}
+use native.Mathlib.Omega.{arith}
 use mathlib.Core.Bool.{Bool, true, So, false≢true}
 use mathlib.Core.Logic.{_⊎_, inl, ⊎-elim}
 use mathlib.Core.Path.{_≡_, refl, sym, _∙_, ap, subst}
 use borrow.Author.Tests.{eq-eqb}
 use lib.ListN.{length}
+use Rattle.table.proofs.Laws.Facts.{Facts}
+use Rattle.table.proofs.Laws.Quant.{right, both}
+use Rattle.table.proofs.Laws.Slots.{slot-lt, seen-taken, children-of, alive-taken, init-taken, init-own, past-level}
 use Rattle.table.proofs.Sameness.Calls.{Shown, shown, shown-put, lights-of}
 use Rattle.table.proofs.Sameness.FreedSame.{process-freed, namespace-freed, own-is-kept, children-is-kept, freed-remain}
-use Rattle.table.proofs.Laws.Facts.{Facts}
-use Rattle.table.proofs.Laws.Slots.{slot-lt, seen-taken, children-of, alive-taken, init-taken, init-own, past-level}
 use Rattle.table.proofs.Sameness.Light.{relight, Lights, Placed, put-light, put-same, put-other}
-use Rattle.table.proofs.Laws.Quant.{right, both}
 use Rattle.table.proofs.Sameness.Remain.{Remain, Lit, standing, same-remain, pid-in-remain, name-remain, taken-remain}
 use Rattle.table.proofs.Sameness.Same.{Same}
 use Rattle.table.proofs.Sameness.Twins.{Pair, Twin, twin-rows}

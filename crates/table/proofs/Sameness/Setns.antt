@@ -7,10 +7,10 @@ use mathlib.Core.Path.{_≡_, refl, sym, ap}
 use borrow.Author.Tests.{eq-eqb, ne-eqb}
 use lib.Dec.{eqb}
 use lib.IntN.{ℤ, pos, negsuc}
-use Rattle.table.proofs.Sameness.Calls.{shown, both-refuse, both-change, owns-twins, lt-t, lt-u, taken-s, taken-r}
-use Rattle.table.proofs.Sameness.Inside.{Kept, Ready, MadeSame}
 use Rattle.table.proofs.Laws.Facts.{facts}
 use Rattle.table.proofs.Laws.Slots.{seen-taken, own-taken}
+use Rattle.table.proofs.Sameness.Calls.{shown, both-refuse, both-change, owns-twins, lt-t, lt-u, taken-s, taken-r}
+use Rattle.table.proofs.Sameness.Inside.{Kept, Ready, MadeSame}
 use Rattle.table.proofs.Sameness.Light.{Placed, put-light}
 use Rattle.table.proofs.Sameness.Readers.{find-twins}
 use Rattle.table.proofs.Sameness.Remain.{standing}

@@ -1,31 +1,31 @@
 -- A change that leaves all that the sheet of S rests on.
 use Prim.Native.Nat.{ℕ, zero, suc, _-_, _<_, _≤_}
-use native.Mathlib.Omega.{arith}
 use native.Mathlib.Decide.{ℕ-discrete}
+use native.Mathlib.Omega.{arith}
 use mathlib.Core.Bool.{Bool, true, false, not, So, false≢true}
 use mathlib.Core.Logic.{_⊎_, inl, inr, ⊎-elim}
 use mathlib.Core.Path.{_≡_, refl, sym, _∙_, ap, ap₂, subst, fun-ext}
 use lib.Dec.{eqb}
-use Rattle.table.proofs.Sameness.Anchor.{anchor, up-below}
-use Rattle.table.proofs.Sameness.DeliverSame.{Fits}
-use Rattle.table.proofs.Sameness.FreedRow.{freed-seen, freed-row, seen-keeps, level-kept, kept-stands, not-kept-gone}
-use Rattle.table.proofs.Laws.Facts.{Facts}
-use Rattle.table.proofs.Laws.Slots.{up-level, seen-taken, seen-below, below-trans, below-parent, below-same, below-level}
-use Rattle.table.proofs.Sameness.Leaves.{stands-leaves, gone-leaves}
+use Rattle.table.proofs.Keeps.Changed.{namespace-count}
+use Rattle.table.proofs.Laws.Facts.{Facts, Sane}
 use Rattle.table.proofs.Laws.Quant.{both, cases, or-left, or-right}
-use Rattle.table.proofs.Sameness.Same.{Same}
-use Rattle.table.proofs.Sameness.Namespaces.{children-below}
+use Rattle.table.proofs.Laws.Slots.{up-level, seen-taken, seen-below, below-trans, below-parent, below-same, below-level}
 use Rattle.table.proofs.Laws.Tree.{below-refl}
+use Rattle.table.proofs.Sameness.Anchor.{anchor, up-below}
+use Rattle.table.proofs.Sameness.FreedRow.{freed-seen, freed-row, seen-keeps, level-kept, kept-stands, not-kept-gone}
+use Rattle.table.proofs.Sameness.Leaves.{stands-leaves, gone-leaves}
+use Rattle.table.proofs.Sameness.Namespaces.{children-below}
+use Rattle.table.proofs.Sameness.Same.{Same}
 use Rattle.table.proofs.Sameness.SetChildrenSame.{name-no-slot}
 use Rattle.table.specs.Events.{at, follow, sheet-of}
 use Rattle.table.specs.Freeing.{freed, kept}
 use Rattle.table.specs.Limits.{levels, no-slot}
 use Rattle.table.specs.Read.{View, below, climb, init, init-of, is-alive, is-init, living, namespace-taken, pid-in, pid-seen, seen, taken, view}
 use Rattle.table.specs.Sheet.{by-init, dead-at, name, name-by, nearest, no-name, row, sheet}
-use Rattle.table.specs.Tests.{_or_, if_then_else_, values}
 use Rattle.table.specs.Sound as S
-use Rattle.table.specs.declared.Life.{Life}
+use Rattle.table.specs.Tests.{_or_, if_then_else_, values}
 use Rattle.table.specs.declared.Life.the-variants.{Unborn, Alive, Dead}
+use Rattle.table.specs.declared.Life.{Life}
 use Rattle.table.specs.declared.Table.{Table}
 
 -- the namespaces of K, those that the rows name and all above them, and the processes of S stand as they stood
@@ -164,7 +164,7 @@ module _ (v : View) (f : Facts v) (s : ℕ) where
 
 -- ---- then namespaces are freed
 
-pub freed-after : (t t₁ : Table) (s : ℕ) → S.SoundTable t → Fits t₁ → S.SoundTable (freed t₁) → So (namespace-taken (view t) s) → So (namespace-taken (view t₁) s) → Same (view t₁) (view t) s s → sheet-of (freed t₁) (follow t (freed t₁) (at s)) ≡ sheet (view t) s
+pub freed-after : (t t₁ : Table) (s : ℕ) → S.SoundTable t → Sane t₁ → S.SoundTable (freed t₁) → So (namespace-taken (view t) s) → So (namespace-taken (view t₁) s) → Same (view t₁) (view t) s s → sheet-of (freed t₁) (follow t (freed t₁) (at s)) ≡ sheet (view t) s
 freed-after t t₁ s h fits h′ hs hs₁ w = go (kept (view t₁) s) refl
   where
     f : Facts (view t₁)
@@ -178,4 +178,4 @@ freed-after t t₁ s h fits h′ hs hs₁ w = go (kept (view t₁) s) refl
           there = λ i k. let q = sym (freed-seen t₁ f s i) ∙ k in let (j, m, e) = w .there i q in (j, m, freed-row t₁ f s i ks (seen-taken (view t₁) f s i q) ∙ e);
           back = λ j k. let (i, m, e) = w .back j k in (i, freed-seen t₁ f s i ∙ m, freed-row t₁ f s i ks (seen-taken (view t₁) f s i m) ∙ e);
         })
-    go false ks = gone-leaves t (freed t₁) s (not-kept-gone t₁ f s (fits .length-namespaces) hs₁ ks) (λ j k. let (i, m, e) = w .back j k in false≢true (sym ks ∙ seen-keeps t₁ f s i m))
+    go false ks = gone-leaves t (freed t₁) s (not-kept-gone t₁ f s (namespace-count t₁ (fits .shape-of)) hs₁ ks) (λ j k. let (i, m, e) = w .back j k in false≢true (sym ks ∙ seen-keeps t₁ f s i m))

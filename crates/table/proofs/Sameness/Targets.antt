@@ -9,11 +9,12 @@ use borrow.Author.Tests.{eqb-false, eq-eqb, ne-eqb}
 use lib.Dec.{eqb}
 use lib.IntN.{ℤ, pos, negsuc}
 use lib.ListN.{length}
-use Rattle.table.proofs.Sameness.Calls.{owns-twins}
-use Rattle.table.proofs.Sameness.Inside.{Ready}
 use Rattle.table.proofs.Laws.Facts.{Facts}
-use Rattle.table.proofs.Laws.Slots.{pid-unique, alive-taken}
 use Rattle.table.proofs.Laws.Lists.{In, in-map, map-in, ascending-sorted, Sorted, map-sorted, sorted-unique, heads-equal, tails-equal, not-empty}
+use Rattle.table.proofs.Laws.Slots.{pid-unique, alive-taken}
+use Rattle.table.proofs.Sameness.Calls.{owns-twins}
+use Rattle.table.proofs.Sameness.Find.{Found, find-cases}
+use Rattle.table.proofs.Sameness.Inside.{Ready}
 use Rattle.table.proofs.Sameness.Readers.{seen-above, twin-eqb}
 use Rattle.table.proofs.Sameness.Same.{seen-listed, listed-seen}
 use Rattle.table.proofs.Sameness.Setns.{Named, named-twins}
@@ -22,7 +23,6 @@ use Rattle.table.specs.Calls.{named, others, targets}
 use Rattle.table.specs.Limits.{process-slots}
 use Rattle.table.specs.Read.{View, alive, all-seen, find, pid-seen, seen, view}
 use Rattle.table.specs.Tests.{_and_, if_then_else_, only}
-use Rattle.table.proofs.Sameness.Find.{Found, find-cases}
 use Rattle.table.specs.declared.Table.{Table}
 
 -- two lists, related place by place

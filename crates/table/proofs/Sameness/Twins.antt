@@ -1,15 +1,15 @@
 -- Two tables that are the same to a living namespace: what corresponds, and that reading it gives the same.
 use Prim.Native.Nat.{ℕ, zero, suc, pred, _+_, _-_, _<_, _≤_}
-use native.Mathlib.Omega.{arith}
 use native.Mathlib.Decide.{decLt}
+use native.Mathlib.Omega.{arith}
 use mathlib.Core.Bool.{Bool, true, false, So}
 use mathlib.Core.Path.{_≡_, refl, sym, _∙_, ap, subst, subst₂}
 use lib.ListN.{getD}
+use Rattle.table.proofs.Laws.Facts.{Facts}
+use Rattle.table.proofs.Laws.Quant.{right, both}
+use Rattle.table.proofs.Laws.Slots.{seen-taken, seen-below, pid-unique, own-taken, own-not-unborn, pid-pos, pid-zero, level-deepest, below-level, below-trans, below-parent, below-up-by, up-by-below, up-level, alive-taken, alive-up, init-seen, init-own, init-parent, init-taken, living-taken, parent-living, not-root, root-own}
 use Rattle.table.proofs.Sameness.Anchor.{anchor, anchor-self, anchor-alive, anchor-below, anchor-least, is-by-init, name-pid, name-alive, name-anchor}
 use Rattle.table.proofs.Sameness.Find.{row-pid}
-use Rattle.table.proofs.Laws.Facts.{Facts}
-use Rattle.table.proofs.Laws.Slots.{seen-taken, seen-below, pid-unique, own-taken, own-not-unborn, pid-pos, pid-zero, level-deepest, below-level, below-trans, below-parent, below-up-by, up-by-below, up-level, alive-taken, alive-up, init-seen, init-own, init-parent, init-taken, living-taken, parent-living, not-root, root-own}
-use Rattle.table.proofs.Laws.Quant.{right, both}
 use Rattle.table.proofs.Sameness.Same.{Same, getD-values, level-lt}
 use Rattle.table.specs.Limits.{levels}
 use Rattle.table.specs.Read.{View, alive, below, init, pid-in, pid-seen, seen, taken, up-by}

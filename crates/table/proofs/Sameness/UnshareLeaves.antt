@@ -5,22 +5,22 @@ use mathlib.Core.Logic.{inl}
 use mathlib.Core.Path.{_≡_, refl, sym, _∙_, ap, subst}
 use borrow.Author.Tests.{eqb-false}
 use lib.Dec.{eqb}
-use Rattle.table.proofs.Sameness.BirthLeaves.{same-trans, new-same, new-stands, new-seen}
+use Rattle.table.proofs.Keeps.Changed.{namespace-count}
 use Rattle.table.proofs.Keeps.Changes.{namespace-sane}
-use Rattle.table.proofs.Sameness.DeliverSame.{Fits, fits-of, fits-sound}
-use Rattle.table.proofs.Sameness.ExitSame.{runs-living}
-use Rattle.table.proofs.Sameness.FreedSame.{process-freed, namespace-freed, children-is-kept}
-use Rattle.table.proofs.Sameness.FreedRow.{freed-away}
-use Rattle.table.proofs.Laws.Facts.{Facts, facts}
+use Rattle.table.proofs.Laws.Facts.{Facts, facts, Sane, sane}
+use Rattle.table.proofs.Laws.Quant.{left, right, both, or-left, or-right, any-intro}
 use Rattle.table.proofs.Laws.Slots.{slot-lt, namespace-lt, seen-taken}
+use Rattle.table.proofs.Sameness.BirthLeaves.{same-trans, new-same, new-stands, new-seen}
+use Rattle.table.proofs.Sameness.ExitSame.{runs-living}
+use Rattle.table.proofs.Sameness.FreedRow.{freed-away}
+use Rattle.table.proofs.Sameness.FreedSame.{process-freed, namespace-freed, children-is-kept}
 use Rattle.table.proofs.Sameness.Leaves.{stands-leaves, gone-leaves}
 use Rattle.table.proofs.Sameness.Light.{relight, Placed, put-light, put-other}
 use Rattle.table.proofs.Sameness.Outside.{MadeLeaves, as-it-was, outsider}
-use Rattle.table.proofs.Laws.Quant.{left, right, both, or-left, or-right, any-intro}
 use Rattle.table.proofs.Sameness.Remain.{Remain, seen-remain, below-remain, taken-remain}
 use Rattle.table.proofs.Sameness.Same.{Same}
-use Rattle.table.proofs.Sameness.Still.{Still, same-still, stands-still}
 use Rattle.table.proofs.Sameness.SetChildrenSame.{everyone, K, remain-freed, light-remain}
+use Rattle.table.proofs.Sameness.Still.{Still, same-still, stands-still}
 use Rattle.table.specs.Answers.{answers, granted, refused}
 use Rattle.table.specs.Calls.{new-namespace, own-level, set-children, unshare}
 use Rattle.table.specs.Events.{at, follow, sheet-of}
@@ -37,7 +37,7 @@ use Rattle.table.specs.declared.Process.{Process}
 use Rattle.table.specs.declared.Table.{Table}
 
 -- lights changed, of no process of S, then namespaces freed
-module _ (t₁ : Table) (w : Fits t₁) (t₂ : Table) (p : view t₂ ≡ relight (view t₁) (view t₂)) (s : ℕ) (same : (i : ℕ) → So (seen (view t₁) s i) → process t₂ i ≡ process t₁ i) where
+module _ (t₁ : Table) (w : Sane t₁) (t₂ : Table) (p : view t₂ ≡ relight (view t₁) (view t₂)) (s : ℕ) (same : (i : ℕ) → So (seen (view t₁) s i) → process t₂ i ≡ process t₁ i) where
   f : Facts (view t₁)
   f = w .facts
 
@@ -88,7 +88,7 @@ module _ (t₁ : Table) (w : Fits t₁) (t₂ : Table) (p : view t₂ ≡ religh
   pub relit-stands : So (kept (view t₂) s) → So (namespace-taken (view t₁) s) → So (namespace-taken (view (freed t₂)) s)
   relit-stands ks = stands-still (view t₁) (view (freed t₂)) s (K (view t₁) f t₂ p) f (relit-still ks)
 
-module _ (t : Table) (h : SoundTable t) (c : ℕ) (room : free-namespace-slot (view t) ≡ namespace-slots → ⊥) (s : ℕ) (hs : So (namespace-taken (view t) s)) (o : seen (view t) s c ≡ false) (w : Fits (new-namespace t c)) (q : Process) (placed : Placed q (process (new-namespace t c) c)) where
+module _ (t : Table) (h : SoundTable t) (c : ℕ) (room : free-namespace-slot (view t) ≡ namespace-slots → ⊥) (s : ℕ) (hs : So (namespace-taken (view t) s)) (o : seen (view t) s c ≡ false) (w : Sane (new-namespace t c)) (q : Process) (placed : Placed q (process (new-namespace t c) c)) where
   abbrev t₁ : Table
   t₁ = new-namespace t c
 
@@ -112,7 +112,7 @@ module _ (t : Table) (h : SoundTable t) (c : ℕ) (room : free-namespace-slot (v
           stands-leaves t (freed t₂) s h g hs (relit-stands t₁ w t₂ pl s others ks h₁)
           (same-trans (view (freed t₂)) (view t₁) (view t) s s s (relit-same t₁ w t₂ pl s others ks) (new-same t h c room s hs))
       go false ks =
-          gone-leaves t (freed t₂) s (freed-away t₂ s (w .length-namespaces) (namespace-lt (view t₁) (w .facts) s h₁) ks)
+          gone-leaves t (freed t₂) s (freed-away t₂ s (namespace-count t₁ (w .shape-of)) (namespace-lt (view t₁) (w .facts) s h₁) ks)
           (λ i k. false≢true (sym ks ∙ seen-kept t₁ w t₂ pl s others i (new-seen t h c room s hs i ∙ k)))
 
 pub unshare-leaves : MadeLeaves Unshare
@@ -125,7 +125,7 @@ unshare-leaves t s i h hs k a g = go (process t i .unshared) refl (eqb (own-leve
     go false em false ea true eb g = rw (em, ea, eb, unshare) (as-it-was t s hs)
     go false em false ea false eb g =
         rw (em, ea, eb, unshare)
-        (set-children-leaves t h i room s hs (outsider t s i Unshare a) (fits-of (new-namespace t i) (namespace-sane t (fits-sound t h .sane-of) i (runs-living t i k) (eqb-false _ _ ea) room))
+        (set-children-leaves t h i room s hs (outsider t s i Unshare a) ((namespace-sane t (sane t h) i (runs-living t i k) (eqb-false _ _ ea) room))
         (with-children (process (new-namespace t i) i) (free-namespace-slot (view t)) true) (record { owns = refl; parents = refl; pids = refl }) (rw (em, ea, eb, unshare) at g))
       where
         room : free-namespace-slot (view t) ≡ namespace-slots → ⊥

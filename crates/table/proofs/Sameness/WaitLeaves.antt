@@ -8,17 +8,17 @@ use borrow.Author.Tests.{eq-eqb, ne-eqb}
 use lib.Dec.{eqb}
 use lib.ListN.{List·getD-eq-default}
 use lib.Seq.{getD-set-other}
-use Rattle.table.proofs.Sameness.Calls.{processes-length, namespaces-length}
-use Rattle.table.proofs.Sameness.FreedSame.{process-freed, namespace-freed, children-is-kept}
-use Rattle.table.proofs.Sameness.FreedRow.{freed-away}
 use Rattle.table.proofs.Laws.Facts.{Facts, facts}
+use Rattle.table.proofs.Laws.Quant.{left, right, both, isnt, or-left, or-right, any-intro}
 use Rattle.table.proofs.Laws.Slots.{slot-lt, namespace-lt, seen-taken}
+use Rattle.table.proofs.Laws.Steps.{step-made}
+use Rattle.table.proofs.Sameness.Calls.{processes-length, namespaces-length}
+use Rattle.table.proofs.Sameness.FreedRow.{freed-away}
+use Rattle.table.proofs.Sameness.FreedSame.{process-freed, namespace-freed, children-is-kept}
 use Rattle.table.proofs.Sameness.Leaves.{stands-leaves, gone-leaves}
 use Rattle.table.proofs.Sameness.Outside.{MadeLeaves, as-it-was}
-use Rattle.table.proofs.Laws.Quant.{left, right, both, isnt, or-left, or-right, any-intro}
 use Rattle.table.proofs.Sameness.ReapSame.{Least, least-cases, others, K, reap-remain}
 use Rattle.table.proofs.Sameness.Remain.{Remain, seen-remain, seen-gone}
-use Rattle.table.proofs.Laws.Steps.{step-made}
 use Rattle.table.proofs.Sameness.Still.{Still, same-still, stands-still}
 use Rattle.table.proofs.Sameness.Twins.{bool-ext}
 use Rattle.table.specs.Answers.{answers, granted, is-refused, refused}
@@ -34,11 +34,11 @@ use Rattle.table.specs.Sound.{SoundTable}
 use Rattle.table.specs.Step.{make, runs}
 use Rattle.table.specs.Tests.{_and_, any, least}
 use Rattle.table.specs.Touches.{allowed, removes-from, touched, touches}
-use Rattle.table.specs.declared.Call.{Call}
 use Rattle.table.specs.declared.Call.the-variants.{Wait}
+use Rattle.table.specs.declared.Call.{Call}
 use Rattle.table.specs.declared.Outcome.{Outcome}
-use Rattle.table.specs.declared.State.{State}
 use Rattle.table.specs.declared.State.the-variants.{Running, Stopped, Ended}
+use Rattle.table.specs.declared.State.{State}
 use Rattle.table.specs.declared.Table.{Table}
 
 -- a granted call that is allowed makes no touch

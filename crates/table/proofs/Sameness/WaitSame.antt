@@ -6,16 +6,16 @@ use mathlib.Core.Logic.{_⊎_, inl, inr}
 use mathlib.Core.Path.{_≡_, refl, sym, _∙_, ap, subst}
 use borrow.Author.Tests.{eqb-true}
 use lib.ListN.{List·getD-eq-default}
+use Rattle.table.proofs.Laws.Facts.{Facts, facts}
+use Rattle.table.proofs.Laws.Quant.{left, right, both, any-elim, any-intro}
+use Rattle.table.proofs.Laws.Slots.{slot-lt, seen-taken, child-seen}
+use Rattle.table.proofs.Laws.Tree.{below-refl}
 use Rattle.table.proofs.Sameness.Calls.{shown, processes-length, both-refuse, both-tell, owns-twins}
 use Rattle.table.proofs.Sameness.Inside.{Kept, Ready, MadeSame, stands-same}
-use Rattle.table.proofs.Laws.Facts.{Facts, facts}
-use Rattle.table.proofs.Laws.Slots.{slot-lt, seen-taken, child-seen}
-use Rattle.table.proofs.Laws.Quant.{left, right, both, any-elim, any-intro}
 use Rattle.table.proofs.Sameness.Readers.{child-twins, seen-above}
 use Rattle.table.proofs.Sameness.ReapSame.{Least, least-cases, same-reap, stands-t, stands-u}
 use Rattle.table.proofs.Sameness.Setns.{ended-twins}
 use Rattle.table.proofs.Sameness.Targets.{twin-of-pid}
-use Rattle.table.proofs.Laws.Tree.{below-refl}
 use Rattle.table.proofs.Sameness.Twins.{Twin, Twins, flip-pair, flip-twin, bool-ext, twin-there, pid-twins}
 use Rattle.table.specs.Answers.{granted}
 use Rattle.table.specs.Calls.{first-ended, pid-to, reap, wait}
@@ -30,8 +30,8 @@ use Rattle.table.specs.Tests.{_and_, any, least}
 use Rattle.table.specs.declared.Answer.the-variants.{Reaped}
 use Rattle.table.specs.declared.Call.the-variants.{Wait}
 use Rattle.table.specs.declared.Refusal.the-variants.{Echild}
-use Rattle.table.specs.declared.State.{State}
 use Rattle.table.specs.declared.State.the-variants.{Running, Stopped, Ended}
+use Rattle.table.specs.declared.State.{State}
 use Rattle.table.specs.declared.Table.{Table}
 
 -- a child is seen from its parent's own namespace
