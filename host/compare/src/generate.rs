@@ -1,0 +1,159 @@
+//! Scripts of several kinds. The reference plays along, so that most calls are by a running process and name one that
+//! the caller sees.
+
+use crate::random::Random;
+use reference::script::run_line;
+use reference::table::{State, Table};
+
+/// What a kind of script is made of: how often each call is drawn, and how full the table is kept.
+#[derive(Clone, Copy)]
+pub struct Kind {
+    pub name: &'static str,
+    /// clone, clone new, unshare, setns, kill, kill -1, exit, wait, getpid, getppid, handle, poll
+    weights: [usize; 12],
+    /// ends and waits are skipped while there are fewer processes
+    keep: usize,
+    /// one line in so many is a bad one, or a bad caller's (0: none)
+    bad: usize,
+}
+
+pub const KINDS: [Kind; 7] = [
+    Kind { name: "any calls", weights: [14, 7, 6, 8, 14, 2, 6, 12, 5, 5, 10, 6], keep: 0, bad: 20 },
+    Kind { name: "near 64 processes", weights: [30, 6, 3, 5, 8, 1, 6, 12, 3, 3, 4, 3], keep: 58, bad: 40 },
+    Kind { name: "deep", weights: [6, 24, 10, 12, 8, 1, 5, 10, 4, 6, 2, 1], keep: 6, bad: 0 },
+    Kind { name: "setns and unshare", weights: [18, 5, 22, 24, 8, 1, 6, 10, 3, 4, 1, 1], keep: 4, bad: 0 },
+    Kind { name: "kill -1", weights: [24, 8, 3, 4, 4, 14, 2, 14, 2, 2, 12, 6], keep: 0, bad: 0 },
+    Kind { name: "signals", weights: [8, 3, 1, 2, 34, 4, 2, 8, 3, 1, 22, 16], keep: 3, bad: 0 },
+    Kind { name: "orphans", weights: [26, 8, 4, 8, 6, 1, 20, 16, 2, 12, 1, 1], keep: 0, bad: 0 },
+];
+
+const BAD_LINES: [&str; 32] = [
+    "", " ", "0", "0 ", "?", "clone", "0 clone ", " 0 clone", "0  clone", "0 clone  new", "0 clone old", "0 Clone",
+    "256 clone", "00 clone", "-1 clone", "-0 clone", "+1 clone", "0 kill 1", "0 kill 1 2 3", "0 kill +1 2", "0 kill 01 2",
+    "0 kill -0 2", "0 kill 2147483648 0", "0 kill -2147483649 0", "0 handle 15 2", "0 handle 15 01", "0 exit", "0 setns x",
+    "0 wait 1", "0 exit 99999999999999999999", "0\tclone", "0 clone\r",
+];
+
+/// A script of a kind from the fresh table.
+pub fn script(kind: &Kind, seed: u64, lines: usize) -> Vec<u8> {
+    let mut random = Random::from_seed(seed);
+    let mut table = Table::fresh();
+    let mut script = Vec::new();
+    for _ in 0..lines {
+        let line = if kind.bad != 0 && random.one_in(kind.bad) { bad_line(&mut random) } else { good_line(kind, &table, &mut random) };
+        run_line(&mut table, line.as_bytes());
+        script.extend_from_slice(line.as_bytes());
+        script.push(b'\n');
+    }
+    script
+}
+
+fn bad_line(random: &mut Random) -> String {
+    match random.below(4) {
+        0 => format!("{} getpid", random.below(256)),
+        1 => format!("0 getpid{}", " ".repeat(random.below(200))),
+        _ => random.pick(&BAD_LINES).to_string(),
+    }
+}
+
+fn good_line(kind: &Kind, t: &Table, random: &mut Random) -> String {
+    let running: Vec<u8> = t.each_process().filter(|(_, p)| p.state == State::Running).map(|(i, _)| i).collect();
+    if running.is_empty() {
+        return format!("{} getpid", random.below(64));
+    }
+    let mut caller = random.pick(&running);
+    let few = t.each_process().count() < kind.keep;
+    let total: usize = kind.weights.iter().sum();
+    let mut draw = random.below(total);
+    let call = kind.weights.iter().position(|&w| if draw < w { true } else { draw -= w; false }).unwrap_or(0);
+    match call {
+        0 => format!("{caller} clone"),
+        1 => format!("{caller} clone new"),
+        2 => format!("{caller} unshare"),
+        3 => format!("{caller} setns {}", number_seen(t, caller, random)),
+        4 => format!("{caller} kill {} {}", number_seen(t, caller, random), signal(few, random)),
+        5 => format!("{caller} kill -1 {}", signal(few || random.below(3) != 0, random)),
+        6 if few => format!("{caller} clone"),
+        6 => format!("{caller} exit {}", random.pick(&[0, 1, 7, 255, 256, -1, -256, 2147483647, -2147483648])),
+        7 => {
+            if let Some(parent) = a_reaper(t, random) {
+                caller = parent;
+            }
+            format!("{caller} wait")
+        }
+        8 => format!("{caller} getpid"),
+        9 => format!("{caller} getppid"),
+        10 => format!("{caller} handle {} {}", random.between(-1, 33), random.below(4).min(1)),
+        _ => format!("{caller} poll"),
+    }
+}
+
+/// A number that the caller sees, or now and then any.
+fn number_seen(t: &Table, caller: u8, random: &mut Random) -> i32 {
+    if random.one_in(20) {
+        return random.pick(&[0, -1, -2, 1, 2, 3, 40, 300, 32767, 32768, 65537, 2147483647, -2147483648]);
+    }
+    let own = t.processes[caller as usize].own;
+    let level = t.namespaces[own as usize].level as usize;
+    let seen: Vec<u16> = t.each_process().filter(|(_, p)| t.below(p.own, own)).map(|(_, p)| p.pids[level]).collect();
+    random.pick(&seen).into()
+}
+
+fn signal(gentle: bool, random: &mut Random) -> i32 {
+    if gentle {
+        random.pick(&[0, 10, 15, 17, 18, 20, 23, 28])
+    } else {
+        random.between(-1, 33)
+    }
+}
+
+/// A running process with an ended child.
+fn a_reaper(t: &Table, random: &mut Random) -> Option<u8> {
+    let parents: Vec<u8> = t
+        .each_process()
+        .filter(|(_, p)| p.has_ended())
+        .map(|(_, p)| p.parent)
+        .filter(|&i| t.process(i).is_some_and(|p| p.state == State::Running))
+        .collect();
+    (!parents.is_empty() && !random.one_in(4)).then(|| random.pick(&parents))
+}
+
+/// The numbers go round: births and waits until 32,767 is passed, with a few processes that hold numbers in the way.
+pub fn round(seed: u64) -> Vec<u8> {
+    let mut random = Random::from_seed(seed);
+    let mut script = b"0 clone\n0 clone new\n2 clone\n".to_vec();
+    for turn in 0..33_000 {
+        let line: &[u8] = if turn % 3 == 0 { b"2 clone\n4 exit 3\n2 wait\n" } else { b"0 clone\n4 exit 3\n0 wait\n" };
+        script.extend_from_slice(line);
+        if random.one_in(2000) {
+            script.extend_from_slice(b"1 getpid\n2 getppid\n3 getpid\n");
+        }
+    }
+    script
+}
+
+/// Any bytes: good lines with bytes changed, put in, taken out, and line feeds in odd places; the last one may be missing.
+pub fn bytes(seed: u64, lines: usize) -> Vec<u8> {
+    let mut random = Random::from_seed(seed);
+    let mut script = script(&KINDS[0], seed, lines);
+    for _ in 0..lines / 2 {
+        let at = random.below(script.len());
+        let byte = random.pick(b"0123456789- \n\t\r+clonewkiad\0\x80\xff");
+        match random.below(4) {
+            0 => script[at] = byte,
+            1 => script.insert(at, byte),
+            2 => {
+                script.remove(at);
+            }
+            _ => {
+                let run = vec![byte; random.below(150)];
+                script.splice(at..at, run);
+            }
+        }
+    }
+    if random.one_in(2) && script.last() == Some(&b'\n') {
+        script.pop();
+    }
+    script
+}
+

@@ -1,0 +1,7 @@
+//! The recorder in ordinary Rust: the same calls, the same check of the table, the same output. It is written from
+//! document 01 and shares nothing with the Rattle code, so that the two can be held against each other.
+
+pub mod calls;
+pub mod script;
+pub mod sound;
+pub mod table;
