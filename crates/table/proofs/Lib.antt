@@ -3,3 +3,13 @@ pub mod Open
 pub mod Tables
 pub mod Edges
 pub mod Refused
+-- Laws of chains of tests and of loops, each kind once.
+pub mod Chains
+pub mod AllLoops
+pub mod AnyLoops
+pub mod FirstLoops
+pub mod SeekLoops
+pub mod FoldLoops
+pub mod MapLoops
+-- Slots read and put.
+pub mod Slots
