@@ -10,9 +10,8 @@ use lib.Dec.{eqb}
 use lib.ListN.{length}
 use Rattle.table.proofs.Keeps.Changed.{shape-at}
 use Rattle.table.proofs.Keeps.Deliver.{Safe, Good, action-good, pend-ok, deliver-sane}
+use Rattle.table.proofs.Keeps.End.{end-sane}
 use Rattle.table.proofs.Keeps.FreedKeeps.{freed-keeps}
-use Rattle.table.proofs.Keeps.InitKeeps.{end-sane}
-use Rattle.table.proofs.Keeps.MemberKeeps.{runs-lives, running-not-ended, remainder}
 use Rattle.table.proofs.Keeps.NewNamespace.{namespace-pre}
 use Rattle.table.proofs.Keeps.Premises as K
 use Rattle.table.proofs.Keeps.PutKeeps.{with-all, signalled-sane, set-children-sane, reaped-sane, new-namespace-view, new-namespace-shape}
@@ -22,7 +21,7 @@ use Rattle.table.proofs.Laws.Facts.{Facts, Holder, Taken, Stands, Lives
 use Rattle.table.proofs.Laws.Quant.{left, right, both, isnt-not, or-false-left, or-false-right}
 use Rattle.table.proofs.Laws.SignalBits.{with-signal-lt, without-signal-le}
 use Rattle.table.proofs.Laws.SignalSets.{poll-ok, on-ok, off-ok}
-use Rattle.table.proofs.Laws.Steps.{made-or-refused}
+use Rattle.table.proofs.Laws.Steps.{made-or-refused, runs-lives, remainder}
 use Rattle.table.specs.Answers.{answers, granted, refused}
 use Rattle.table.specs.Births.{birth}
 use Rattle.table.specs.Calls.{clone, clone-new, exit, first-ended, getpid, getppid, handle, handle-off, handle-on, kill, named, names-group, natural, new-namespace, own-level, poll, reap, set-children, setns, status, targets, unshare, wait, within}
@@ -161,7 +160,7 @@ module _ (t : Table) (c : ℕ) (h : SoundTable t) (r : So (runs (view t) c)) whe
   f = facts t h
 
   lives : Lives v c
-  lives = runs-lives v c r running-not-ended refl
+  lives = runs-lives t c r
 
   here : Taken v c
   here = lives-taken v c lives
