@@ -207,16 +207,12 @@ freed-leaves : (t : Table) → So (shaped t) → (i : ℕ) → process (freed t)
 unfolding freed
 freed-leaves t g = changed-at (λ i p. p) no-process process-slots (t .processes) (process-count t g) (λ i l. refl)
 
-either : (t : Table) (i : ℕ) (b : Bool) (x y : Outcome) → (So b → process (x .table) i ≡ process t i) → (b ≡ false → process (y .table) i ≡ process t i) → process ((if b then x else y) .table) i ≡ process t i
-either t i true x y h k = h refl
-either t i false x y h k = k refl
-
 kill-leaves : (t : Table) (c : ℕ) → SoundTable t → (n s : ℤ) → Leaves (view t .own c) t (kill t c n s .table)
 unfolding kill answers granted refused
 kill-leaves t c h n s i o =
-    either t i (not (within 0 signals s)) _ _ (λ a. refl) (λ a.
-    either t i (names-group n) _ _ (λ b. refl) (λ b.
-    either t i (eqb (length (targets (view t) c n)) 0) _ _ (λ d. refl) (λ d.
+    choose (λ (o : Outcome). process (o .table) i ≡ process t i) (not (within 0 signals s)) (λ a. refl) (λ a.
+    choose (λ (o : Outcome). process (o .table) i ≡ process t i) (names-group n) (λ b. refl) (λ b.
+    choose (λ (o : Outcome). process (o .table) i ≡ process t i) (eqb (length (targets (view t) c n)) 0) (λ d. refl) (λ d.
     let l = K.natural-low s (isnt-not _ a) in
     let safe = K.targets-safe (view t) (facts t h) c n in
     freed-leaves _ (deliver-all-sane t (sane t h) (view t .own c) (natural s) l (targets (view t) c n) safe .shape-of) i
