@@ -2,9 +2,8 @@ pub mod Freed
 pub mod Changed
 pub mod FreedKeeps
 pub mod MemberEnds
-pub mod MemberKeeps
 pub mod InitEnds
-pub mod InitKeeps
+pub mod End
 pub mod NewPid
 pub mod Birth
 pub mod BirthKeeps

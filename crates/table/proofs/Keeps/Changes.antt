@@ -10,19 +10,18 @@ use lib.Dec.{eqb}
 use lib.ListN.{length}
 use Rattle.table.proofs.Keeps.Changed.{shape-at}
 use Rattle.table.proofs.Keeps.Deliver.{Safe, Good, action-good, pend-ok, deliver-sane}
+use Rattle.table.proofs.Keeps.End.{end-sane}
 use Rattle.table.proofs.Keeps.FreedKeeps.{freed-keeps}
-use Rattle.table.proofs.Keeps.InitKeeps.{end-sane}
-use Rattle.table.proofs.Keeps.MemberKeeps.{runs-lives, running-not-ended, remainder}
 use Rattle.table.proofs.Keeps.NewNamespace.{namespace-pre}
 use Rattle.table.proofs.Keeps.Premises as K
 use Rattle.table.proofs.Keeps.PutKeeps.{with-all, signalled-sane, set-children-sane, reaped-sane, new-namespace-view, new-namespace-shape}
 use Rattle.table.proofs.Laws.Below.{low-level}
-use Rattle.table.proofs.Laws.Cases.{isnt-so, no-so}
+use Rattle.table.proofs.Laws.Cases.{isnt-so, no-so, choose}
 use Rattle.table.proofs.Laws.Facts.{Facts, Holder, Taken, Stands, Lives, Below, Seen, Other, SignalsOk, lives-taken, not-ended, seen-taken, seen-below, facts, held-in, Sane, sane}
 use Rattle.table.proofs.Laws.Quant.{left, right, both, isnt-not, or-false-left, or-false-right}
 use Rattle.table.proofs.Laws.SignalBits.{with-signal-lt, without-signal-le}
 use Rattle.table.proofs.Laws.SignalSets.{poll-ok, on-ok, off-ok}
-use Rattle.table.proofs.Laws.Steps.{made-or-refused}
+use Rattle.table.proofs.Laws.Steps.{made-or-refused, runs-lives, remainder}
 use Rattle.table.specs.Answers.{answers, granted, refused}
 use Rattle.table.specs.Births.{birth}
 use Rattle.table.specs.Calls.{clone, clone-new, exit, first-ended, getpid, getppid, handle, handle-off, handle-on, kill, named, names-group, natural, new-namespace, own-level, poll, reap, set-children, setns, status, targets, unshare, wait, within}
@@ -149,9 +148,9 @@ deliver-run t u r s from k l (i ∷ is) h =
 
 -- ---- each call
 
-either : (t : Table) (b : Bool) (x y : Outcome) → (So b → Made t (x .table)) → (b ≡ false → Made t (y .table)) → Made t ((if b then x else y) .table)
-either t true x y h k = h refl
-either t false x y h k = k refl
+-- what a call gives is made of t
+abbrev Gives : Table → Outcome → Type 0
+Gives t o = Made t (o .table)
 
 module _ (t : Table) (c : ℕ) (h : SoundTable t) (r : So (runs (view t) c)) where
   abbrev v : View
@@ -161,7 +160,7 @@ module _ (t : Table) (c : ℕ) (h : SoundTable t) (r : So (runs (view t) c)) whe
   f = facts t h
 
   lives : Lives v c
-  lives = runs-lives v c r running-not-ended refl
+  lives = runs-lives t c r
 
   here : Taken v c
   here = lives-taken v c lives
@@ -180,47 +179,47 @@ module _ (t : Table) (c : ℕ) (h : SoundTable t) (r : So (runs (view t) c)) whe
   pub call-made : (call : Call) → Made t (make t c call .table)
   unfolding make clone clone-new unshare setns set-children kill exit wait getpid getppid handle poll answers granted refused
   call-made Clone =
-      either t (dead v (v .children c)) _ _ (λ a. nothing-done) (λ a.
-      either t (eqb (free-slot v) process-slots) _ _ (λ b. nothing-done) (λ b.
+      choose (Gives t) (dead v (v .children c)) (λ a. nothing-done) (λ a.
+      choose (Gives t) (eqb (free-slot v) process-slots) (λ b. nothing-done) (λ b.
       let (s, d) = f .children c here lives in
       born c (v .children c)
       (record { lives = lives; namespace = s; below = d; not-dead = no-so a; up-own = λ u. f .unborn-own _ s u c here refl; room = eqb-false _ process-slots b; holder = λ m s u o. held-in t h .holder m s u; held-by = λ m s. inr (held-in t h .held-by m s) })))
   call-made CloneNew =
-      either t (eqb (own-level v c) deepest) _ _ (λ a. nothing-done) (λ a.
-      either t (eqb (free-slot v) process-slots or eqb (free-namespace-slot v) namespace-slots) _ _ (λ b. nothing-done) (λ b.
+      choose (Gives t) (eqb (own-level v c) deepest) (λ a. nothing-done) (λ a.
+      choose (Gives t) (eqb (free-slot v) process-slots or eqb (free-namespace-slot v) namespace-slots) (λ b. nothing-done) (λ b.
       let deep = eqb-false (own-level v c) deepest a in
       let room = eqb-false (free-namespace-slot v) namespace-slots (or-false-right _ _ b) in
       let q = K.ready-next t c h r deep room in
       born-in-new c (free-namespace-slot v) (makes-namespace c lives deep room) (K.free-namespace-is v room .0)
       (record { lives = q .lives; namespace = q .namespace; below = q .below; not-dead = q .not-dead; up-own = q .up-own; room = λ e. eqb-false _ process-slots (or-false-left _ _ b) (sym (q .slot) ∙ e); holder = q .holder; held-by = q .held-by })))
   call-made Unshare =
-      either t (process t c .unshared) _ _ (λ a. nothing-done) (λ a.
-      either t (eqb (own-level v c) deepest) _ _ (λ b. nothing-done) (λ b.
-      either t (eqb (free-namespace-slot v) namespace-slots) _ _ (λ d. nothing-done) (λ d.
+      choose (Gives t) (process t c .unshared) (λ a. nothing-done) (λ a.
+      choose (Gives t) (eqb (own-level v c) deepest) (λ b. nothing-done) (λ b.
+      choose (Gives t) (eqb (free-namespace-slot v) namespace-slots) (λ d. nothing-done) (λ d.
       let deep = eqb-false (own-level v c) deepest b in
       let room = eqb-false (free-namespace-slot v) namespace-slots d in
       let q = K.ready-next t c h r deep room in
       freed-after _ (more (more start (makes-namespace c lives deep room)) (turns c (free-namespace-slot v) true (q .lives) (q .namespace) (q .below) (λ u. (q .up-own u, q .alone)))))))
   call-made (Setns n) =
-      either t (eqb (named v c n) process-slots or v .ended (named v c n)) _ _ (λ a. nothing-done) (λ a.
+      choose (Gives t) (eqb (named v c n) process-slots or v .ended (named v c n)) (λ a. nothing-done) (λ a.
       let s : Seen v (v .own c) (named v c n) = K.named-seen v c n (eqb-false _ process-slots (or-false-left _ _ a)) in
       let m = f .members (named v c n) (seen-taken v (v .own c) _ s) in
       freed-after _ (more start (turns c (v .own (named v c n)) (process t c .unshared) lives (m .0 .0) (seen-below v (v .own c) _ s) (λ u. absurd (m .1 u)))))
   call-made (Kill n s) =
-      either t (not (within 0 signals s)) _ _ (λ a. nothing-done) (λ a.
-      either t (names-group n) _ _ (λ b. nothing-done) (λ b.
-      either t (eqb (length (targets v c n)) 0) _ _ (λ d. nothing-done) (λ d.
+      choose (Gives t) (not (within 0 signals s)) (λ a. nothing-done) (λ a.
+      choose (Gives t) (names-group n) (λ b. nothing-done) (λ b.
+      choose (Gives t) (eqb (length (targets v c n)) 0) (λ d. nothing-done) (λ d.
       freed-after _ (deliver-run t t start (sane t h) (v .own c) (natural s) (K.natural-low s (isnt-not _ a)) (targets v c n) (K.targets-safe v f c n)))))
-  call-made (Exit s) = either t (eqb c 0) _ _ (λ a. nothing-done) (λ a. freed-after _ (more start (ends c (Exited (status s)) lives (eqb-false c 0 a) (remainder s))))
-  call-made Wait = either t (not (any process-slots _)) _ _ (λ a. nothing-done) (λ a. reaped (v .state (first-ended v c)) refl)
+  call-made (Exit s) = choose (Gives t) (eqb c 0) (λ a. nothing-done) (λ a. freed-after _ (more start (ends c (Exited (status s)) lives (eqb-false c 0 a) (remainder s))))
+  call-made Wait = choose (Gives t) (not (any process-slots _)) (λ a. nothing-done) (λ a. reaped (v .state (first-ended v c)) refl)
   call-made Getpid = nothing-done
   call-made Getppid = nothing-done
   call-made (Handle s on) =
-      either t (not (within 1 signals s) or eqb (natural s) 9 or eqb (natural s) 19) _ _ (λ a. nothing-done) (λ a.
+      choose (Gives t) (not (within 1 signals s) or eqb (natural s) 9 or eqb (natural s) 19) (λ a. nothing-done) (λ a.
       let (x, y) = K.natural-within s (isnt-not _ (or-false-left _ _ (or-false-left _ _ a))) in
       handled (natural s) x y (eqb-false _ 9 (or-false-right _ _ (or-false-left _ _ a))) (eqb-false _ 19 (or-false-right _ _ a)) on)
   call-made Poll =
-      either t (eqb (lowest-signal (process t c .pending)) signals) _ _ (λ a. nothing-done) (λ a.
+      choose (Gives t) (eqb (lowest-signal (process t c .pending)) signals) (λ a. nothing-done) (λ a.
       let (x, y, k) = sets t (sane t h) c lives in
       signalled c lives (v .handled c) (without-signal (v .pending c) (lowest-signal (process t c .pending))) (poll-ok _ _ _ k) x (omega (arith, without-signal-le (v .pending c) (lowest-signal (process t c .pending)), y)))
 

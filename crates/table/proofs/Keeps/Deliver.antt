@@ -8,9 +8,9 @@ use mathlib.Core.Path.{_≡_, refl, sym, _∙_, ap, subst}
 use borrow.Author.Tests.{eq-eqb, eqb-false, ltb-true, le-leb, lt-ltb}
 use lib.Dec.{eqb}
 use Rattle.table.proofs.Keeps.Changed.{shape-at}
-use Rattle.table.proofs.Keeps.InitKeeps.{end-sane}
+use Rattle.table.proofs.Keeps.End.{end-sane}
 use Rattle.table.proofs.Keeps.PutKeeps.{signalled-sane}
-use Rattle.table.proofs.Laws.Cases.{no-so, isnt-so}
+use Rattle.table.proofs.Laws.Cases.{no-so, isnt-so, choose}
 use Rattle.table.proofs.Laws.Facts.{Facts, Taken, Lives, Other, SignalsOk, lives-taken, not-ended, Sane}
 use Rattle.table.proofs.Laws.Quant.{left, right, both, isnt-not, or-false-left, or-false-right}
 use Rattle.table.proofs.Laws.SignalBits.{has-with-other, with-signal-lt}
@@ -18,7 +18,7 @@ use Rattle.table.specs.Delivery.{act, action-on, default-action, deliver
 use Rattle.table.specs.Limits.{process-slots, signals, sigkill, sigcont, sigstop}
 use Rattle.table.specs.Read.{View, init, is-init, living, view}
 use Rattle.table.specs.SignalSets.{has, with-signal}
-use Rattle.table.specs.Tests.{_and_, _or_, if_then_else_}
+use Rattle.table.specs.Tests.{_and_, _or_}
 use Rattle.table.specs.declared.Action.the-variants.{Finish, Nothing, Pend, Resume, Stop}
 use Rattle.table.specs.declared.Action.{Action}
 use Rattle.table.specs.declared.End.the-variants.{Signaled}
@@ -37,10 +37,6 @@ module _ (v : View) (i s : ℕ) where
   Good Stop = Lives v i
   Good Finish = Lives v i × Other i × (1 ≤ s)
   Good Pend = Lives v i × So (has (v .handled i) s)
-
-  choose : (P : Action → Type 0) (b : Bool) {x y : Action} → (So b → P x) → (b ≡ false → P y) → P (if b then x else y)
-  choose P true h k = h refl
-  choose P false h k = k refl
 
   default-good : Lives v i → Other i → 1 ≤ s → Good (default-action s)
   unfolding default-action

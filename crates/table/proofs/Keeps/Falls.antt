@@ -6,16 +6,15 @@ use mathlib.Core.Path.{_≡_, refl, sym, _∙_, ap, subst}
 use borrow.Author.Tests.{ne-eqb, eqb-true}
 use Rattle.table.proofs.Keeps.BirthKeeps.{birth-view}
 use Rattle.table.proofs.Keeps.Changes.{Change, ends, signals-of, turns, reaps, makes-namespace, change-sane, Run, start, more, run-sane, MayBear, Made, nothing-done, freed-after, signalled, born, born-in-new, made-sound, call-made}
+use Rattle.table.proofs.Keeps.End.{end-view}
 use Rattle.table.proofs.Keeps.Fixed.{made-fixed}
 use Rattle.table.proofs.Keeps.Freed.{restrict, kept-root}
 use Rattle.table.proofs.Keeps.FreedKeeps.{freed-view}
-use Rattle.table.proofs.Keeps.InitKeeps.{subtree-view}
-use Rattle.table.proofs.Keeps.MemberKeeps.{member-view}
 use Rattle.table.proofs.Keeps.Premises as K
 use Rattle.table.proofs.Keeps.PutKeeps.{new-namespace-view}
 use Rattle.table.proofs.Laws.Below.{deep-namespace, deep-other, stepwise}
-use Rattle.table.proofs.Laws.Cases.{no-so, alive-unborn, dead-unborn}
-use Rattle.table.proofs.Laws.Facts.{Facts, facts, Taken, Stands, Lives, Below, Seen, Other, lives-taken, not-ended, seen-taken, seen-below, Sane, sane}
+use Rattle.table.proofs.Laws.Cases.{no-so, alive-unborn, dead-unborn, choose}
+use Rattle.table.proofs.Laws.Facts.{Facts, facts, Taken, Stands, Lives, Below, Seen, lives-taken, not-ended, seen-taken, seen-below, Sane, sane}
 use Rattle.table.proofs.Laws.Quant.{cases}
 use Rattle.table.proofs.Laws.Slots.{alive-taken}
 use Rattle.table.proofs.Laws.Steps.{made-or-refused}
@@ -28,13 +27,12 @@ use Rattle.table.specs.Freeing.{freed, kept}
 use Rattle.table.specs.Limits.{namespace-slots}
 use Rattle.table.specs.Pids.{free-slot, free-namespace-slot}
 use Rattle.table.specs.Read.{View, view, is-init, is-alive, is-dead, is-unborn, init-of, namespace-taken, alive, dead, unborn, init, below, climb}
-use Rattle.table.specs.Sound.{SoundTable, kept-end}
+use Rattle.table.specs.Sound.{SoundTable}
 use Rattle.table.specs.Step.{make}
 use Rattle.table.specs.Tests.{if_then_else_}
 use Rattle.table.specs.declared.End.{End}
 use Rattle.table.specs.declared.Life.the-variants.{Unborn, Alive, Dead}
 use Rattle.table.specs.declared.Life.{Life}
-use Rattle.table.specs.declared.State.the-variants.{Ended}
 use Rattle.table.specs.declared.Table.{Table}
 
 -- A namespace stays below its parent, and one that has had an init keeps its condition or is dead.
@@ -56,17 +54,15 @@ stay-trans a b c x y m h = let (s, o) = x m h in let (r, q) = y m s in (r, onwar
 
 -- ---- each change
 
-end-stays : (t : Table) (s : Sane t) (p : ℕ) (e : End) → Lives (view t) p → Other p → So (kept-end (Ended e)) → Stay (view t) (view (end t p e))
-unfolding end namespace-taken
-end-stays t s p e lives other ok = go (is-init (view t) p) refl
+end-stays : (t : Table) (s : Sane t) (p : ℕ) (e : End) → Lives (view t) p → Stay (view t) (view (end t p e))
+unfolding namespace-taken
+end-stays t s p e lives =
+    subst (Stay (view t)) (sym (end-view t s p e (lives-taken (view t) p lives)))
+    (choose (Stay (view t)) (is-init (view t) p) (λ i m h. (h, (refl, λ o. by (below (view t) m (view t .own p)) (view t .life m)))) (λ i m h. (h, (refl, λ o. inl refl))))
   where
     by : (b : Bool) (l : Life) → ((if b then Dead else l) ≡ l) ⊎ So (is-dead (if b then Dead else l))
     by true l = inr refl
     by false l = inl refl
-
-    go : (b : Bool) → is-init (view t) p ≡ b → Stay (view t) (view (end t p e))
-    go true i = rw (i, end) (subst (Stay (view t)) (sym (subtree-view t (s .shape-of) (s .facts) p e lives i other ok)) (λ m h. (h, (refl, λ o. by (below (view t) m (view t .own p)) _))))
-    go false i = rw (i, end) (subst (Stay (view t)) (sym (member-view t (s .shape-of) (s .facts) p e lives i ok)) (λ m h. (h, (refl, λ o. inl refl))))
 
 new-stays : (t : Table) → Sane t → (c : ℕ) → (free-namespace-slot (view t) ≡ namespace-slots → ⊥) → Stay (view t) (view (new-namespace t c))
 unfolding namespace-taken
@@ -77,7 +73,7 @@ new-stays t s c room =
 
 change-stays : (t u : Table) → Sane t → Change t u → Stay (view t) (view u)
 unfolding namespace-taken
-change-stays t u s (ends p e l o ok) = end-stays t s p e l o ok
+change-stays t u s (ends p e l o ok) = end-stays t s p e l
 change-stays t u s (signals-of c l x o k h q ok a b) = λ m h. (h, (refl, λ o. inl refl))
 change-stays t u s (turns c m mark l a b d) = λ m h. (h, (refl, λ o. inl refl))
 change-stays t u s (reaps d o) = λ m h. (h, (refl, λ o. inl refl))

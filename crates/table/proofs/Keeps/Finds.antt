@@ -5,21 +5,20 @@ use mathlib.Core.Bool.{Bool, true, false, not, So}
 use mathlib.Core.List.{List, _∷_, []}
 use mathlib.Core.Logic.{_↔_, inl, inr, ⊎-elim}
 use mathlib.Core.Path.{_≡_, refl, sym, _∙_, ap, ap₂, subst}
-use borrow.Author.Tests.{ne-eqb, eqb-true, le-leb, lt-ltb, eq-eqb, eqb-false}
+use borrow.Author.Tests.{ne-eqb, eqb-true, eq-eqb, eqb-false}
 use lib.Dec.{eqb}
 use lib.IntN.{ℤ, pos, negsuc}
 use lib.ListN.{length}
 use Rattle.table.proofs.Keeps.Changed.{changed-at, stored, process-count}
 use Rattle.table.proofs.Keeps.Changes.{start, act-run}
 use Rattle.table.proofs.Keeps.Deliver.{Each, Safe, Good, action-good, deliver-sane, deliver-all-sane}
+use Rattle.table.proofs.Keeps.End.{end-view}
 use Rattle.table.proofs.Keeps.Fixed.{Shrinks, shrinks-trans, run-shrinks}
-use Rattle.table.proofs.Keeps.InitKeeps.{subtree-view}
-use Rattle.table.proofs.Keeps.MemberKeeps.{member-view}
 use Rattle.table.proofs.Keeps.NewPid.{found, free-is}
 use Rattle.table.proofs.Keeps.Premises as K
 use Rattle.table.proofs.Laws.Below.{below-trans, below-level}
-use Rattle.table.proofs.Laws.Cases.{isnt-so, zero-or}
-use Rattle.table.proofs.Laws.Facts.{Facts, Taken, Stands, Lives, Below, Seen, Other, lives-taken, seen-taken, seen-below, is-seen, facts, Sane, sane}
+use Rattle.table.proofs.Laws.Cases.{isnt-so, zero-or, choose}
+use Rattle.table.proofs.Laws.Facts.{Facts, Taken, Stands, Lives, Below, Seen, lives-taken, seen-taken, seen-below, is-seen, facts, Sane, sane}
 use Rattle.table.proofs.Laws.Lists.{In, some-of-in, in-some-of, only-in, in-only, in-ascending, ascending-in}
 use Rattle.table.proofs.Laws.Quant.{left, right, both, isnt-not}
 use Rattle.table.proofs.Laws.Slots.{pid-pos}
@@ -34,7 +33,7 @@ use Rattle.table.specs.Freeing.{freed}
 use Rattle.table.specs.Limits.{process-slots, signals}
 use Rattle.table.specs.Read.{View, below, child-of, climb, find, is-init, no-process, pid-seen, process, seen, view, all-seen}
 use Rattle.table.specs.Records.{changed, put}
-use Rattle.table.specs.Sound.{SoundTable, kept-end, shaped}
+use Rattle.table.specs.Sound.{SoundTable, shaped}
 use Rattle.table.specs.Step.{make, step, runs}
 use Rattle.table.specs.Tests.{if_then_else_, _and_, some-of}
 use Rattle.table.specs.declared.Action.the-variants.{Finish, Nothing, Pend, Resume, Stop}
@@ -45,7 +44,6 @@ use Rattle.table.specs.declared.End.{End}
 use Rattle.table.specs.declared.Namespace.{Namespace}
 use Rattle.table.specs.declared.Outcome.{Outcome}
 use Rattle.table.specs.declared.Process.{Process}
-use Rattle.table.specs.declared.State.the-variants.{Ended}
 use Rattle.table.specs.declared.Table.{Table}
 
 -- a number that is seen names its process
@@ -180,20 +178,17 @@ seen-still v u s n i h t = is-seen u n i t (below-same v u s (u .own i) n ∙ su
 same-trans : (a b c : View) → Same a b → Same b c → Same a c
 same-trans a b c x y = record { shrinks = shrinks-trans a b c (x .shrinks) (y .shrinks); ups = y .ups ∙ x .ups; levels = y .levels ∙ x .levels }
 
-end-same : (t : Table) (s : Sane t) (p : ℕ) (e : End) → Lives (view t) p → Other p → So (kept-end (Ended e)) → (view (end t p e) .up ≡ view t .up) × (view (end t p e) .level ≡ view t .level)
-unfolding end
-end-same t s p e l o ok = go (is-init (view t) p) refl
-  where
-    go : (b : Bool) → is-init (view t) p ≡ b → (view (end t p e) .up ≡ view t .up) × (view (end t p e) .level ≡ view t .level)
-    go true i = let x = subtree-view t (s .shape-of) (s .facts) p e l i o ok in rw (i, end) (ap (λ w. w .up) x, ap (λ w. w .level) x)
-    go false i = let x = member-view t (s .shape-of) (s .facts) p e l i ok in rw (i, end) (ap (λ w. w .up) x, ap (λ w. w .level) x)
+end-same : (t : Table) (s : Sane t) (p : ℕ) (e : End) → Lives (view t) p → (view (end t p e) .up ≡ view t .up) × (view (end t p e) .level ≡ view t .level)
+end-same t s p e l =
+    subst (λ (u : View). (u .up ≡ view t .up) × (u .level ≡ view t .level)) (sym (end-view t s p e (lives-taken (view t) p l)))
+    (choose (λ (u : View). (u .up ≡ view t .up) × (u .level ≡ view t .level)) (is-init (view t) p) (λ i. (refl, refl)) (λ i. (refl, refl)))
 
 action-same : (t : Table) (s : Sane t) (i k : ℕ) → k < signals → (e : Action) → Good (view t) i k e → (view (act t i k e) .up ≡ view t .up) × (view (act t i k e) .level ≡ view t .level)
 unfolding act
 action-same t s i k l Nothing g = (refl, refl)
 action-same t s i k l Resume g = (refl, refl)
 action-same t s i k l Stop g = (refl, refl)
-action-same t s i k l Finish g = end-same t s i (Signaled k) (g .0) (g .1) (both _ _ (le-leb 1 k (g .2)) (lt-ltb k signals l))
+action-same t s i k l Finish g = end-same t s i (Signaled k) (g .0)
 action-same t s i k l Pend g = (refl, refl)
 
 apply-same : (t : Table) (s : Sane t) (i k : ℕ) → k < signals → (e : Action) → Good (view t) i k e → Same (view t) (view (act t i k e))
@@ -212,16 +207,12 @@ freed-leaves : (t : Table) → So (shaped t) → (i : ℕ) → process (freed t)
 unfolding freed
 freed-leaves t g = changed-at (λ i p. p) no-process process-slots (t .processes) (process-count t g) (λ i l. refl)
 
-either : (t : Table) (i : ℕ) (b : Bool) (x y : Outcome) → (So b → process (x .table) i ≡ process t i) → (b ≡ false → process (y .table) i ≡ process t i) → process ((if b then x else y) .table) i ≡ process t i
-either t i true x y h k = h refl
-either t i false x y h k = k refl
-
 kill-leaves : (t : Table) (c : ℕ) → SoundTable t → (n s : ℤ) → Leaves (view t .own c) t (kill t c n s .table)
 unfolding kill answers granted refused
 kill-leaves t c h n s i o =
-    either t i (not (within 0 signals s)) _ _ (λ a. refl) (λ a.
-    either t i (names-group n) _ _ (λ b. refl) (λ b.
-    either t i (eqb (length (targets (view t) c n)) 0) _ _ (λ d. refl) (λ d.
+    choose (λ (o : Outcome). process (o .table) i ≡ process t i) (not (within 0 signals s)) (λ a. refl) (λ a.
+    choose (λ (o : Outcome). process (o .table) i ≡ process t i) (names-group n) (λ b. refl) (λ b.
+    choose (λ (o : Outcome). process (o .table) i ≡ process t i) (eqb (length (targets (view t) c n)) 0) (λ d. refl) (λ d.
     let l = K.natural-low s (isnt-not _ a) in
     let safe = K.targets-safe (view t) (facts t h) c n in
     freed-leaves _ (deliver-all-sane t (sane t h) (view t .own c) (natural s) l (targets (view t) c n) safe .shape-of) i

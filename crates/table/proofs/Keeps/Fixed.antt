@@ -1,20 +1,19 @@
 -- A process never changes namespace.
 use Prim.Native.Nat.{ℕ, _<_}
-use mathlib.Core.Bool.{Bool, true, false, So, false≢true}
+use mathlib.Core.Bool.{So, false≢true}
 use mathlib.Core.Logic.{⊎-elim}
 use mathlib.Core.Path.{_≡_, refl, sym, _∙_, subst}
 use borrow.Author.Tests.{eq-eqb, ne-eqb}
 use Rattle.table.proofs.Keeps.Birth.{with-born}
 use Rattle.table.proofs.Keeps.BirthKeeps.{birth-view}
 use Rattle.table.proofs.Keeps.Changes.{Change, ends, signals-of, turns, reaps, makes-namespace, change-sane, Run, start, more, run-sane, MayBear, Made, nothing-done, freed-after, signalled, born, born-in-new, call-made}
+use Rattle.table.proofs.Keeps.End.{end-view}
 use Rattle.table.proofs.Keeps.FreedKeeps.{freed-view}
 use Rattle.table.proofs.Keeps.InitEnds.{gone, subtree-gone}
-use Rattle.table.proofs.Keeps.InitKeeps.{subtree-view}
-use Rattle.table.proofs.Keeps.MemberKeeps.{member-view}
 use Rattle.table.proofs.Keeps.Premises as K
 use Rattle.table.proofs.Keeps.PutKeeps.{signalled-view, set-children-view, reaped-view, new-namespace-view}
 use Rattle.table.proofs.Keeps.Reap.{without}
-use Rattle.table.proofs.Laws.Cases.{yes-or-no, same-or, isnt-so}
+use Rattle.table.proofs.Laws.Cases.{yes-or-no, same-or, isnt-so, choose}
 use Rattle.table.proofs.Laws.Facts.{Taken, Lives, Other, lives-taken, not-ended, facts, Sane, sane}
 use Rattle.table.proofs.Laws.Steps.{made-or-refused}
 use Rattle.table.specs.Births.{birth}
@@ -52,12 +51,8 @@ unfolding taken
 without-shrinks v d i t = ⊎-elim (λ x. absurd (false≢true (rw (eq-eqb i d x) at t))) (λ y. (rw y at t, rw y)) (same-or i d)
 
 end-shrinks : (t : Table) (s : Sane t) (p : ℕ) (e : End) → Lives (view t) p → Other p → So (kept-end (Ended e)) → Shrinks (view t) (view (end t p e))
-unfolding end taken
-end-shrinks t s p e lives other ok = go (is-init (view t) p) refl
-  where
-    go : (b : Bool) → is-init (view t) p ≡ b → Shrinks (view t) (view (end t p e))
-    go true i = rw (i, end) (subst (Shrinks (view t)) (sym (subtree-view t (s .shape-of) (s .facts) p e lives i other ok)) (subtree-shrinks (view t) (view t .own p) p e))
-    go false i = rw (i, end) (subst (Shrinks (view t)) (sym (member-view t (s .shape-of) (s .facts) p e lives i ok)) (λ j x. (x, refl)))
+unfolding taken
+end-shrinks t s p e l o ok = subst (Shrinks (view t)) (sym (end-view t s p e (lives-taken (view t) p l))) (choose (Shrinks (view t)) (is-init (view t) p) (λ i. subtree-shrinks (view t) (view t .own p) p e) (λ i j x. (x, refl)))
 
 pub change-shrinks : (t u : Table) → Sane t → Change t u → Shrinks (view t) (view u)
 unfolding taken

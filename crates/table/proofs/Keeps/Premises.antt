@@ -11,7 +11,6 @@ use lib.IntN.{ℤ, pos, negsuc}
 use Rattle.table.proofs.Keeps.Birth.{born-pre, born-held}
 use Rattle.table.proofs.Keeps.BirthKeeps.{birth-view, birth-shape}
 use Rattle.table.proofs.Keeps.Deliver.{Each, Safe}
-use Rattle.table.proofs.Keeps.MemberKeeps.{runs-lives, running-not-ended}
 use Rattle.table.proofs.Keeps.NewNamespace.{Ready, ready, with-namespace}
 use Rattle.table.proofs.Keeps.PutKeeps.{signalled-sane, signalled-view, new-namespace-view}
 use Rattle.table.proofs.Keeps.Signal.{signalled-held}
@@ -20,6 +19,7 @@ use Rattle.table.proofs.Laws.Cases.{no-so, isnt-so}
 use Rattle.table.proofs.Laws.Facts.{Holder, Facts, Held, Taken, Stands, Lives, Below, Seen, SignalsOk, lives-taken, not-ended, seen-below, facts, held-in, sound-from, sane}
 use Rattle.table.proofs.Laws.Lowest.{lowest-is}
 use Rattle.table.proofs.Laws.Quant.{left, right}
+use Rattle.table.proofs.Laws.Steps.{runs-lives}
 use Rattle.table.specs.Births.{birth}
 use Rattle.table.specs.Calls.{named, natural, new-namespace, others, targets, within}
 use Rattle.table.specs.Limits.{deepest, namespace-slots, process-slots, signals}
@@ -130,7 +130,7 @@ module _ (t : Table) (c : ℕ) (h : SoundTable t) (r : So (runs (view t) c)) whe
   f = facts t h
 
   pub lives : Lives v c
-  lives = runs-lives v c r running-not-ended refl
+  lives = runs-lives t c r
 
   pub here : Taken v c
   here = lives-taken v c lives

@@ -1,9 +1,10 @@
 -- A refusal leaves the whole table unchanged and tells the host no slot.
 use Prim.Native.Nat.{ℕ}
-use mathlib.Core.Bool.{Bool, true, false, not, false≢true}
+use mathlib.Core.Bool.{false, not, false≢true}
 use mathlib.Core.Path.{_≡_, refl, sym, _∙_, ap}
 use lib.Dec.{eqb}
 use lib.ListN.{length}
+use Rattle.table.proofs.Laws.Cases.{choose}
 use Rattle.table.specs.Answers.{refused, granted, answers, is-refused}
 use Rattle.table.specs.Calls.{clone, clone-new, unshare, setns, getpid, getppid, exit, reap, wait, handle, poll, kill, processes-full, namespaces-full, own-level, named, natural, within, first-ended, targets, names-group}
 use Rattle.table.specs.Claims.{RefusalLeaves}
@@ -12,7 +13,7 @@ use Rattle.table.specs.Read.{View, view, process, dead, child-of}
 use Rattle.table.specs.SignalSets.{lowest-signal}
 use Rattle.table.specs.Sound.{sound}
 use Rattle.table.specs.Step.{make, runs, step}
-use Rattle.table.specs.Tests.{_or_, if_then_else_, any}
+use Rattle.table.specs.Tests.{_or_, any}
 use Rattle.table.specs.declared.Answer.the-variants.{Refused}
 use Rattle.table.specs.declared.Call.the-variants.{Clone, CloneNew, Unshare, Setns, Kill, Exit, Wait, Getpid, Getppid, Handle, Poll}
 use Rattle.table.specs.declared.Call.{Call}
@@ -36,10 +37,6 @@ grants : (t : Table) (o : Outcome) → is-refused (o .reply .answer) ≡ false �
 unfolding is-refused
 grants t o h e q = absurd (false≢true (sym h ∙ ap is-refused q))
 
-either : (t : Table) (b : Bool) (x y : Outcome) → Leaves t x → Leaves t y → Leaves t (if b then x else y)
-either t true x y h k = h
-either t false x y h k = k
-
 reap-leaves : (t : Table) (c i : ℕ) (s : State) → Leaves t (reap t c i s)
 unfolding reap answers granted is-refused
 reap-leaves t c i Running = grants t _ refl
@@ -52,18 +49,18 @@ module _ (t : Table) (c : ℕ) where
 
   make-leaves : (call : Call) → Leaves t (make t c call)
   unfolding make clone clone-new unshare setns kill exit wait getpid getppid handle poll answers granted is-refused
-  make-leaves Clone = either t (dead v (v .children c)) _ _ (refuses t Enomem) (either t (processes-full v) _ _ (refuses t Eagain) (grants t _ refl))
-  make-leaves CloneNew = either t (eqb (own-level v c) deepest) _ _ (refuses t Enospc) (either t (processes-full v or namespaces-full v) _ _ (refuses t Eagain) (grants t _ refl))
-  make-leaves Unshare = either t (process t c .unshared) _ _ (refuses t Einval) (either t (eqb (own-level v c) deepest) _ _ (refuses t Enospc) (either t (namespaces-full v) _ _ (refuses t Eagain) (grants t _ refl)))
-  make-leaves (Setns n) = either t (eqb (named v c n) process-slots or v .ended (named v c n)) _ _ (refuses t Esrch) (grants t _ refl)
-  make-leaves (Kill n s) = either t (not (within 0 signals s)) _ _ (refuses t Einval) (either t (names-group n) _ _ (refuses t Enosys) (either t (eqb (length (targets v c n)) 0) _ _ (refuses t Esrch) (grants t _ refl)))
-  make-leaves (Exit s) = either t (eqb c 0) _ _ (refuses t Ebusy) (grants t _ refl)
-  make-leaves Wait = either t (not (any process-slots (child-of v c))) _ _ (refuses t Echild) (reap-leaves t c (first-ended v c) (v .state (first-ended v c)))
+  make-leaves Clone = choose (Leaves t) (dead v (v .children c)) (λ a. refuses t Enomem) (λ a. choose (Leaves t) (processes-full v) (λ a. refuses t Eagain) (λ a. grants t _ refl))
+  make-leaves CloneNew = choose (Leaves t) (eqb (own-level v c) deepest) (λ a. refuses t Enospc) (λ a. choose (Leaves t) (processes-full v or namespaces-full v) (λ a. refuses t Eagain) (λ a. grants t _ refl))
+  make-leaves Unshare = choose (Leaves t) (process t c .unshared) (λ a. refuses t Einval) (λ a. choose (Leaves t) (eqb (own-level v c) deepest) (λ a. refuses t Enospc) (λ a. choose (Leaves t) (namespaces-full v) (λ a. refuses t Eagain) (λ a. grants t _ refl)))
+  make-leaves (Setns n) = choose (Leaves t) (eqb (named v c n) process-slots or v .ended (named v c n)) (λ a. refuses t Esrch) (λ a. grants t _ refl)
+  make-leaves (Kill n s) = choose (Leaves t) (not (within 0 signals s)) (λ a. refuses t Einval) (λ a. choose (Leaves t) (names-group n) (λ a. refuses t Enosys) (λ a. choose (Leaves t) (eqb (length (targets v c n)) 0) (λ a. refuses t Esrch) (λ a. grants t _ refl)))
+  make-leaves (Exit s) = choose (Leaves t) (eqb c 0) (λ a. refuses t Ebusy) (λ a. grants t _ refl)
+  make-leaves Wait = choose (Leaves t) (not (any process-slots (child-of v c))) (λ a. refuses t Echild) (λ a. reap-leaves t c (first-ended v c) (v .state (first-ended v c)))
   make-leaves Getpid = grants t _ refl
   make-leaves Getppid = grants t _ refl
-  make-leaves (Handle s on) = either t (not (within 1 signals s) or eqb (natural s) sigkill or eqb (natural s) sigstop) _ _ (refuses t Einval) (grants t _ refl)
-  make-leaves Poll = either t (eqb (lowest-signal (process t c .pending)) signals) _ _ (grants t _ refl) (grants t _ refl)
+  make-leaves (Handle s on) = choose (Leaves t) (not (within 1 signals s) or eqb (natural s) sigkill or eqb (natural s) sigstop) (λ a. refuses t Einval) (λ a. grants t _ refl)
+  make-leaves Poll = choose (Leaves t) (eqb (lowest-signal (process t c .pending)) signals) (λ a. grants t _ refl) (λ a. grants t _ refl)
 
 pub refusal-leaves : RefusalLeaves
 unfolding RefusalLeaves step
-refusal-leaves t c call = either t (sound t) _ _ (either t (runs (view t) c) _ _ (make-leaves t c call) (refuses t NotRunning)) (refuses t Unsound)
+refusal-leaves t c call = choose (Leaves t) (sound t) (λ a. choose (Leaves t) (runs (view t) c) (λ a. make-leaves t c call) (λ a. refuses t NotRunning)) (λ a. refuses t Unsound)

@@ -9,7 +9,7 @@ use lib.Dec.{eqb}
 use Rattle.table.proofs.Laws.Iff.{not-iff}
 use Rattle.table.proofs.Laws.Quant.{isnt}
 use Rattle.table.specs.Read.{is-alive, is-dead, is-unborn}
-use Rattle.table.specs.Tests.{_and_}
+use Rattle.table.specs.Tests.{_and_, if_then_else_}
 use Rattle.table.specs.declared.Life.the-variants.{Unborn, Alive, Dead}
 use Rattle.table.specs.declared.Life.{Life}
 
@@ -67,3 +67,8 @@ pub dead-unborn : (l : Life) → So (is-dead l) → So (is-unborn l) → ⊥
 dead-unborn Unborn d u = false≢true d
 dead-unborn (Alive i) d u = false≢true d
 dead-unborn Dead d u = false≢true u
+
+-- what holds of each of two holds of the one that a test picks
+pub choose : {A : Type 0} (P : A → Type 0) (b : Bool) {x y : A} → (So b → P x) → (b ≡ false → P y) → P (if b then x else y)
+choose P true h k = h refl
+choose P false h k = k refl

@@ -1,21 +1,26 @@
 -- A call is made by a running caller of a sound table, and refused to any other.
-use Prim.Native.Nat.{ℕ}
-use mathlib.Core.Bool.{Bool, true, false, So}
+use Prim.Native.Nat.{ℕ, pred, _-_, _%_}
+use native.Mathlib.Omega.{arith}
+use mathlib.Core.Bool.{Bool, true, false, So, not, false≢true}
 use mathlib.Core.Path.{_≡_, refl, _∙_, ap}
-use borrow.Author.Tests.{eq-eqb, ne-eqb}
-use lib.IntN.{pos}
-use Rattle.table.specs.Answers.{answers, granted, number-of, refused}
-use Rattle.table.specs.Calls.{clone-new, getpid, own-level}
-use Rattle.table.specs.Limits.{deepest, namespace-slots, process-slots}
+use borrow.Author.Tests.{eq-eqb, ne-eqb, lt-ltb}
+use lib.IntN.{pos, ℤ, negsuc}
+use Rattle.table.proofs.Laws.Quant.{left, right, both}
+use Rattle.table.specs.Answers.{refused}
+use Rattle.table.specs.Calls.{clone-new, own-level, status}
+use Rattle.table.specs.Limits.{deepest, namespace-slots, process-slots, statuses}
 use Rattle.table.specs.Pids.{free-namespace-slot, free-slot, next-pid}
-use Rattle.table.specs.Read.{pid-seen, view}
-use Rattle.table.specs.Sound.{SoundTable}
+use Rattle.table.specs.Read.{view, living, is-running, is-ended, process}
+use Rattle.table.specs.Sound.{SoundTable, kept-end}
 use Rattle.table.specs.Step.{make, runs, step}
 use Rattle.table.specs.Tests.{_or_}
 use Rattle.table.specs.declared.Answer.the-variants.{Number}
-use Rattle.table.specs.declared.Call.the-variants.{Getpid, CloneNew}
+use Rattle.table.specs.declared.Call.the-variants.{CloneNew}
 use Rattle.table.specs.declared.Call.{Call}
+use Rattle.table.specs.declared.End.the-variants.{Exited}
 use Rattle.table.specs.declared.Refusal.the-variants.{NotRunning, Enospc}
+use Rattle.table.specs.declared.State.the-variants.{Running, Stopped, Ended}
+use Rattle.table.specs.declared.State.{State}
 use Rattle.table.specs.declared.Table.{Table}
 
 pub step-made : (t : Table) (c : ℕ) (call : Call) → SoundTable t → So (runs (view t) c) → step t c call ≡ make t c call
@@ -35,11 +40,6 @@ made-or-refused P t c call h p m = go (runs (view t) c) refl
     go true e = rw (step-made t c call h e) (m e)
     go false e = rw (step-refused t c call h e) p
 
--- getpid answers the caller's number in its own namespace
-pub getpid-answers : (t : Table) (c : ℕ) → SoundTable t → So (runs (view t) c) → number-of (step t c Getpid .reply .answer) ≡ pos (view t .pid c (view t .level (view t .own c)))
-unfolding make getpid answers granted number-of pid-seen
-getpid-answers t c h k = rw (step-made t c Getpid h k)
-
 -- the levels' edge, at any depth
 pub too-deep : (t : Table) (c : ℕ) → SoundTable t → So (runs (view t) c) → own-level (view t) c ≡ deepest → step t c CloneNew ≡ refused t Enospc
 unfolding make clone-new
@@ -50,3 +50,18 @@ unfolding make clone-new _or_
 deep-enough t c h k e p s =
     ap (λ r. r .reply .answer) (step-made t c CloneNew h k)
     ∙ rw (ne-eqb (own-level (view t) c) deepest e, ne-eqb (free-slot (view t)) process-slots p, ne-eqb (free-namespace-slot (view t)) namespace-slots s, clone-new)
+
+-- a running process lives
+pub runs-lives : (t : Table) (c : ℕ) → So (runs (view t) c) → So (living (view t) c)
+unfolding runs living
+runs-lives t c h = both _ _ (left _ _ h) (go (process t c .state) (right _ _ h))
+  where
+    go : (x : State) → So (is-running x) → So (not (is-ended x))
+    go Running h = refl
+    go Stopped h = refl
+    go (Ended e) h = absurd (false≢true h)
+
+-- what an exit keeps is from 0 to 255
+pub remainder : (s : ℤ) → So (kept-end (Ended (Exited (status s))))
+remainder (pos k) = lt-ltb (k % statuses) statuses (omega arith)
+remainder (negsuc k) = lt-ltb (pred statuses - k % statuses) statuses (omega arith)

@@ -11,11 +11,11 @@ use lib.Dec.{eqb}
 use lib.IntN.{ℤ}
 use lib.ListN.{getD, set, length, length-set, List·getD-eq-default}
 use lib.Seq.{getD-set-same, getD-set-other}
-use Rattle.table.proofs.Keeps.MemberKeeps.{remainder}
 use Rattle.table.proofs.Laws.Facts.{Facts, facts, Sane, sane}
 use Rattle.table.proofs.Laws.FrameEnd.{read-changed}
 use Rattle.table.proofs.Laws.Quant.{left, right, both, cases, isnt-not, any-intro}
 use Rattle.table.proofs.Laws.Slots.{slot-lt, namespace-lt, seen-taken, seen-below, own-taken, up-level, below-level, below-same, below-parent, below-trans, init-own, living-own-alive, living-taken}
+use Rattle.table.proofs.Laws.Steps.{remainder}
 use Rattle.table.proofs.Laws.Tree.{below-refl}
 use Rattle.table.proofs.Sameness.EndInit as I
 use Rattle.table.proofs.Sameness.EndMember as M

@@ -7,7 +7,7 @@ use mathlib.Core.Logic.{inl, inr}
 use mathlib.Core.Path.{_≡_, refl, sym, _∙_, ap, subst₂, fun-ext}
 use borrow.Author.Tests.{eq-eqb}
 use lib.Dec.{eqb}
-use Rattle.table.proofs.Keeps.InitKeeps.{end-sane}
+use Rattle.table.proofs.Keeps.End.{end-sane}
 use Rattle.table.proofs.Laws.ChangedTo.{changed-past}
 use Rattle.table.proofs.Laws.Facts.{Facts, Sane}
 use Rattle.table.proofs.Laws.Quant.{and-false}

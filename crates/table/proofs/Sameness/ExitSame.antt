@@ -9,10 +9,10 @@ use borrow.Author.Tests.{eqb-true, eqb-false, eq-eqb}
 use lib.Dec.{eqb}
 use lib.IntN.{ℤ}
 use Rattle.table.proofs.Keeps.Changed.{namespace-count}
-use Rattle.table.proofs.Keeps.MemberKeeps.{remainder}
 use Rattle.table.proofs.Laws.Facts.{Facts, facts, Sane, sane}
 use Rattle.table.proofs.Laws.Quant.{left, right, both}
 use Rattle.table.proofs.Laws.Slots.{seen-below, alive-taken, init-pid, init-own, root-own, root-only, level-of-root, below-level, pid-unique, up-level, alive-up, init-seen}
+use Rattle.table.proofs.Laws.Steps.{remainder}
 use Rattle.table.proofs.Laws.Tree.{below-refl}
 use Rattle.table.proofs.Sameness.Calls.{both-refuse, both-change, owns-twins, own-lives, taken-s, taken-r}
 use Rattle.table.proofs.Sameness.DeliverSame.{Held, pair-of, EndSame}

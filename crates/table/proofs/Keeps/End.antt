@@ -1,22 +1,22 @@
--- The end of a process, as a table.
+-- "An end", as a table: what is read of it, and that all facts but those that freeing restores stay.
 use Prim.Native.Nat.{ℕ, _≤_}
 use native.Mathlib.Omega.{arith}
 use mathlib.Core.Bool.{Bool, true, false, not, So}
-use mathlib.Core.Path.{_≡_, refl, sym, _∙_, ap, subst}
+use mathlib.Core.Path.{_≡_, refl, _∙_, ap, sym, subst, ap₂}
+use borrow.Author.Tests.{ne-eqb}
 use lib.Dec.{eqb}
-use Rattle.table.proofs.Keeps.Changed.{getD-replicate, view-changed, shaped-changed, process-shaped}
+use Rattle.table.proofs.Keeps.Changed.{getD-replicate, view-changed, shaped-changed, process-shaped, pick}
 use Rattle.table.proofs.Keeps.InitEnds.{gone, subtree-gone, subtree-pre}
-use Rattle.table.proofs.Keeps.MemberEnds.{member-pre}
-use Rattle.table.proofs.Keeps.MemberKeeps.{member-view, member-shape}
+use Rattle.table.proofs.Keeps.MemberEnds.{member-gone, member-pre}
 use Rattle.table.proofs.Laws.Below.{shallow-below, no-level}
-use Rattle.table.proofs.Laws.Cases.{isnt-so}
-use Rattle.table.proofs.Laws.Facts.{Facts, Lives, Other, lives-taken, seen-taken, facts, Sane}
+use Rattle.table.proofs.Laws.Cases.{false-and, isnt-so, choose}
+use Rattle.table.proofs.Laws.Facts.{Facts, Lives, Other, lives-taken, seen-taken, facts, Sane, Taken}
 use Rattle.table.proofs.Laws.Quant.{left, both}
-use Rattle.table.specs.Ends.{end, init-ends, namespace-dies}
+use Rattle.table.specs.Ends.{end, init-ends, namespace-dies, member-ends}
 use Rattle.table.specs.Fresh.{empty-process}
 use Rattle.table.specs.Limits.{levels, namespace-slots, no-slot, process-slots}
-use Rattle.table.specs.Read.{View, below, is-ended, is-init, namespace, no-pid, pid-at, process, seen, view}
-use Rattle.table.specs.Records.{as-ended, changed, with-life}
+use Rattle.table.specs.Read.{View, below, is-ended, is-init, namespace, no-pid, pid-at, process, seen, view, child-of, init, no-process, taken}
+use Rattle.table.specs.Records.{as-ended, changed, with-life, with-parent}
 use Rattle.table.specs.Sound.{kept-end, shaped}
 use Rattle.table.specs.Tests.{_and_, if_then_else_}
 use Rattle.table.specs.declared.End.the-variants.{Signaled}
@@ -28,10 +28,6 @@ use Rattle.table.specs.declared.State.the-variants.{Ended}
 use Rattle.table.specs.declared.Table.{Table}
 
 module _ (e : End) (q : Process) where
-  -- the four cases of a process of the subtree
-  abbrev cased : Bool → Bool → Bool → Process
-  cased a b c = if not a then q else (if b then empty-process else (if c then as-ended q e else (if is-ended (q .state) then q else as-ended q (Signaled 9))))
-
   -- what no end changes
   plain : {B : Type 0} (r : Process → B) (a b c d : Bool) → ((x : End) → r (as-ended q x) ≡ r q)
       → r (if not a then q else (if b then empty-process else (if c then as-ended q e else (if d then q else as-ended q (Signaled 9))))) ≡ (if a and b then r empty-process else r q)
@@ -69,15 +65,88 @@ module _ (e : End) (q : Process) where
   shaped-cased true false false true h = h
   shaped-cased true false false false h = both _ _ (both _ _ (left _ _ (left _ _ h)) refl) refl
 
-module _ (t : Table) (g : So (shaped t)) (f : Facts (view t)) (p : ℕ) (e : End) (lives : Lives (view t) p) (its-init : So (is-init (view t) p)) (other : Other p) (ok : So (kept-end (Ended e))) where
+-- the view once the process at p has ended
+abbrev pub end-of : View → ℕ → End → View
+end-of v p e = if is-init v p then subtree-gone v (v .own p) p e else member-gone v p (init v (v .own p)) e
+
+module _ (t : Table) (s : Sane t) (p : ℕ) (e : End) (here : Taken (view t) p) where
   abbrev v : View
   v = view t
+
+  g : So (shaped t)
+  g = s .shape-of
+
+  f : Facts v
+  f = s .facts
+
+  -- ---- not an init
+
+  abbrev q : ℕ
+  q = init v (v .own p)
+
+  abbrev after-member : Table
+  after-member = changed t (member-ends v p e) (λ n s. s)
+
+  -- what is read of the three cases
+  three : {B : Type 0} (r : Process → B) (a b : Bool) (x : Process) → r (if a then as-ended x e else (if b then with-parent x q else x)) ≡ (if a then r (as-ended x e) else (if b then r (with-parent x q) else r x))
+  three r true b x = refl
+  three r false true x = refl
+  three r false false x = refl
+
+  -- the same where the second case is as the third
+  two : {B : Type 0} (r : Process → B) (a b : Bool) (x : Process) → r (with-parent x q) ≡ r x → r (if a then as-ended x e else (if b then with-parent x q else x)) ≡ (if a then r (as-ended x e) else r x)
+  two r true b x h = refl
+  two r false true x h = h
+  two r false false x h = refl
+
+  none-of : {B : Type 0} (r : Process → B) (a b : Bool) (x : Process) → r (as-ended x e) ≡ r x → r (with-parent x q) ≡ r x → r (if a then as-ended x e else (if b then with-parent x q else x)) ≡ r x
+  none-of r true b x h k = h
+  none-of r false true x h k = k
+  none-of r false false x h k = refl
+
+  no-child : (i : ℕ) → process-slots ≤ i → child-of v p i ≡ false
+  unfolding child-of
+  no-child i l = false-and (taken v i) _ (λ k. omega (arith, f .in-range i k))
+
+  pub member-view : view after-member ≡ member-gone v p q e
+  unfolding member-ends
+  member-view =
+      view-changed t (member-ends v p e) (λ n s. s) g out (λ n l. refl)
+      ∙ (λ j. record {
+        own = λ i. none-of (λ x. x .own .0) (eqb i p) (child-of v p i) (process t i) refl refl j;
+        children = λ i. two (λ x. x .children .0) (eqb i p) (child-of v p i) (process t i) refl j;
+        parent = λ i. three (λ x. x .parent .0) (eqb i p) (child-of v p i) (process t i) j;
+        state = λ i. two (λ x. x .state) (eqb i p) (child-of v p i) (process t i) refl j;
+        ended = λ i. two (λ x. is-ended (x .state)) (eqb i p) (child-of v p i) (process t i) refl j;
+        handled = λ i. two (λ x. x .handled) (eqb i p) (child-of v p i) (process t i) refl j;
+        pending = λ i. two (λ x. x .pending) (eqb i p) (child-of v p i) (process t i) refl j;
+        unshared = λ i. two (λ x. x .unshared) (eqb i p) (child-of v p i) (process t i) refl j;
+        pid = λ i l. none-of (λ x. pid-at x l) (eqb i p) (child-of v p i) (process t i) refl refl j;
+        up = v .up;
+        level = v .level;
+        last = v .last;
+        life = v .life;
+      })
+    where
+      out : (i : ℕ) → process-slots ≤ i → member-ends v p e i no-process ≡ no-process
+      out i l = rw (ne-eqb i p (λ x. omega (arith, f .in-range p here)), no-child i l)
+
+  pub member-shape : So (shaped after-member)
+  unfolding member-ends
+  member-shape = shaped-changed t (member-ends v p e) (λ n s. s) g (λ i x h. still (eqb i p) (child-of v p i) x h)
+    where
+      still : (a b : Bool) (x : Process) → So (process-shaped x) → So (process-shaped (if a then as-ended x e else (if b then with-parent x q else x)))
+      still true b x h = both _ _ (both _ _ (left _ _ (left _ _ h)) refl) refl
+      still false true x h = h
+      still false false x h = h
+
+  -- ---- an init
 
   abbrev n : ℕ
   n = v .own p
 
-  abbrev after : Table
-  after = changed t (init-ends v p e) (namespace-dies v n)
+  abbrev after-init : Table
+  after-init = changed t (init-ends v p e) (namespace-dies v n)
 
   dying : {B : Type 0} (r : Namespace → B) (b : Bool) (s : Namespace) → r (with-life s Dead) ≡ r s → r (if b then with-life s Dead else s) ≡ r s
   dying r true s h = h
@@ -92,13 +161,13 @@ module _ (t : Table) (g : So (shaped t)) (f : Facts (view t)) (p : ℕ) (e : End
 
   namespace-out : (m : ℕ) → namespace-slots ≤ m → below v m n ≡ false
   namespace-out m l =
-      let here = f .in-namespace n (f .members p (lives-taken v p lives) .0 .0) in
-      isnt-so (λ b. omega (arith, here, shallow-below v m n (no-level v f m (λ s. omega (arith, f .in-namespace m s))) b))
+      let low = f .in-namespace n (f .members p here .0 .0) in
+      isnt-so (λ b. omega (arith, low, shallow-below v m n (no-level v f m (λ s. omega (arith, f .in-namespace m s))) b))
 
   bare : (i : ℕ) → So (seen v n i) → So (v .ended i) → (((v .children i ≡ no-slot) × (v .handled i ≡ 0)) × (v .pending i ≡ 0)) × (So (v .unshared i) → ⊥)
   bare i s d = f .ended-bare i (seen-taken v n i s) d
 
-  pub subtree-view : view after ≡ subtree-gone v n p e
+  pub subtree-view : view after-init ≡ subtree-gone v n p e
   unfolding init-ends namespace-dies gone
   subtree-view =
       view-changed t (init-ends v p e) (namespace-dies v n) g (λ i l. rw (is-out i l)) (λ m l. rw (namespace-out m l))
@@ -118,16 +187,24 @@ module _ (t : Table) (g : So (shaped t)) (f : Facts (view t)) (p : ℕ) (e : End
         life = λ m. dies (below v m n) (namespace t m) j;
       })
 
-  pub subtree-shape : So (shaped after)
+  pub subtree-shape : So (shaped after-init)
   unfolding init-ends
   subtree-shape = shaped-changed t (init-ends v p e) (namespace-dies v n) g (λ i x h. shaped-cased e x (seen v n i) (seen v n (v .parent i)) (eqb i p) (is-ended (x .state)) h)
 
--- ---- an end, of any process but the root init
+  -- ---- either
+
+  pub end-view : view (end t p e) ≡ end-of v p e
+  unfolding end
+  end-view = pick view (is-init v p) after-init after-member ∙ ap₂ (λ (x y : View). if is-init v p then x else y) subtree-view member-view
+
+  end-shape : So (shaped (end t p e))
+  unfolding end
+  end-shape = choose (λ u. So (shaped u)) (is-init v p) (λ i. subtree-shape) (λ i. member-shape)
 
 pub end-sane : (t : Table) → Sane t → (p : ℕ) (e : End) → Lives (view t) p → Other p → So (kept-end (Ended e)) → Sane (end t p e)
-unfolding end
-end-sane t s p e lives other ok = go (is-init (view t) p) refl
-  where
-    go : (b : Bool) → is-init (view t) p ≡ b → Sane (end t p e)
-    go true i = rw (i, end) (record { shape-of = subtree-shape t (s .shape-of) (s .facts) p e lives i other ok; facts = subst Facts (sym (subtree-view t (s .shape-of) (s .facts) p e lives i other ok)) (subtree-pre (view t) (s .facts) p e lives i other ok) })
-    go false i = rw (i, end) (record { shape-of = member-shape t (s .shape-of) (s .facts) p e lives i ok; facts = subst Facts (sym (member-view t (s .shape-of) (s .facts) p e lives i ok)) (member-pre (view t) (s .facts) p e lives i ok) })
+end-sane t s p e lives other ok =
+    let here = lives-taken (view t) p lives in
+    record {
+      shape-of = end-shape t s p e here;
+      facts = subst Facts (sym (end-view t s p e here)) (choose Facts (is-init (view t) p) (λ i. subtree-pre (view t) (s .facts) p e lives i other ok) (λ i. member-pre (view t) (s .facts) p e lives i ok));
+    }
