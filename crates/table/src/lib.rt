@@ -312,9 +312,9 @@ impl Table {
     pub fn with_process(mut self, slot: ProcSlot, p: Process) -> Table
         ensures { λ r. ⌜ r ≡ put self (slot .0) p ⌝ }
     {
-        let i = slot.0 as usize;
-        if i < PROCESS_SLOTS {
-            self.processes[i] = p;
+        let at = slot.0 as usize;
+        if at < PROCESS_SLOTS {
+            self.processes[at] = p;
         }
         self
     }
@@ -323,9 +323,9 @@ impl Table {
     pub fn with_namespace(mut self, slot: NsSlot, n: Namespace) -> Table
         ensures { λ r. ⌜ r ≡ put-namespace self (slot .0) n ⌝ }
     {
-        let i = slot.0 as usize;
-        if i < NAMESPACE_SLOTS {
-            self.namespaces[i] = n;
+        let at = slot.0 as usize;
+        if at < NAMESPACE_SLOTS {
+            self.namespaces[at] = n;
         }
         self
     }
