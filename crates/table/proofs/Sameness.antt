@@ -17,9 +17,8 @@ pub mod DeliverSame
 pub mod Kill
 pub mod Shape
 pub mod Namespaces
-pub mod EndInit
-pub mod EndInitSame
-pub mod EndMember
+pub mod InitEnd
+pub mod MemberEnd
 pub mod EndSame
 pub mod NextPid
 pub mod ReapSame
@@ -40,4 +39,3 @@ pub mod UnshareLeaves
 pub mod EndLeaves
 pub mod KillLeaves
 pub mod Demand3
-pub mod DeliverEnded

@@ -1,11 +1,12 @@
 -- A birth keeps a table sound.
 use Prim.Native.Nat.{ℕ, zero, suc, _<_, _≤_}
 use native.Mathlib.Omega.{arith}
-use mathlib.Core.Bool.{true, false, So, false≢true}
+use mathlib.Core.Bool.{true, false, So, false≢true, Bool}
 use mathlib.Core.Logic.{_⊎_, inl, inr, ⊎-elim}
 use mathlib.Core.Path.{_≡_, refl, sym, _∙_, ap, subst}
 use borrow.Author.Tests.{eq-eqb, ne-eqb, eqb-true, le-leb, leb-true}
 use lib.Dec.{eqb, leb}
+use Rattle.table.proofs.Keeps.Changed.{pick}
 use Rattle.table.proofs.Keeps.MemberEnds.{reaches}
 use Rattle.table.proofs.Keeps.NewPid.{Fresh, next-fresh, next-first, nobody, free-is}
 use Rattle.table.proofs.Laws.Below.{last-step, above-namespace, above-is, above-same, below-level, root-above}
@@ -18,7 +19,7 @@ use Rattle.table.proofs.Laws.SignalSets.{no-signals}
 use Rattle.table.proofs.Laws.Tree.{below-refl}
 use Rattle.table.specs.Limits.{greatest-pid, namespace-slots, process-slots}
 use Rattle.table.specs.Pids.{next-pid}
-use Rattle.table.specs.Read.{View, above-at, alive, below, dead, init, init-of, is-alive, is-dead, living, namespace-taken, pid-seen, seen, taken, unborn}
+use Rattle.table.specs.Read.{View, above-at, alive, below, dead, init, init-of, is-alive, is-dead, living, namespace-taken, pid-seen, seen, taken, unborn, is-ended}
 use Rattle.table.specs.Sound.{reaches-root, zero-namespace, zero-process}
 use Rattle.table.specs.Tests.{_and_, if_then_else_}
 use Rattle.table.specs.declared.Life.the-variants.{Alive}
@@ -203,6 +204,7 @@ module _ (v : View) (f : Facts v) (c n k : ℕ) (c-lives : Lives v c) (here : St
   unfolding namespace-taken below
   born-pre =
       record {
+        ended-is = λ i. ap (λ (b : Bool). if eqb i k then false else b) (f .ended-is i) ∙ sym (pick is-ended (eqb i k) Running (v .state i));
         in-range = range-w;
         in-namespace = f .in-namespace;
         root-init = ap init-of root-life ∙ f .root-init;

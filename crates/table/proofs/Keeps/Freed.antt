@@ -138,6 +138,7 @@ module _ (v : View) (p : Facts v) where
   unfolding taken living zero-process pid-seen
   freed-pre =
       record {
+        ended-is = p .ended-is;
         in-range = p .in-range;
         in-namespace = λ n s. p .in-namespace n (stayed n s .1);
         root-init = ap init-of (life-at 0 top) ∙ p .root-init;

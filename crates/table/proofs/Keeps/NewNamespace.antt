@@ -111,6 +111,7 @@ module _ (v : View) (f : Facts v) (a j : ℕ) (a-namespace : Stands v a) (low : 
   unfolding taken living zero-process
   namespace-pre =
       record {
+        ended-is = f .ended-is;
         in-range = f .in-range;
         in-namespace = λ m s. ⊎-elim (λ x. omega arith) (λ (y, z). f .in-namespace m z) (namespace-w m s);
         root-init = rw root (f .root-init);

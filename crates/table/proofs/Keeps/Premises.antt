@@ -120,7 +120,7 @@ signalled-sound t c h lives a b la lb ok =
     let o = isnt-so (not-ended (view t) c lives) in
     let k = facts t h .ends-kept c (lives-taken (view t) c lives) in
     let s = signalled-sane t (sane t h) c lives (view t .state c) o a b k ok la lb in
-    sound-from _ (s .shape-of) (s .facts) (subst Held (sym (signalled-view t (sane t h) c lives (view t .state c) o a b)) (signalled-held (view t) (facts t h) c (view t .state c) a b lives k ok (held-in t h)))
+    sound-from _ (s .shape-of) (s .facts) (subst Held (sym (signalled-view t (sane t h) c lives (view t .state c) o a b)) (signalled-held (view t) (facts t h) c (view t .state c) a b lives o k ok (held-in t h)))
 
 module _ (t : Table) (c : ℕ) (h : SoundTable t) (r : So (runs (view t) c)) where
   abbrev v : View

@@ -95,7 +95,7 @@ module _ (t : Table) (sane : Sane t) (c : ℕ) (c-lives : Lives (view t) c) (s :
   signalled-sane a b d e =
       record {
         shape-of = shaped-put t (sane .shape-of) c y low-c (both _ _ (both _ _ (left _ _ (left _ _ (shape-at t (sane .shape-of) c low-c))) (lt-ltb h (2 ^ signals) d)) (lt-ltb q (2 ^ signals) e));
-        facts = subst Facts (sym signalled-view) (signalled-pre (view t) (sane .facts) c s h q c-lives a b);
+        facts = subst Facts (sym signalled-view) (signalled-pre (view t) (sane .facts) c s h q c-lives alive a b);
       }
 
 -- ---- removal

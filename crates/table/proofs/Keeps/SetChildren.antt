@@ -48,6 +48,7 @@ module _ (v : View) (f : Facts v) (c m : ℕ) (mark : Bool) (c-lives : Lives v c
   unfolding taken living namespace-taken below seen pid-seen zero-namespace
   set-children-pre =
       record {
+        ended-is = f .ended-is;
         in-range = f .in-range;
         in-namespace = f .in-namespace;
         root-init = f .root-init;

@@ -5,17 +5,17 @@ use native.Mathlib.Omega.{arith}
 use mathlib.Core.Bool.{Bool, true, false, not, So, false≢true}
 use mathlib.Core.List.{List, _∷_, []}
 use mathlib.Core.Logic.{_⊎_, inl, inr}
-use mathlib.Core.Path.{_≡_, refl, sym, _∙_, ap, ap₂, subst, subst₂}
+use mathlib.Core.Path.{_≡_, refl, sym, _∙_, ap, subst, subst₂}
 use borrow.Author.Tests.{eqb-true, eq-eqb, le-leb, lt-ltb}
 use lib.Dec.{eqb}
 use Rattle.table.proofs.Keeps.Changed.{process-count}
 use Rattle.table.proofs.Keeps.Deliver.{Good, action-good, act-sane}
 use Rattle.table.proofs.Laws.Facts.{Facts, Sane}
 use Rattle.table.proofs.Laws.Quant.{left, right, both, or-true}
-use Rattle.table.proofs.Laws.Slots.{slot-lt, seen-taken, living-own-alive, living-taken, root-only, below-taken, own-taken, below-level, root-own, level-of-root}
+use Rattle.table.proofs.Laws.Slots.{slot-lt, living-own-alive, living-taken, root-only, below-taken, own-taken, below-level, root-own, level-of-root}
 use Rattle.table.proofs.Sameness.Calls.{Shown, shown, same-put}
 use Rattle.table.proofs.Sameness.Light.{relight, Placed, put-light, put-other}
-use Rattle.table.proofs.Sameness.Readers.{is-init-twins}
+use Rattle.table.proofs.Sameness.Readers.{is-init-twins, living-twins}
 use Rattle.table.proofs.Sameness.Same.{Same}
 use Rattle.table.proofs.Sameness.Targets.{Along}
 use Rattle.table.proofs.Sameness.Twins.{Pair, Twin, Twins, flip-pair, flip-twins, bool-ext, owns, twins-unique}
@@ -48,12 +48,12 @@ pub pair-of : (t u : Table) (s r f g : ℕ) → Held t u s r f g → Pair (view 
 pair-of t u s r f g w = record { facts-v = w .fits-t .facts; facts-u = w .fits-u .facts; alive-v = w .alive-s; alive-u = w .alive-r; same = w .same }
 
 -- a target on each: twins that the callers see, or nobody that lives
-abbrev pub Target : Table → Table → ℕ → ℕ → ℕ → ℕ → ℕ → Type 0
-Target t u s r f x y = (Twin (view t) (view u) s r x y × So (seen (view t) f x)) ⊎ ((living (view t) x ≡ false) × (living (view u) y ≡ false))
+abbrev pub Target : View → View → ℕ → ℕ → ℕ → ℕ → ℕ → Type 0
+Target v u s r f x y = (Twin v u s r x y × So (seen v f x)) ⊎ ((living v x ≡ false) × (living u y ≡ false))
 
 -- what a step makes of the two tables and of the targets to come
 abbrev pub Onward : Table → Table → ℕ → ℕ → ℕ → ℕ → Table → Table → Type 0
-Onward t u s r f g t′ u′ = Held t′ u′ s r f g × ((a b : ℕ) → Target t u s r f a b → Target t′ u′ s r f a b)
+Onward t u s r f g t′ u′ = Held t′ u′ s r f g × ((a b : ℕ) → Target (view t) (view u) s r f a b → Target (view t′) (view u′) s r f a b)
 
 -- an end of two twins that live, none of them the init of the callers' own namespace
 unfoldable pub EndSame : Type 0
@@ -62,11 +62,6 @@ EndSame =
     → (So (is-init (view t) x) → view t .own x ≡ f → ⊥) → Onward t u s r f g (end t x e) (end u y e)
 
 -- ---- effects
-
-pub living-twins : (t u : Table) (s r : ℕ) (w : Pair (view t) (view u) s r) (x y : ℕ) → Twin (view t) (view u) s r x y → living (view t) x ≡ living (view u) y
-unfolding living
-living-twins t u s r w x y k =
-    ap₂ (λ (a b : Bool). a and not b) (seen-taken (view t) (w .facts-v) s x (k .seen-v) ∙ sym (seen-taken (view u) (w .facts-u) r y (k .seen-u))) (ap is-ended (shown t u s r w x y k .states))
 
 twins-eqb : (v u : View) (s r : ℕ) (w : Pair v u s r) (a b n m : ℕ) → Twins v u s r a b → Twins v u s r n m → eqb a n ≡ eqb b m
 twins-eqb v u s r w a b n m j k =
@@ -88,9 +83,9 @@ action-twins t u s r f g w x y n k = go (living (view t) x) refl
     p = pair-of t u s r f g w
 
     go : (b : Bool) → living (view t) x ≡ b → action-on (view t) f x n ≡ action-on (view u) g y n
-    go false e = action-none (view t) f x n e ∙ sym (action-none (view u) g y n (sym (living-twins t u s r p x y k) ∙ e))
+    go false e = action-none (view t) f x n e ∙ sym (action-none (view u) g y n (sym (living-twins (view t) (view u) s r p x y k) ∙ e))
     go true e =
-        rw (living-twins t u s r p x y k, is-init-twins (view t) (view u) s r p x y k (living-own-alive (view t) (w .fits-t .facts) x e), twins-eqb (view t) (view u) s r p _ _ f g (owns (view t) (view u) s r p x y k (living-own-alive (view t) (w .fits-t .facts) x e)) (w .from), shown t u s r p x y k .handleds, action-on)
+        rw (living-twins (view t) (view u) s r p x y k, is-init-twins (view t) (view u) s r p x y k (living-own-alive (view t) (w .fits-t .facts) x e), twins-eqb (view t) (view u) s r p _ _ f g (owns (view t) (view u) s r p x y k (living-own-alive (view t) (w .fits-t .facts) x e)) (w .from), shown t u s r p x y k .handleds, action-on)
         refl
 
 -- ---- a change of lights keeps who is where
@@ -121,7 +116,7 @@ not-living-put t c p k h x e =
 
 module _ (t u : Table) (s r f g : ℕ) (w : Held t u s r f g) (x y : ℕ) (k : Twin (view t) (view u) s r x y) (lx : So (living (view t) x)) where
   ly : So (living (view u) y)
-  ly = sym (living-twins t u s r (pair-of t u s r f g w) x y k) ∙ lx
+  ly = sym (living-twins (view t) (view u) s r (pair-of t u s r f g w) x y k) ∙ lx
 
   pub light-onward : (p q : Process) → Placed p (process t x) → Placed q (process u y) → Shown t u s r p q → Sane (put t x p) → Sane (put u y q) → Onward t u s r f g (put t x p) (put u y q)
   light-onward p q a b h ft fu = (
@@ -245,7 +240,7 @@ module _ (ends : EndSame) (t u : Table) (s r f g : ℕ) (w : Held t u s r f g) (
   action-onward Pend e = pend-onward (sane-t Pend (good Pend e)) (sane-u Pend (good-u (good Pend e)))
 
 module _ (ends : EndSame) (n : ℕ) (low : n < signals) where
-  deliver-onward : (t u : Table) (s r f g : ℕ) → Held t u s r f g → (x y : ℕ) → Target t u s r f x y → Onward t u s r f g (deliver t f x n) (deliver u g y n)
+  deliver-onward : (t u : Table) (s r f g : ℕ) → Held t u s r f g → (x y : ℕ) → Target (view t) (view u) s r f x y → Onward t u s r f g (deliver t f x n) (deliver u g y n)
   unfolding deliver act
   deliver-onward t u s r f g w x y (inr e) = rw (action-none (view t) f x n (e .0), action-none (view u) g y n (e .1)) (w, λ a b h. h)
   deliver-onward t u s r f g w x y (inl (k, h)) = go (living (view t) x) refl
@@ -253,7 +248,7 @@ module _ (ends : EndSame) (n : ℕ) (low : n < signals) where
       go : (b : Bool) → living (view t) x ≡ b → Onward t u s r f g (deliver t f x n) (deliver u g y n)
       go true l = rw (← action-twins t u s r f g w x y n k) (action-onward ends t u s r f g w x y n low k h l (action-on (view t) f x n) refl)
       go false l =
-          rw (action-none (view t) f x n l, action-none (view u) g y n (sym (living-twins t u s r (pair-of t u s r f g w) x y k) ∙ l)) (w, λ a b h. h)
+          rw (action-none (view t) f x n l, action-none (view u) g y n (sym (living-twins (view t) (view u) s r (pair-of t u s r f g w) x y k) ∙ l)) (w, λ a b h. h)
 
   along-map : (R S : ℕ → ℕ → Type 0) (xs ys : List ℕ) → ((a b : ℕ) → R a b → S a b) → Along R xs ys → Along S xs ys
   along-map R S [] [] h k = k
@@ -261,11 +256,11 @@ module _ (ends : EndSame) (n : ℕ) (low : n < signals) where
   along-map R S (x ∷ xs) [] h k = k
   along-map R S (x ∷ xs) (y ∷ ys) h k = (h x y (k .0), along-map R S xs ys h (k .1))
 
-  pub deliver-all-held : (xs ys : List ℕ) (t u : Table) (s r f g : ℕ) → Held t u s r f g → Along (Target t u s r f) xs ys → Held (deliver-all t f xs n) (deliver-all u g ys n) s r f g
+  pub deliver-all-held : (xs ys : List ℕ) (t u : Table) (s r f g : ℕ) → Held t u s r f g → Along (Target (view t) (view u) s r f) xs ys → Held (deliver-all t f xs n) (deliver-all u g ys n) s r f g
   unfolding deliver-all
   deliver-all-held [] [] t u s r f g w h = w
   deliver-all-held [] (y ∷ ys) t u s r f g w h = absurd h
   deliver-all-held (x ∷ xs) [] t u s r f g w h = absurd h
   deliver-all-held (x ∷ xs) (y ∷ ys) t u s r f g w h =
       let (w′, move) = deliver-onward t u s r f g w x y (h .0) in
-      deliver-all-held xs ys (deliver t f x n) (deliver u g y n) s r f g w′ (along-map (Target t u s r f) (Target (deliver t f x n) (deliver u g y n) s r f) xs ys move (h .1))
+      deliver-all-held xs ys (deliver t f x n) (deliver u g y n) s r f g w′ (along-map (Target (view t) (view u) s r f) (Target (view (deliver t f x n)) (view (deliver u g y n)) s r f) xs ys move (h .1))

@@ -9,18 +9,20 @@ use borrow.Author.Tests.{eqb-true, eqb-false, eq-eqb}
 use lib.Dec.{eqb}
 use lib.IntN.{ℤ}
 use Rattle.table.proofs.Keeps.Changed.{namespace-count}
+use Rattle.table.proofs.Keeps.End.{end-sane, end-tree, end-view}
+use Rattle.table.proofs.Keeps.InitEnds.{subtree-gone}
 use Rattle.table.proofs.Laws.Facts.{Facts, facts, Sane, sane}
 use Rattle.table.proofs.Laws.Quant.{left, right, both}
-use Rattle.table.proofs.Laws.Slots.{seen-below, alive-taken, init-pid, init-own, root-own, root-only, level-of-root, below-level, pid-unique, up-level, alive-up, init-seen}
+use Rattle.table.proofs.Laws.Slots.{seen-below, alive-taken, init-pid, init-own, root-own, root-only, level-of-root, below-level, pid-unique, up-level, alive-up, init-seen, seen-taken}
 use Rattle.table.proofs.Laws.Steps.{remainder}
 use Rattle.table.proofs.Laws.Tree.{below-refl}
 use Rattle.table.proofs.Sameness.Calls.{both-refuse, both-change, owns-twins, own-lives, taken-s, taken-r}
 use Rattle.table.proofs.Sameness.DeliverSame.{Held, pair-of, EndSame}
-use Rattle.table.proofs.Sameness.EndInit.{fallen, fallen-shape}
-use Rattle.table.proofs.Sameness.EndInitSame.{init-same}
-use Rattle.table.proofs.Sameness.EndSame.{end-fits, end-same}
+use Rattle.table.proofs.Sameness.EndSame.{end-same}
 use Rattle.table.proofs.Sameness.FreedRow.{freed-places}
+use Rattle.table.proofs.Sameness.InitEnd.{init-same}
 use Rattle.table.proofs.Sameness.Inside.{Kept, Ready, MadeSame}
+use Rattle.table.proofs.Sameness.MemberEnd.{member-of}
 use Rattle.table.proofs.Sameness.Readers.{is-init-twins, pid-in-unseen}
 use Rattle.table.proofs.Sameness.Same.{Same}
 use Rattle.table.proofs.Sameness.SetChildrenSame.{same-freed-only, stands-freed}
@@ -30,10 +32,10 @@ use Rattle.table.specs.Calls.{exit, status}
 use Rattle.table.specs.Ends.{end}
 use Rattle.table.specs.Events.{at}
 use Rattle.table.specs.Freeing.{freed}
-use Rattle.table.specs.Read.{View, alive, init, is-ended, is-init, is-running, living, namespace-taken, pid-in, pid-seen, seen, view}
+use Rattle.table.specs.Read.{View, alive, init, is-ended, is-init, is-running, living, namespace-taken, pid-in, pid-seen, seen, view, taken}
 use Rattle.table.specs.Sound.{SoundTable, kept-end}
 use Rattle.table.specs.Step.{make, runs}
-use Rattle.table.specs.Tests.{_or_}
+use Rattle.table.specs.Tests.{_or_, if_then_else_}
 use Rattle.table.specs.declared.Call.the-variants.{Exit}
 use Rattle.table.specs.declared.End.the-variants.{Exited}
 use Rattle.table.specs.declared.End.{End}
@@ -93,10 +95,6 @@ above-zero v f s a l =
 unseen-above : (v : View) (f : Facts v) (s n : ℕ) → So (alive v s) → n ≡ s → 0 < v .level s → pid-in v s (init v (v .up n)) ≡ 0
 unseen-above v f s n a e l = ap (λ x. pid-in v s (init v (v .up x))) e ∙ above-zero v f s a l
 
-still-taken : (t : Table) (w : Sane t) (x : ℕ) (e : End) (n : ℕ) → So (namespace-taken (view t) n) → So (namespace-taken (view (fallen t w x e)) n)
-unfolding namespace-taken
-still-taken t w x e n h = ap (λ (l : ℕ → ℕ). eqb n 0 or not (eqb (l n) 0)) (fallen-shape t w x e .levels) ∙ h
-
 -- an init that is not the root's is of a namespace below the root
 init-positive : (v : View) (f : Facts v) (c s : ℕ) → So (is-init v c) → v .own c ≡ s → (c ≡ 0 → ⊥) → So (namespace-taken v s) → 0 < v .level s
 unfolding is-init
@@ -104,6 +102,11 @@ init-positive v f c s i o n h = lt-of (λ z. n (sym (eqb-true _ _ i) ∙ ap (ini
   where
     lt-of : (v .level s ≡ 0 → ⊥) → 0 < v .level s
     lt-of k = omega arith
+
+-- a namespace that keeps its level stands on
+stands-as : (v u : View) (n : ℕ) → u .level n ≡ v .level n → So (namespace-taken v n) → So (namespace-taken u n)
+unfolding namespace-taken
+stands-as v u n e h = ap (λ x. eqb n 0 or not (eqb x 0)) e ∙ h
 
 module _ (t u : Table) (s r c d : ℕ) (w : Ready t u s r c d) (e : End) (ok : So (kept-end (Ended e))) where
   held : Held t u s r s r
@@ -126,32 +129,44 @@ module _ (t u : Table) (s r c d : ℕ) (w : Ready t u s r c d) (e : End) (ok : S
 
   -- S's init ends
   dies : So (is-init (view t) c) → view t .own c ≡ s → (c ≡ 0 → ⊥) → (d ≡ 0 → ⊥) → SoundTable (freed (end t c e)) → SoundTable (freed (end u d e)) → Kept t u s r (answers (freed (end t c e)) 0) (answers (freed (end u d e)) 0)
-  unfolding answers granted end
-  dies ic oc nc nd h g = inr (refl, rw (ic, id, end) (freed-places t u (fallen t (held .fits-t) c e) (fallen u (held .fits-u) d e) (ft .facts) (fu .facts) s r (namespace-count _ (ft .shape-of)) (namespace-count _ (fu .shape-of)) (rw (ic, end) at h) (rw (id, end) at g) (still-taken t (held .fits-t) c e s (taken-s t u s r c d w)) (still-taken u (held .fits-u) d e r (taken-r t u s r c d w)) (ap (λ (l : ℕ → ℕ). l s) (fallen-shape t (held .fits-t) c e .levels)) (ap (λ (l : ℕ → ℕ). l r) (fallen-shape u (held .fits-u) d e .levels)) same))
+  unfolding answers granted
+  dies ic oc nc nd h g = inr (refl, freed-places t u (end t c e) (end u d e) (ft .facts) (fu .facts) s r (namespace-count _ (ft .shape-of)) (namespace-count _ (fu .shape-of)) h g (stands t (held .fits-t) c s tc (taken-s t u s r c d w)) (stands u (held .fits-u) d r td (taken-r t u s r c d w)) (ap (λ (l : ℕ → ℕ). l s) (end-tree t (held .fits-t) c e tc .1)) (ap (λ (l : ℕ → ℕ). l r) (end-tree u (held .fits-u) d e td .1)) same)
     where
       p : Pair (view t) (view u) s r
       p = w .pair
 
-      id : So (is-init (view u) d)
-      id = sym (is-init-twins (view t) (view u) s r p c d (w .twin) (own-lives t u s r c d w)) ∙ ic
+      tc : So (taken (view t) c)
+      tc = seen-taken (view t) (p .facts-v) s c (w .twin .seen-v)
 
-      ft : Sane (fallen t (held .fits-t) c e)
-      ft = rw (ic, end) at (end-fits t c e (held .fits-t) (runs-living t c (w .runs-t)) nc ok)
+      td : So (taken (view u) d)
+      td = seen-taken (view u) (p .facts-u) r d (w .twin .seen-u)
 
-      fu : Sane (fallen u (held .fits-u) d e)
-      fu = rw (id, end) at (end-fits u d e (held .fits-u) (runs-living u d (w .runs-u)) nd ok)
+      ft : Sane (end t c e)
+      ft = end-sane t (held .fits-t) c e (runs-living t c (w .runs-t)) nc ok
 
-      same : Same (view (fallen t (held .fits-t) c e)) (view (fallen u (held .fits-u) d e)) s r
-      same = init-same t u s r s r held c d e (w .twin) (own-lives t u s r c d w) positive (unseen-above (view t) (w .pair .facts-v) s (view t .own c) (w .pair .alive-v) oc positive-s ∙ sym (unseen-above (view u) (w .pair .facts-u) r (view u .own d) (w .pair .alive-u) od positive-r))
+      fu : Sane (end u d e)
+      fu = end-sane u (held .fits-u) d e (runs-living u d (w .runs-u)) nd ok
+
+      stands : (z : Table) (f : Sane z) (x n : ℕ) → So (taken (view z) x) → So (namespace-taken (view z) n) → So (namespace-taken (view (end z x e)) n)
+      stands z f x n tx k = stands-as (view z) (view (end z x e)) n (ap (λ (l : ℕ → ℕ). l n) (end-tree z f x e tx .1)) k
+
+      same : Same (view (end t c e)) (view (end u d e)) s r
+      same =
+          subst₂ (λ (a b : View). Same a b s r) (sym (end-view t (held .fits-t) c e tc)) (sym (end-view u (held .fits-u) d e td))
+          (subst₂ (λ (a b : Bool). Same (if a then subtree-gone (view t) (view t .own c) c e else member-of (view t) c e) (if b then subtree-gone (view u) (view u .own d) d e else member-of (view u) d e) s r) (sym ic) (sym id)
+          (init-same (view t) (view u) s r p c d e (w .twin) (own-lives t u s r c d w) positive (unseen-above (view t) (p .facts-v) s (view t .own c) (p .alive-v) oc positive-s ∙ sym (unseen-above (view u) (p .facts-u) r (view u .own d) (p .alive-u) od positive-r))))
         where
+          id : So (is-init (view u) d)
+          id = sym (is-init-twins (view t) (view u) s r p c d (w .twin) (own-lives t u s r c d w)) ∙ ic
+
           od : view u .own d ≡ r
-          od = twins-unique (view t) (view u) s r (w .pair) _ _ s r (owns-twins t u s r c d w) (tops (view t) (view u) s r (w .pair)) oc
+          od = twins-unique (view t) (view u) s r p _ _ s r (owns-twins t u s r c d w) (tops (view t) (view u) s r p) oc
 
           positive-s : 0 < view t .level s
-          positive-s = init-positive (view t) (w .pair .facts-v) c s ic oc nc (taken-s t u s r c d w)
+          positive-s = init-positive (view t) (p .facts-v) c s ic oc nc (taken-s t u s r c d w)
 
           positive-r : 0 < view u .level r
-          positive-r = omega (arith, positive-s, w .pair .same .levels)
+          positive-r = omega (arith, positive-s, p .same .levels)
 
           positive : 0 < view t .level (view t .own c)
           positive = omega (arith, positive-s, ap (view t .level) oc)

@@ -39,7 +39,7 @@ module _ (t u : Table) (s r i j : ℕ) (w : Ready t u s r i j) where
 
   kill-after : (z : ℤ) (n : ℕ) → n < signals → Held (deliver-all t (view t .own i) (targets (view t) i z) n) (deliver-all u (view u .own j) (targets (view u) j z) n) s r (view t .own i) (view u .own j)
   kill-after z n low = deliver-all-held end-same n low _ _ t u s r (view t .own i) (view u .own j) held
-      (along-with (Twin (view t) (view u) s r) (Target t u s r (view t .own i)) (targets (view t) i z) (targets (view u) j z) (λ x y m k. inl (k, targets-seen (view t) i z x m)) (targets-twins t u s r i j w z))
+      (along-with (Twin (view t) (view u) s r) (Target (view t) (view u) s r (view t .own i)) (targets (view t) i z) (targets (view u) j z) (λ x y m k. inl (k, targets-seen (view t) i z x m)) (targets-twins t u s r i j w z))
 
 pub kill-same : (z n : ℤ) → MadeSame (Kill z n)
 unfolding MadeSame make kill answers granted

@@ -1,7 +1,7 @@
 -- More that reads the same on two tables that are the same to a living namespace.
 use Prim.Native.Nat.{ℕ, _<_, _≤_}
 use native.Mathlib.Omega.{arith}
-use mathlib.Core.Bool.{Bool, true, false, So, false≢true}
+use mathlib.Core.Bool.{Bool, true, false, So, false≢true, not}
 use mathlib.Core.Logic.{_⊎_, inl, inr}
 use mathlib.Core.Path.{_≡_, refl, sym, _∙_, ap, ap₂, subst}
 use borrow.Author.Tests.{eq-eqb, ne-eqb, eqb-true}
@@ -12,7 +12,7 @@ use Rattle.table.proofs.Laws.Slots.{slot-lt, seen-taken, seen-below, be
 use Rattle.table.proofs.Sameness.Find.{Found, find-cases}
 use Rattle.table.proofs.Sameness.Twins.{Pair, Twin, Twins, flip-pair, flip-twin, bool-ext, pid-in-seen, twin-rows, twin-there, twin-unique, seen-twins, pid-twins, inits-twin, owns}
 use Rattle.table.specs.Limits.{process-slots}
-use Rattle.table.specs.Read.{View, alive, below, child-of, find, is-init, pid-in, pid-seen, seen}
+use Rattle.table.specs.Read.{View, alive, below, child-of, find, is-init, pid-in, pid-seen, seen, is-ended, living}
 use Rattle.table.specs.Sheet.{Row, row}
 use Rattle.table.specs.Tests.{_and_, if_then_else_}
 
@@ -112,3 +112,11 @@ module _ (v u : View) (s r : ℕ) (w : Pair v u s r) where
       go : (b : Bool) → seen v s (v .parent i) ≡ b → eqb (v .parent i) c ≡ eqb (u .parent j) d
       go true e = twin-eqb _ _ c d (parent-twin i j k e) l
       go false e = other v s c _ (l .seen-v) e ∙ sym (other u r d _ (l .seen-u) (sym (parent-seen i j k) ∙ e))
+
+  pub ended-twins : (i j : ℕ) → Twin v u s r i j → v .ended i ≡ u .ended j
+  unfolding row
+  ended-twins i j k = w .facts-v .ended-is i ∙ ap (λ (o : Row). is-ended (o .state)) (twin-rows v u s r w i j k) ∙ sym (w .facts-u .ended-is j)
+
+  pub living-twins : (i j : ℕ) → Twin v u s r i j → living v i ≡ living u j
+  unfolding living
+  living-twins i j k = ap₂ (λ (a b : Bool). a and not b) (seen-taken v (w .facts-v) s i (k .seen-v) ∙ sym (seen-taken u (w .facts-u) r j (k .seen-u))) (ended-twins i j k)

@@ -12,14 +12,14 @@ use Rattle.table.proofs.Laws.Slots.{seen-taken, own-taken}
 use Rattle.table.proofs.Sameness.Calls.{shown, both-refuse, both-change, owns-twins, lt-t, lt-u, taken-s, taken-r}
 use Rattle.table.proofs.Sameness.Inside.{Kept, Ready, MadeSame}
 use Rattle.table.proofs.Sameness.Light.{Placed, put-light}
-use Rattle.table.proofs.Sameness.Readers.{find-twins}
+use Rattle.table.proofs.Sameness.Readers.{find-twins, ended-twins}
 use Rattle.table.proofs.Sameness.Remain.{standing}
 use Rattle.table.proofs.Sameness.SetChildrenSame.{same-set-children, remain-set-children, alive-kept}
-use Rattle.table.proofs.Sameness.Twins.{Pair, Twin, twin-rows}
+use Rattle.table.proofs.Sameness.Twins.{Twin, twin-rows}
 use Rattle.table.specs.Answers.{answers, granted}
 use Rattle.table.specs.Calls.{named, set-children, setns}
 use Rattle.table.specs.Limits.{process-slots}
-use Rattle.table.specs.Read.{is-ended, process, view}
+use Rattle.table.specs.Read.{process, view}
 use Rattle.table.specs.Records.{put, with-children}
 use Rattle.table.specs.Sheet.{Row, row}
 use Rattle.table.specs.Sound.{SoundTable}
@@ -38,9 +38,6 @@ unfolding named
 named-twins t u s r i j w (pos zero) = inl (refl, refl)
 named-twins t u s r i j w (pos (suc k)) = find-twins (view t) (view u) s r (w .pair) _ _ (suc k) (owns-twins t u s r i j w)
 named-twins t u s r i j w (negsuc k) = inl (refl, refl)
-
-pub ended-twins : (t u : Table) (s r : ℕ) (w : Pair (view t) (view u) s r) (i j : ℕ) → Twin (view t) (view u) s r i j → view t .ended i ≡ view u .ended j
-ended-twins t u s r w i j k = ap is-ended (shown t u s r w i j k .states)
 
 module _ (t u : Table) (s r i j : ℕ) (w : Ready t u s r i j) where
   -- both callers take the own namespaces of two twins
@@ -75,4 +72,4 @@ setns-same z t u s r i j w h g = go (named-twins t u s r i j w z)
     go : Named t u s r x y → Kept t u s r (setns t i z) (setns u j z)
     go (inl (e, d)) = rw (eq-eqb x process-slots e, eq-eqb y process-slots d, setns) (both-refuse t u s r i j w Esrch)
     go (inr (a, l, m)) =
-        either a (ne-eqb x process-slots (λ e. omega (arith, e))) (ne-eqb y process-slots (λ e. omega (arith, e))) (view t .ended x) refl (sym (ended-twins t u s r (w .pair) x y a))
+        either a (ne-eqb x process-slots (λ e. omega (arith, e))) (ne-eqb y process-slots (λ e. omega (arith, e))) (view t .ended x) refl (sym (ended-twins (view t) (view u) s r (w .pair) x y a))

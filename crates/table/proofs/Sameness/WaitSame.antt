@@ -12,9 +12,8 @@ use Rattle.table.proofs.Laws.Slots.{slot-lt, seen-taken, child-seen}
 use Rattle.table.proofs.Laws.Tree.{below-refl}
 use Rattle.table.proofs.Sameness.Calls.{shown, processes-length, both-refuse, both-tell, owns-twins}
 use Rattle.table.proofs.Sameness.Inside.{Kept, Ready, MadeSame, stands-same}
-use Rattle.table.proofs.Sameness.Readers.{child-twins, seen-above}
+use Rattle.table.proofs.Sameness.Readers.{child-twins, seen-above, ended-twins}
 use Rattle.table.proofs.Sameness.ReapSame.{Least, least-cases, same-reap, stands-t, stands-u}
-use Rattle.table.proofs.Sameness.Setns.{ended-twins}
 use Rattle.table.proofs.Sameness.Targets.{twin-of-pid}
 use Rattle.table.proofs.Sameness.Twins.{Twin, Twins, flip-pair, flip-twin, bool-ext, twin-there, pid-twins}
 use Rattle.table.specs.Answers.{granted}
@@ -64,7 +63,7 @@ module _ (t u : Table) (s r c d : ℕ) (w : Ready t u s r c d) where
   ended-there : (i : ℕ) → So (ended-kid (view t) c i) → (j : ℕ) × Twin (view t) (view u) s r i j × So (ended-kid (view u) d j) × (j < process-slots)
   ended-there i h =
       let (j, m) = kid-there i (left _ _ h) in
-      (j, m, both _ _ (sym (kid-same i j m) ∙ left _ _ h) (sym (ended-twins t u s r (w .pair) i j m) ∙ right _ _ h), slot-lt (view u) (facts u (w .sound-u)) j (seen-taken (view u) (facts u (w .sound-u)) r j (m .seen-u)))
+      (j, m, both _ _ (sym (kid-same i j m) ∙ left _ _ h) (sym (ended-twins (view t) (view u) s r (w .pair) i j m) ∙ right _ _ h), slot-lt (view u) (facts u (w .sound-u)) j (seen-taken (view u) (facts u (w .sound-u)) r j (m .seen-u)))
 
 flip-ready : (t u : Table) (s r c d : ℕ) → Ready t u s r c d → Ready u t r s d c
 flip-ready t u s r c d w =
