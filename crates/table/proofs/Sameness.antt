@@ -26,9 +26,8 @@ pub mod WaitSame
 pub mod FreedRow
 pub mod ExitSame
 pub mod BirthPids
-pub mod Grown
+pub mod Born
 pub mod BirthSame
-pub mod BirthTable
 pub mod CloneSame
 pub mod NewNamespaceSame
 pub mod Leaves

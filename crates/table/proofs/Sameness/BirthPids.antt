@@ -1,36 +1,26 @@
 -- The numbers that two newborns get from S's level down are the same.
-use Prim.Native.Nat.{ℕ, suc, pred, _-_, _≤_}
+use Prim.Native.Nat.{ℕ, suc, _-_, _≤_}
 use native.Mathlib.Decide.{ℕ-discrete}
 use native.Mathlib.Omega.{arith}
 use mathlib.Core.Bool.{Bool, false, not, So, false≢true}
 use mathlib.Core.Logic.{_⊎_, inl, inr}
 use mathlib.Core.Path.{_≡_, sym, _∙_, ap, ap₂, subst, fun-ext}
 use lib.Dec.{eqb, leb}
+use Rattle.table.proofs.Laws.Cases.{no-so}
 use Rattle.table.proofs.Laws.Facts.{Facts}
 use Rattle.table.proofs.Laws.Quant.{left, any-elim}
-use Rattle.table.proofs.Laws.Slots.{below-level, seen-taken, seen-below, own-not-unborn, below-up-by, below-same, up-by-level, up-by-end, no-heirs}
+use Rattle.table.proofs.Laws.Slots.{seen-taken, seen-below, own-not-unborn}
+use Rattle.table.proofs.Sameness.Born.{bottom}
 use Rattle.table.proofs.Sameness.NextPid.{next-twins}
 use Rattle.table.proofs.Sameness.Twins.{Pair, Twins, bool-ext, twins-level, twins-up-by}
 use Rattle.table.specs.Limits.{greatest-pid, process-slots, restart-pid}
 use Rattle.table.specs.Pids.{free-pid, next-pid}
-use Rattle.table.specs.Read.{View, above-at, below, pid-seen, seen, unborn, up-by}
+use Rattle.table.specs.Read.{View, above-at, pid-seen, seen, unborn, up-by}
 use Rattle.table.specs.Tests.{_and_, any, if_then_else_, lowest}
 
 -- nobody is seen from an unborn namespace
 unborn-unseen : (v : View) (f : Facts v) (n i : ℕ) → So (unborn v n) → So (seen v n i) → ⊥
-unborn-unseen v f n i h k = go (ℕ-discrete (v .level (v .own i)) (v .level n))
-  where
-    b : So (below v (v .own i) n)
-    b = seen-below v f n i k
-
-    go : Dec (v .level (v .own i) ≡ v .level n) → ⊥
-    go (yes e) = false≢true (sym (own-not-unborn v f i (seen-taken v f n i k)) ∙ ap (unborn v) (below-same v f (v .own i) n b e) ∙ h)
-    go (no e) =
-        let d = pred (v .level (v .own i) - v .level n) in
-        let l = below-level v f (v .own i) n b in
-        let q : suc d ≡ v .level (v .own i) - v .level n = omega arith in
-        no-heirs v f n (up-by (v .up) d (v .own i)) (v .level n) h (omega (arith, up-by-level v f d (v .own i) (omega arith)))
-        (sym (up-by-end v f d (v .own i)) ∙ ap (λ x. up-by (v .up) x (v .own i)) q ∙ below-up-by v f (v .own i) n b)
+unborn-unseen v f n i h k = no-so (own-not-unborn v f i (seen-taken v f n i k)) (subst (λ m. So (unborn v m)) (sym (bottom v f (v .own i) n (seen-below v f n i k) h)) h)
 
 unborn-free : (v : View) (f : Facts v) (n k : ℕ) → So (unborn v n) → So (free-pid v n k)
 unfolding free-pid

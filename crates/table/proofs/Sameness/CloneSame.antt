@@ -5,22 +5,25 @@ use mathlib.Core.Logic.{inl, inr}
 use mathlib.Core.Path.{_≡_, refl, sym, _∙_, ap, subst₂}
 use borrow.Author.Tests.{eqb-true, eqb-false, eq-eqb}
 use lib.Dec.{eqb}
+use Rattle.table.proofs.Keeps.BirthKeeps.{birth-view}
+use Rattle.table.proofs.Keeps.Premises.{free-slot-is}
+use Rattle.table.proofs.Laws.Cases.{isnt-so}
 use Rattle.table.proofs.Laws.Facts.{Facts, facts, Sane, sane}
 use Rattle.table.proofs.Laws.Quant.{or-true}
 use Rattle.table.proofs.Laws.Slots.{seen-taken, seen-below, below-trans, alive-otherwise, root-only, up-level, alive-not-unborn}
 use Rattle.table.proofs.Sameness.Anchor.{anchor-self, root-alive, is-unborn-name, is-dead-name, name-taken}
 use Rattle.table.proofs.Sameness.BirthPids.{Cradles}
 use Rattle.table.proofs.Sameness.BirthSame.{birth-same}
-use Rattle.table.proofs.Sameness.BirthTable.{grown, lights, the-child}
 use Rattle.table.proofs.Sameness.Calls.{both-refuse, owns-twins, taken-s, taken-r, the-rows}
 use Rattle.table.proofs.Sameness.ExitSame.{runs-living}
 use Rattle.table.proofs.Sameness.Inside.{Kept, Ready, MadeSame, stands-same}
 use Rattle.table.proofs.Sameness.Namespaces.{children-taken, children-below, name-unborn, anchors-of}
 use Rattle.table.proofs.Sameness.NextPid.{next-twins}
 use Rattle.table.proofs.Sameness.Readers.{twin-eqb}
+use Rattle.table.proofs.Sameness.Same.{Same}
 use Rattle.table.proofs.Sameness.Twins.{Twin, Twins, bool-ext}
 use Rattle.table.specs.Answers.{is-no-room, refused, number-of, refusal-number}
-use Rattle.table.specs.Births.{birth, newborn}
+use Rattle.table.specs.Births.{birth}
 use Rattle.table.specs.Calls.{born, clone}
 use Rattle.table.specs.Limits.{process-slots}
 use Rattle.table.specs.Pids.{free-slot}
@@ -131,19 +134,18 @@ module _ (t u : Table) (s r c d : ℕ) (w : Ready t u s r c d) where
   fits-u = sane u (w .sound-u)
 
   born-kept : dead (view t) (view t .children c) ≡ false → (free-slot (view t) ≡ process-slots → ⊥) → (free-slot (view u) ≡ process-slots → ⊥) → SoundTable (birth t c (view t .children c)) → SoundTable (birth u d (view u .children d)) → Kept t u s r (born t c (birth t c (view t .children c))) (born u d (birth u d (view u .children d)))
-  unfolding newborn namespace-taken
+  unfolding namespace-taken
   born-kept nd rt ru h g =
-      let a = grown t fits-t c (view t .children c) hn rt in
-      let b = grown u fits-u d (view u .children d) hm ru in
-      let x = the-child t fits-t c (view t .children c) hn rt in
-      let y = the-child u fits-u d (view u .children d) hm ru in
+      let (lt, et) = free-slot-is (view t) rt in
+      let (lu, eu) = free-slot-is (view u) ru in
+      let ev = birth-view t (fits-t .shape-of) (fits-t .facts) c (view t .children c) hn lt in
+      let ew = birth-view u (fits-u .shape-of) (fits-u .facts) d (view u .children d) hm lu in
       inr (
         ap Number (next-twins (view t) (view u) s r (w .pair) _ _ (owns-twins t u s r c d w)),
         stands-same t u (birth t c (view t .children c)) (birth u d (view u .children d)) s r h g
-            (ap (λ (l : ℕ → ℕ). eqb s 0 or not (eqb (l s) 0)) (a .levels-same) ∙ taken-s t u s r c d w)
-            (ap (λ (l : ℕ → ℕ). eqb r 0 or not (eqb (l r) 0)) (b .levels-same) ∙ taken-r t u s r c d w)
-            (birth-same (view t) (view u) (view (birth t c (view t .children c))) (view (birth u d (view u .children d))) s r (w .pair) c d (view t .children c) (view u .children d) (free-slot (view t)) (free-slot (view u)) (w .twin) (cradles nd) hn hm bn bm a b (lights t fits-t c (view t .children c) hn rt) (lights u fits-u d (view u .children d) hm ru)
-            (ap (λ p. p .state) x ∙ sym (ap (λ p. p .state) y), ap (λ p. p .handled) x ∙ sym (ap (λ p. p .handled) y), ap (λ p. p .pending) x ∙ sym (ap (λ p. p .pending) y), ap (λ p. p .unshared) x ∙ sym (ap (λ p. p .unshared) y)) holders),
+            (ap (λ (x : View). eqb s 0 or not (eqb (x .level s) 0)) ev ∙ taken-s t u s r c d w)
+            (ap (λ (x : View). eqb r 0 or not (eqb (x .level r) 0)) ew ∙ taken-r t u s r c d w)
+            (subst₂ (λ (a b : View). Same a b s r) (sym ev) (sym ew) (birth-same (view t) (view u) s r (w .pair) c d (view t .children c) (view u .children d) (free-slot (view t)) (free-slot (view u)) (w .twin) (cradles nd) hn hm bn bm (isnt-so et) (isnt-so eu) lt lu holders)),
       )
 
 pub no-room-left : (t u : Table) (s r : ℕ) (y : Outcome) → Kept t u s r (refused t Eagain) y

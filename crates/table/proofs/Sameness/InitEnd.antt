@@ -13,7 +13,7 @@ use Rattle.table.proofs.Laws.Slots.{seen-taken, seen-below, own-taken, 
 use Rattle.table.proofs.Sameness.Anchor.{anchor, is-unborn-name}
 use Rattle.table.proofs.Sameness.Namespaces.{children-taken, children-below, name-unborn, unborn-outside, anchors-of, below-named, level-named, parent-in-twins}
 use Rattle.table.proofs.Sameness.Readers.{twin-eqb, ended-twins}
-use Rattle.table.proofs.Sameness.Same.{Same}
+use Rattle.table.proofs.Sameness.Same.{Same, row-by}
 use Rattle.table.proofs.Sameness.SetChildrenSame.{name-no-slot}
 use Rattle.table.proofs.Sameness.Shape.{Shape, same-shape, pid-in-shape, name-in, name-out}
 use Rattle.table.proofs.Sameness.Twins.{Pair, Twin, Twins, bool-ext, twin-rows, seen-twins, own-levels, owns, twins-level}
@@ -26,12 +26,6 @@ use Rattle.table.specs.declared.End.the-variants.{Signaled}
 use Rattle.table.specs.declared.End.{End}
 use Rattle.table.specs.declared.Life.the-variants.{Dead}
 use Rattle.table.specs.declared.State.the-variants.{Running, Ended}
-
--- a row by its parts
-row-by : (v u : View) (s r i j : ℕ) → values (v .pid i) (levels - v .level s) (v .level s) ≡ values (u .pid j) (levels - u .level r) (u .level r) → v .state i ≡ u .state j → v .handled i ≡ u .handled j → v .pending i ≡ u .pending j → v .unshared i ≡ u .unshared j → pid-in v s (v .parent i) ≡ pid-in u r (u .parent j) → name v s (v .own i) ≡ name u r (u .own j) → name v s (v .children i) ≡ name u r (u .children j) → (if is-init v i then v .last (v .own i) else 0) ≡ (if is-init u j then u .last (u .own j) else 0) → row v s i ≡ row u r j
-unfolding row
-row-by v u s r i j a b c d e f g h z =
-    λ k. record { pids = a k; state = b k; handled = c k; pending = d k; unshared = e k; parent = f k; own = g k; children = h k; last = z k }
 
 pids-shape : (v v′ : View) (Q : ℕ → Bool) (w : Shape v v′ Q) (s i : ℕ) → So (Q i) → values (v′ .pid i) (levels - v′ .level s) (v′ .level s) ≡ values (v .pid i) (levels - v .level s) (v .level s)
 pids-shape v v′ Q w s i q =

@@ -7,15 +7,17 @@ use mathlib.Core.Path.{_≡_, refl, sym, _∙_, ap, subst, subst₂}
 use borrow.Author.Tests.{eqb-false, ne-eqb}
 use lib.Dec.{eqb}
 use lib.Seq.{getD-set-same, getD-set-other}
+use Rattle.table.proofs.Keeps.BirthKeeps.{birth-view}
 use Rattle.table.proofs.Keeps.Changed.{process-count, namespace-count}
 use Rattle.table.proofs.Keeps.Changes.{namespace-sane}
+use Rattle.table.proofs.Keeps.Premises.{free-slot-is}
+use Rattle.table.proofs.Laws.Cases.{isnt-so}
 use Rattle.table.proofs.Laws.Facts.{Facts, facts, Sane, sane}
 use Rattle.table.proofs.Laws.Quant.{isnt, or-right, or-false-left, or-false-right}
 use Rattle.table.proofs.Laws.Slots.{seen-taken, slot-lt, own-taken, up-taken, alive-taken, children-of, below-trans}
 use Rattle.table.proofs.Sameness.Anchor.{up-below}
 use Rattle.table.proofs.Sameness.BirthPids.{Cradles}
 use Rattle.table.proofs.Sameness.BirthSame.{birth-same}
-use Rattle.table.proofs.Sameness.BirthTable.{grown, lights, the-child}
 use Rattle.table.proofs.Sameness.Calls.{shown, both-refuse, both-change, owns-twins, own-lives}
 use Rattle.table.proofs.Sameness.CloneSame.{no-room-left, no-room-right, one-up}
 use Rattle.table.proofs.Sameness.ExitSame.{runs-living}
@@ -24,10 +26,11 @@ use Rattle.table.proofs.Sameness.Inside.{Kept, Ready, MadeSame, stands-
 use Rattle.table.proofs.Sameness.Light.{Placed, put-light}
 use Rattle.table.proofs.Sameness.NextPid.{next-twins}
 use Rattle.table.proofs.Sameness.Remain.{Remain, Lit, same-remain, standing, pid-in-remain, name-remain, seen-remain, pid-remain}
+use Rattle.table.proofs.Sameness.Same.{Same}
 use Rattle.table.proofs.Sameness.SetChildrenSame.{everyone, name-no-slot, same-set-children, remain-set-children, alive-kept}
 use Rattle.table.proofs.Sameness.Twins.{Pair, Twin, Twins, twin-rows, twins-level, owns}
 use Rattle.table.specs.Answers.{answers, granted}
-use Rattle.table.specs.Births.{birth, newborn}
+use Rattle.table.specs.Births.{birth}
 use Rattle.table.specs.Calls.{born, clone-new, new-namespace, own-level, set-children, unshare}
 use Rattle.table.specs.Limits.{deepest, namespace-slots, no-slot, process-slots}
 use Rattle.table.specs.Pids.{free-namespace-slot, free-slot}
@@ -235,22 +238,20 @@ module _ (t u : Table) (s r c d : ℕ) (w : Ready t u s r c d) (ot : own-level (
       (subst (λ n. So (below (view (new-namespace z e)) (free-namespace-slot (view z)) n)) (ap (λ q. q .parent .0) (the-namespace z f e room)) (up-below (view (new-namespace z e)) g (free-namespace-slot (view z)) _ (ap (λ q. q .level) (the-namespace z f e room)))) h
 
   cloned-kept : (free-slot (view t) ≡ process-slots → ⊥) → (free-slot (view u) ≡ process-slots → ⊥) → SoundTable (birth tn c (free-namespace-slot (view t))) → SoundTable (birth un d (free-namespace-slot (view u))) → Kept t u s r (born t c (birth tn c (free-namespace-slot (view t)))) (born u d (birth un d (free-namespace-slot (view u))))
-  unfolding newborn namespace-taken
+  unfolding namespace-taken
   cloned-kept pt pu h g =
-      let qt : (free-slot (view tn) ≡ process-slots → ⊥) = λ e. pt (sym (same-free t c) ∙ e) in
-      let qu : (free-slot (view un) ≡ process-slots → ⊥) = λ e. pu (sym (same-free u d) ∙ e) in
-      let a = grown tn gt c (free-namespace-slot (view t)) (x-taken t ft c rt) qt in
-      let b = grown un gu d (free-namespace-slot (view u)) (x-taken u fu d ru) qu in
-      let x = the-child tn gt c (free-namespace-slot (view t)) (x-taken t ft c rt) qt in
-      let y = the-child un gu d (free-namespace-slot (view u)) (x-taken u fu d ru) qu in
+      let (lt, et) = free-slot-is (view tn) (λ e. pt (sym (same-free t c) ∙ e)) in
+      let (lu, eu) = free-slot-is (view un) (λ e. pu (sym (same-free u d) ∙ e)) in
+      let ev = birth-view tn (gt .shape-of) (gt .facts) c (free-namespace-slot (view t)) (x-taken t ft c rt) lt in
+      let ew = birth-view un (gu .shape-of) (gu .facts) d (free-namespace-slot (view u)) (x-taken u fu d ru) lu in
       inr (
         ap Number (next-twins (view t) (view u) s r (w .pair) _ _ (owns-twins t u s r c d w)),
         stands-same t u (birth tn c (free-namespace-slot (view t))) (birth un d (free-namespace-slot (view u))) s r h g
-            (ap (λ (l : ℕ → ℕ). eqb s 0 or not (eqb (l s) 0)) (a .levels-same) ∙ stands-here t ft c rt s (w .pair .alive-v))
-            (ap (λ (l : ℕ → ℕ). eqb r 0 or not (eqb (l r) 0)) (b .levels-same) ∙ stands-here u fu d ru r (w .pair .alive-u))
-            (birth-same (view tn) (view un) (view (birth tn c (free-namespace-slot (view t)))) (view (birth un d (free-namespace-slot (view u)))) s r new-pair c d (free-namespace-slot (view t)) (free-namespace-slot (view u)) (free-slot (view tn)) (free-slot (view un)) (new-twin c d (w .twin)) new-cradles (x-taken t ft c rt) (x-taken u fu d ru) (fresh-below t ft c rt (gt .facts) s (new-owns .below-v)) (fresh-below u fu d ru (gu .facts) r (new-owns .below-u)) a b (lights tn gt c (free-namespace-slot (view t)) (x-taken t ft c rt) qt) (lights un gu d (free-namespace-slot (view u)) (x-taken u fu d ru) qu)
-            (ap (λ p. p .state) x ∙ sym (ap (λ p. p .state) y), ap (λ p. p .handled) x ∙ sym (ap (λ p. p .handled) y), ap (λ p. p .pending) x ∙ sym (ap (λ p. p .pending) y), ap (λ p. p .unshared) x ∙ sym (ap (λ p. p .unshared) y))
-            (λ i j m z. not-held t ft c rt i (still-there t c i (seen-taken (view tn) (gt .facts) s i (m .seen-v))) ∙ sym (not-held u fu d ru j (still-there u d j (seen-taken (view un) (gu .facts) r j (m .seen-u)))))),
+            (ap (λ (x : View). eqb s 0 or not (eqb (x .level s) 0)) ev ∙ stands-here t ft c rt s (w .pair .alive-v))
+            (ap (λ (x : View). eqb r 0 or not (eqb (x .level r) 0)) ew ∙ stands-here u fu d ru r (w .pair .alive-u))
+            (subst₂ (λ (a b : View). Same a b s r) (sym ev) (sym ew)
+            (birth-same (view tn) (view un) s r new-pair c d (free-namespace-slot (view t)) (free-namespace-slot (view u)) (free-slot (view tn)) (free-slot (view un)) (new-twin c d (w .twin)) new-cradles (x-taken t ft c rt) (x-taken u fu d ru) (fresh-below t ft c rt (gt .facts) s (new-owns .below-v)) (fresh-below u fu d ru (gu .facts) r (new-owns .below-u)) (isnt-so et) (isnt-so eu) lt lu
+            (λ i j m z. not-held t ft c rt i (still-there t c i (seen-taken (view tn) (gt .facts) s i (m .seen-v))) ∙ sym (not-held u fu d ru j (still-there u d j (seen-taken (view un) (gu .facts) r j (m .seen-u))))))),
       )
 
 -- ---- the two calls

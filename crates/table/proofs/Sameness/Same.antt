@@ -9,9 +9,9 @@ use Rattle.table.proofs.Laws.Facts.{Facts}
 use Rattle.table.proofs.Laws.Lists.{In, in-map, map-in, in-ascending, ascending-in, ascending-sorted, Sorted, map-sorted, sorted-unique}
 use Rattle.table.proofs.Laws.Slots.{slot-lt, seen-taken, pid-unique, level-deepest}
 use Rattle.table.specs.Limits.{levels, process-slots}
-use Rattle.table.specs.Read.{View, all-seen, namespace-taken, pid-seen, seen}
-use Rattle.table.specs.Sheet.{Row, row, sheet}
-use Rattle.table.specs.Tests.{values}
+use Rattle.table.specs.Read.{View, all-seen, namespace-taken, pid-seen, seen, pid-in, is-init}
+use Rattle.table.specs.Sheet.{Row, row, sheet, name}
+use Rattle.table.specs.Tests.{values, if_then_else_, if_then_else_}
 
 pub record Same (v u : View) (s r : ℕ) : Type 0 where
   pub levels : v .level s ≡ u .level r
@@ -81,3 +81,9 @@ sheets-of-same v u s r h g hs hr w =
       level = w .levels i;
       rows = sorted-unique key (map (row v s) (all-seen v s)) (map (row u r) (all-seen u r)) (rows-sorted v s h hs) (rows-sorted u r g hr) (rows-in v u s r g (w .there)) (rows-in u v r s h (λ j k. let (i, m, q) = w .back j k in (i, m, sym q))) i;
     }
+
+-- a row by its parts
+pub row-by : (v u : View) (s r i j : ℕ) → values (v .pid i) (levels - v .level s) (v .level s) ≡ values (u .pid j) (levels - u .level r) (u .level r) → v .state i ≡ u .state j → v .handled i ≡ u .handled j → v .pending i ≡ u .pending j → v .unshared i ≡ u .unshared j → pid-in v s (v .parent i) ≡ pid-in u r (u .parent j) → name v s (v .own i) ≡ name u r (u .own j) → name v s (v .children i) ≡ name u r (u .children j) → (if is-init v i then v .last (v .own i) else 0) ≡ (if is-init u j then u .last (u .own j) else 0) → row v s i ≡ row u r j
+unfolding row
+row-by v u s r i j a b c d e f g h z =
+    λ k. record { pids = a k; state = b k; handled = c k; pending = d k; unshared = e k; parent = f k; own = g k; children = h k; last = z k }
