@@ -9,8 +9,7 @@ pub mod Readers
 pub mod Calls
 pub mod Outside
 pub mod Remain
-pub mod FreedSame
-pub mod SetChildrenSame
+pub mod Freeing
 pub mod Setns
 pub mod Targets
 pub mod DeliverSame
@@ -23,14 +22,12 @@ pub mod EndSame
 pub mod NextPid
 pub mod ReapSame
 pub mod WaitSame
-pub mod FreedRow
 pub mod ExitSame
 pub mod BirthPids
 pub mod Born
 pub mod BirthSame
 pub mod CloneSame
 pub mod NewNamespaceSame
-pub mod Leaves
 pub mod Still
 pub mod WaitLeaves
 pub mod BirthLeaves

@@ -223,6 +223,17 @@ module _ (t : Table) (c : ℕ) (h : SoundTable t) (r : So (runs (view t) c)) whe
       let (x, y, k) = sets t (sane t h) c lives in
       signalled c lives (v .handled c) (without-signal (v .pending c) (lowest-signal (process t c .pending))) (poll-ok _ _ _ k) x (omega (arith, without-signal-le (v .pending c) (lowest-signal (process t c .pending)), y)))
 
+-- the tables of setns and unshare before namespaces are freed
+pub setns-sane : (t : Table) → SoundTable t → (c i : ℕ) (mark : Bool) → Lives (view t) c → Seen (view t) (view t .own c) i → Sane (put t c (with-children (process t c) (view t .own i) mark))
+setns-sane t h c i mark l s =
+    let m = facts t h .members i (seen-taken (view t) (view t .own c) i s) in
+    set-children-sane t (sane t h) c (view t .own i) mark l (m .0 .0) (seen-below (view t) (view t .own c) i s) (λ u. absurd (m .1 u))
+
+pub unshare-sane : (t : Table) (h : SoundTable t) (c : ℕ) (r : So (runs (view t) c)) → (own-level (view t) c ≡ deepest → ⊥) → (free-namespace-slot (view t) ≡ namespace-slots → ⊥) → Sane (put (new-namespace t c) c (with-children (process (new-namespace t c) c) (free-namespace-slot (view t)) true))
+unshare-sane t h c r deep room =
+    let q = K.ready-next t c h r deep room in
+    set-children-sane (new-namespace t c) (namespace-sane t (sane t h) c (lives t c h r) deep room) c (free-namespace-slot (view t)) true (q .lives) (q .namespace) (q .below) (λ u. (q .up-own u, q .alone))
+
 -- a call by a running caller leaves a sound table sound
 pub make-sound : (t : Table) (c : ℕ) (call : Call) → SoundTable t → So (runs (view t) c) → SoundTable (make t c call .table)
 make-sound t c call h r = made-sound t _ h (call-made t c h r call)

@@ -4,7 +4,7 @@ use native.Mathlib.Decide.{ℕ-discrete}
 use native.Mathlib.Omega.{arith}
 use mathlib.Core.Bool.{Bool, true, false, So, false≢true}
 use mathlib.Core.Path.{_≡_, refl, sym, _∙_, ap, subst}
-use borrow.Author.Tests.{ne-eqb}
+use borrow.Author.Tests.{ne-eqb, eq-eqb}
 use Rattle.table.proofs.Laws.Facts.{Facts}
 use Rattle.table.proofs.Laws.Slots.{namespace-lt, root-only, up-taken, up-level, below-trans, below-parent, below-same, below-level, up-by-below}
 use Rattle.table.proofs.Laws.Tree.{below-refl}
@@ -118,3 +118,7 @@ module _ (v : View) (f : Facts v) where
 
   pub name-anchor : (s n : ℕ) → So (namespace-taken v n) → unborn v n ≡ false → name-pid (name v s n) ≡ pid-in v s (init v (anchor v n))
   name-anchor s n h k = ap name-pid (name-taken s n h) ∙ by-pid s n (v .life n) refl k
+
+pub name-no-slot : (v : View) (s n : ℕ) → n ≡ no-slot → name v s n ≡ no-name
+unfolding name
+name-no-slot v s n e = rw (eq-eqb n no-slot e)

@@ -19,13 +19,11 @@ use Rattle.table.proofs.Laws.Slots.{seen-taken, seen-below, children-of
 use Rattle.table.proofs.Laws.Tree.{below-refl}
 use Rattle.table.proofs.Sameness.Born.{below-grown, seen-grown, life-born, life-other, bottom, old}
 use Rattle.table.proofs.Sameness.ExitSame.{runs-living}
-use Rattle.table.proofs.Sameness.Leaves.{stands-leaves}
 use Rattle.table.proofs.Sameness.Namespaces.{children-taken}
 use Rattle.table.proofs.Sameness.NewNamespaceSame.{namespace-remain, the-namespace, taken-other, x-taken, K}
-use Rattle.table.proofs.Sameness.Outside.{MadeLeaves, as-it-was, outsider}
-use Rattle.table.proofs.Sameness.Remain.{Remain, seen-remain, below-remain}
-use Rattle.table.proofs.Sameness.Same.{Same}
-use Rattle.table.proofs.Sameness.SetChildrenSame.{everyone}
+use Rattle.table.proofs.Sameness.Outside.{MadeLeaves, as-it-was, outsider, stands-leaves}
+use Rattle.table.proofs.Sameness.Remain.{Remain, seen-remain, below-remain, everyone}
+use Rattle.table.proofs.Sameness.Same.{Same, same-trans}
 use Rattle.table.proofs.Sameness.Still.{Still, same-still, stands-still, near, near-here, near-up, near-own, near-children}
 use Rattle.table.proofs.Sameness.Twins.{bool-ext}
 use Rattle.table.proofs.Sameness.WaitLeaves.{untouched-made}
@@ -43,14 +41,6 @@ use Rattle.table.specs.Tests.{_or_, if_then_else_}
 use Rattle.table.specs.Touches.{touched, clones-into}
 use Rattle.table.specs.declared.Call.the-variants.{Clone, CloneNew}
 use Rattle.table.specs.declared.Table.{Table}
-
-pub same-trans : (v u x : View) (s r q : ℕ) → Same v u s r → Same u x r q → Same v x s q
-same-trans v u x s r q a b =
-    record {
-      levels = a .levels ∙ b .levels;
-      there = λ i k. let (j, m, e) = a .there i k in let (l, n, g) = b .there j m in (l, n, e ∙ g);
-      back = λ l n. let (j, m, g) = b .back l n in let (i, k, e) = a .back j m in (i, k, e ∙ g);
-    }
 
 -- a birth in a namespace that is not of S
 module _ (v : View) (f : Facts v) (c n k : ℕ) (new : taken v k ≡ false) (tn : So (namespace-taken v n)) (s : ℕ) (o : below v n s ≡ false) where

@@ -13,7 +13,7 @@ use Rattle.table.proofs.Laws.Cases.{zero-or, no-so}
 use Rattle.table.proofs.Laws.Facts.{Facts}
 use Rattle.table.proofs.Laws.Slots.{slot-lt, seen-taken, own-taken, own-not-unborn, alive-taken, alive-not-unborn, init-taken, children-of, below-trans, init-seen, living-taken, parent-living, below-parent, below-level, below-same}
 use Rattle.table.proofs.Laws.Tree.{below-refl}
-use Rattle.table.proofs.Sameness.Anchor.{is-unborn-name, name-taken, up-below}
+use Rattle.table.proofs.Sameness.Anchor.{is-unborn-name, name-taken, up-below, name-no-slot}
 use Rattle.table.proofs.Sameness.BirthPids.{Cradles, cradle-next, next-unborn}
 use Rattle.table.proofs.Sameness.Born.{seen-grown, pid-in-grown, life-born, life-new, name-born, name-other, name-new, old, child-seen}
 use Rattle.table.proofs.Sameness.ExitSame
@@ -21,7 +21,6 @@ use Rattle.table.proofs.Sameness.Namespaces.{name-unborn}
 use Rattle.table.proofs.Sameness.NextPid.{next-twins, last-twins}
 use Rattle.table.proofs.Sameness.Readers.{is-init-twins}
 use Rattle.table.proofs.Sameness.Same.{Same, row-by}
-use Rattle.table.proofs.Sameness.SetChildrenSame.{name-no-slot}
 use Rattle.table.proofs.Sameness.Twins.{Pair, Twin, Twins, bool-ext, flip-pair, flip-twin, pid-in-seen, twin-rows, twin-there, twins-level, owns, own-alive, below-twins}
 use Rattle.table.specs.Limits.{levels, no-slot, process-slots}
 use Rattle.table.specs.Pids.{next-pid}

@@ -8,10 +8,9 @@ use Rattle.table.proofs.Sameness.Glue.{sameness}
 use Rattle.table.proofs.Sameness.Inside.{MadeSame, inside-same}
 use Rattle.table.proofs.Sameness.Kill.{kill-same}
 use Rattle.table.proofs.Sameness.KillLeaves.{kill-leaves}
-use Rattle.table.proofs.Sameness.Leaves.{setns-leaves}
 use Rattle.table.proofs.Sameness.NewNamespaceSame.{clone-new-same, unshare-same}
 use Rattle.table.proofs.Sameness.Outside.{MadeLeaves, outside-leaves, getpid-leaves, getppid-leaves, handle-leaves, poll-leaves}
-use Rattle.table.proofs.Sameness.Setns.{setns-same}
+use Rattle.table.proofs.Sameness.Setns.{setns-same, setns-leaves}
 use Rattle.table.proofs.Sameness.UnshareLeaves.{unshare-leaves}
 use Rattle.table.proofs.Sameness.WaitLeaves.{wait-leaves}
 use Rattle.table.proofs.Sameness.WaitSame.{wait-same}

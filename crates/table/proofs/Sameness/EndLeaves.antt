@@ -18,12 +18,13 @@ use Rattle.table.proofs.Laws.Slots.{namespace-lt, seen-below, own-taken
 use Rattle.table.proofs.Laws.Steps.{remainder}
 use Rattle.table.proofs.Laws.Tree.{below-refl}
 use Rattle.table.proofs.Sameness.ExitSame.{runs-living}
+use Rattle.table.proofs.Sameness.Freeing.{freed-leaves}
 use Rattle.table.proofs.Sameness.InitEnd.{stays, not-seen-stays, fallen-shape}
 use Rattle.table.proofs.Sameness.MemberEnd.{member-of}
 use Rattle.table.proofs.Sameness.Outside.{MadeLeaves, as-it-was, outsider}
 use Rattle.table.proofs.Sameness.Readers.{pid-in-unseen}
 use Rattle.table.proofs.Sameness.Shape.{seen-shape, seen-gone}
-use Rattle.table.proofs.Sameness.Still.{Still, same-still, stands-still, near, near-here, near-up, near-own, near-children, freed-after}
+use Rattle.table.proofs.Sameness.Still.{Still, same-still, stands-still, near, near-here, near-up, near-own, near-children}
 use Rattle.table.proofs.Sameness.WaitLeaves.{untouched-made}
 use Rattle.table.specs.Answers.{answers, granted, is-refused, refused}
 use Rattle.table.specs.Calls.{exit, status}
@@ -183,7 +184,7 @@ exit-leaves z t s i h hs k a g = go (eqb i 0) refl g
     go true q g = rw (q, exit) (as-it-was t s hs)
     go false q g =
         rw (q, exit)
-        (freed-after t t₁ s h (end-sane t (sane t h) i e li (eqb-false _ _ q) (remainder z)) (rw (q, exit) at g) hs (stands-still (view t) (view t₁) s (near (view t) s) (facts t h) still hs) (same-still (view t) (view t₁) s (near (view t) s) (facts t h) still))
+        (freed-leaves t t₁ s h (end-sane t (sane t h) i e li (eqb-false _ _ q) (remainder z)) hs (stands-still (view t) (view t₁) s (near (view t) s) (facts t h) still hs) (same-still (view t) (view t₁) s (near (view t) s) (facts t h) still))
       where
         e : End
         e = Exited (status z)

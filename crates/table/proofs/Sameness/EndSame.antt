@@ -16,9 +16,8 @@ use Rattle.table.proofs.Sameness.InitEnd.{fallen-shape, both-stay, init
 use Rattle.table.proofs.Sameness.MemberEnd.{member-remain, member-same, member-of}
 use Rattle.table.proofs.Sameness.Namespaces.{above-pid}
 use Rattle.table.proofs.Sameness.Readers.{living-twins, is-init-twins}
-use Rattle.table.proofs.Sameness.Remain.{Remain}
+use Rattle.table.proofs.Sameness.Remain.{Remain, everyone}
 use Rattle.table.proofs.Sameness.Same.{Same}
-use Rattle.table.proofs.Sameness.SetChildrenSame.{everyone}
 use Rattle.table.proofs.Sameness.Shape.{Shape, below-shape, pid-shape, twin-shape, seen-shape}
 use Rattle.table.proofs.Sameness.Twins.{Pair, Twins, Twin, owns, twins-level}
 use Rattle.table.specs.Ends.{end}

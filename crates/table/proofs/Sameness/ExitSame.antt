@@ -8,24 +8,22 @@ use mathlib.Core.Path.{_≡_, refl, sym, _∙_, ap, ap₂, subst, subst₂}
 use borrow.Author.Tests.{eqb-true, eqb-false, eq-eqb}
 use lib.Dec.{eqb}
 use lib.IntN.{ℤ}
-use Rattle.table.proofs.Keeps.Changed.{namespace-count}
 use Rattle.table.proofs.Keeps.End.{end-sane, end-tree, end-view}
 use Rattle.table.proofs.Keeps.InitEnds.{subtree-gone}
-use Rattle.table.proofs.Laws.Facts.{Facts, facts, Sane, sane}
+use Rattle.table.proofs.Laws.Facts.{Facts, Sane, sane}
 use Rattle.table.proofs.Laws.Quant.{left, right, both}
 use Rattle.table.proofs.Laws.Slots.{seen-below, alive-taken, init-pid, init-own, root-own, root-only, level-of-root, below-level, pid-unique, up-level, alive-up, init-seen, seen-taken}
 use Rattle.table.proofs.Laws.Steps.{remainder}
 use Rattle.table.proofs.Laws.Tree.{below-refl}
-use Rattle.table.proofs.Sameness.Calls.{both-refuse, both-change, owns-twins, own-lives, taken-s, taken-r}
+use Rattle.table.proofs.Sameness.Calls.{both-refuse, owns-twins, own-lives, taken-s, taken-r}
 use Rattle.table.proofs.Sameness.DeliverSame.{Held, pair-of, EndSame}
 use Rattle.table.proofs.Sameness.EndSame.{end-same}
-use Rattle.table.proofs.Sameness.FreedRow.{freed-places}
+use Rattle.table.proofs.Sameness.Freeing.{freed-alike, freed-sheets}
 use Rattle.table.proofs.Sameness.InitEnd.{init-same}
 use Rattle.table.proofs.Sameness.Inside.{Kept, Ready, MadeSame}
 use Rattle.table.proofs.Sameness.MemberEnd.{member-of}
 use Rattle.table.proofs.Sameness.Readers.{is-init-twins, pid-in-unseen}
 use Rattle.table.proofs.Sameness.Same.{Same}
-use Rattle.table.proofs.Sameness.SetChildrenSame.{same-freed-only, stands-freed}
 use Rattle.table.proofs.Sameness.Twins.{Pair, Twin, Twins, flip-pair, flip-twin, bool-ext, twins-unique}
 use Rattle.table.specs.Answers.{answers, granted}
 use Rattle.table.specs.Calls.{exit, status}
@@ -122,15 +120,15 @@ module _ (t u : Table) (s r c d : ℕ) (w : Ready t u s r c d) (e : End) (ok : S
 
   -- S lives on
   lives-on : (So (is-init (view t) c) → view t .own c ≡ s → ⊥) → SoundTable (freed (end t c e)) → SoundTable (freed (end u d e)) → Kept t u s r (answers (freed (end t c e)) 0) (answers (freed (end u d e)) 0)
-  unfolding EndSame
+  unfolding EndSame answers granted
   lives-on other h g =
       let (x, move) = end-same t u s r s r c d e held (w .twin) (w .twin .seen-v) (runs-living t c (w .runs-t)) ok other in
-      both-change t u s r c d w _ _ 0 0 refl h g (stands-freed (end t c e) (x .fits-t .facts) s (x .alive-s)) (stands-freed (end u d e) (x .fits-u .facts) r (x .alive-r)) (same-freed-only (end t c e) (end u d e) s r (pair-of (end t c e) (end u d e) s r s r x))
+      inr (refl, freed-alike t u _ _ (x .fits-t) (x .fits-u) s r (pair-of (end t c e) (end u d e) s r s r x))
 
   -- S's init ends
   dies : So (is-init (view t) c) → view t .own c ≡ s → (c ≡ 0 → ⊥) → (d ≡ 0 → ⊥) → SoundTable (freed (end t c e)) → SoundTable (freed (end u d e)) → Kept t u s r (answers (freed (end t c e)) 0) (answers (freed (end u d e)) 0)
   unfolding answers granted
-  dies ic oc nc nd h g = inr (refl, freed-places t u (end t c e) (end u d e) (ft .facts) (fu .facts) s r (namespace-count _ (ft .shape-of)) (namespace-count _ (fu .shape-of)) h g (stands t (held .fits-t) c s tc (taken-s t u s r c d w)) (stands u (held .fits-u) d r td (taken-r t u s r c d w)) (ap (λ (l : ℕ → ℕ). l s) (end-tree t (held .fits-t) c e tc .1)) (ap (λ (l : ℕ → ℕ). l r) (end-tree u (held .fits-u) d e td .1)) same)
+  dies ic oc nc nd h g = inr (refl, freed-sheets t u (end t c e) (end u d e) ft fu s r (stands t (held .fits-t) c s tc (taken-s t u s r c d w)) (stands u (held .fits-u) d r td (taken-r t u s r c d w)) (λ k. ap (λ (l : ℕ → ℕ). l s) (end-tree t (held .fits-t) c e tc .1)) (λ k. ap (λ (l : ℕ → ℕ). l r) (end-tree u (held .fits-u) d e td .1)) same)
     where
       p : Pair (view t) (view u) s r
       p = w .pair

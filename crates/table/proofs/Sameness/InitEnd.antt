@@ -10,11 +10,10 @@ use Rattle.table.proofs.Laws.Cases.{isnt-so, no-so, false-and}
 use Rattle.table.proofs.Laws.Facts.{Facts}
 use Rattle.table.proofs.Laws.Quant.{right, both, isnt, isnt-not}
 use Rattle.table.proofs.Laws.Slots.{seen-taken, seen-below, own-taken, below-trans, init-own, child-seen}
-use Rattle.table.proofs.Sameness.Anchor.{anchor, is-unborn-name}
+use Rattle.table.proofs.Sameness.Anchor.{anchor, is-unborn-name, name-no-slot}
 use Rattle.table.proofs.Sameness.Namespaces.{children-taken, children-below, name-unborn, unborn-outside, anchors-of, below-named, level-named, parent-in-twins}
 use Rattle.table.proofs.Sameness.Readers.{twin-eqb, ended-twins}
 use Rattle.table.proofs.Sameness.Same.{Same, row-by}
-use Rattle.table.proofs.Sameness.SetChildrenSame.{name-no-slot}
 use Rattle.table.proofs.Sameness.Shape.{Shape, same-shape, pid-in-shape, name-in, name-out}
 use Rattle.table.proofs.Sameness.Twins.{Pair, Twin, Twins, bool-ext, twin-rows, seen-twins, own-levels, owns, twins-level}
 use Rattle.table.specs.Limits.{levels, no-slot, sigkill}

@@ -1,18 +1,18 @@
 -- kill, by twin callers, from what an end does.
 use Prim.Native.Nat.{ℕ, _<_}
 use mathlib.Core.Bool.{Bool, true, false}
-use mathlib.Core.Logic.{inl}
+use mathlib.Core.Logic.{inl, inr}
 use mathlib.Core.Path.{_≡_, refl, sym, _∙_, ap}
 use lib.Dec.{eqb}
 use lib.IntN.{ℤ}
 use lib.ListN.{length}
 use Rattle.table.proofs.Keeps.Premises.{natural-low}
-use Rattle.table.proofs.Laws.Facts.{facts, sane}
-use Rattle.table.proofs.Sameness.Calls.{both-refuse, both-change, owns-twins}
+use Rattle.table.proofs.Laws.Facts.{sane}
+use Rattle.table.proofs.Sameness.Calls.{both-refuse, owns-twins}
 use Rattle.table.proofs.Sameness.DeliverSame.{Held, pair-of, Target, deliver-all-held}
 use Rattle.table.proofs.Sameness.EndSame.{end-same}
+use Rattle.table.proofs.Sameness.Freeing.{freed-alike}
 use Rattle.table.proofs.Sameness.Inside.{Kept, Ready, MadeSame}
-use Rattle.table.proofs.Sameness.SetChildrenSame.{same-freed-only, stands-freed}
 use Rattle.table.proofs.Sameness.Targets.{along-length, along-with, targets-twins, targets-seen}
 use Rattle.table.proofs.Sameness.Twins.{Twin}
 use Rattle.table.specs.Answers.{answers, granted}
@@ -55,4 +55,4 @@ kill-same z n t u s r i j w h g = go (within 0 signals n) refl (names-group z) r
     go true ea false eb false ec =
         let d = kill-after t u s r i j w z (natural n) (natural-low n ea) in
         rw (ea, eb, ec, sym (ap (λ x. eqb x 0) lengths) ∙ ec, kill)
-        (both-change t u s r i j w _ _ 0 0 refl (rw (ea, eb, ec, kill) at h) (rw (ea, eb, sym (ap (λ x. eqb x 0) lengths) ∙ ec, kill) at g) (stands-freed _ (d .fits-t .facts) s (d .alive-s)) (stands-freed _ (d .fits-u .facts) r (d .alive-r)) (same-freed-only _ _ s r (pair-of _ _ s r _ _ d)))
+        (inr (refl, freed-alike t u _ _ (d .fits-t) (d .fits-u) s r (pair-of _ _ s r _ _ d)))

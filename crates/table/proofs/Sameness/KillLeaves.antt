@@ -14,16 +14,14 @@ use Rattle.table.proofs.Laws.Facts.{Facts, facts, Sane, sane}
 use Rattle.table.proofs.Laws.Lists.{some-of-false}
 use Rattle.table.proofs.Laws.Quant.{both, or-false-left, or-false-right}
 use Rattle.table.proofs.Laws.Slots.{namespace-lt, own-taken, living-own-alive, living-taken}
-use Rattle.table.proofs.Sameness.BirthLeaves.{same-trans}
 use Rattle.table.proofs.Sameness.DeliverSame.{not-living-put, resumed-placed, action-none}
 use Rattle.table.proofs.Sameness.EndLeaves.{end-still, end-dies, end-back, freed-back, lives-on, not-own}
 use Rattle.table.proofs.Sameness.EndSame.{ended-end}
-use Rattle.table.proofs.Sameness.Light.{Placed, put-light, put-other}
+use Rattle.table.proofs.Sameness.Freeing.{freed-leaves}
+use Rattle.table.proofs.Sameness.Light.{Placed}
 use Rattle.table.proofs.Sameness.Outside.{MadeLeaves, as-it-was}
-use Rattle.table.proofs.Sameness.Remain.{seen-remain}
-use Rattle.table.proofs.Sameness.Same.{Same}
-use Rattle.table.proofs.Sameness.SetChildrenSame.{everyone, light-remain}
-use Rattle.table.proofs.Sameness.Still.{Still, same-still, stands-still, below-still, near, near-here, near-up, near-own, near-children, freed-after}
+use Rattle.table.proofs.Sameness.Same.{Same, same-trans}
+use Rattle.table.proofs.Sameness.Still.{Still, same-still, stands-still, below-still, near, near-here, put-still}
 use Rattle.table.proofs.Sameness.WaitLeaves.{untouched-made}
 use Rattle.table.specs.Answers.{answers, granted, is-refused, refused}
 use Rattle.table.specs.Calls.{kill, names-group, natural, targets, within}
@@ -32,7 +30,7 @@ use Rattle.table.specs.Ends.{end}
 use Rattle.table.specs.Events.{at, follow, is-inside, sheet-of}
 use Rattle.table.specs.Freeing.{freed}
 use Rattle.table.specs.Limits.{namespace-slots, signals}
-use Rattle.table.specs.Read.{View, alive, below, is-init, living, namespace-taken, pid-at, pid-in, process, seen, taken, view}
+use Rattle.table.specs.Read.{View, alive, below, is-init, living, namespace-taken, process, seen, taken, view}
 use Rattle.table.specs.Records.{put, with-state}
 use Rattle.table.specs.Sheet.{sheet}
 use Rattle.table.specs.Sound.{SoundTable}
@@ -80,32 +78,6 @@ onward t₀ t t′ s g w d b z =
       backs = λ n k. g .backs n (b n k);
       ended = λ i k. z i (g .ended i k);
     }
-
--- one outside S changed in its lights
-put-still : (t : Table) (f : Facts (view t)) (c : ℕ) (p : Process) → Placed p (process t c) → (s : ℕ) → seen (view t) s c ≡ false → Still (view t) (view (put t c p)) s (near (view t) s)
-put-still t f c p k s o =
-    record {
-      here = near-here (view t) f s;
-      up-kept = near-up (view t) f s;
-      own-kept = near-own (view t) f s;
-      children-kept = near-children (view t) f s;
-      ups = λ n h. refl;
-      levels = λ n h. refl;
-      lives = λ n h. refl;
-      seens = λ i. seen-remain (view t) (view (put t c p)) everyone everyone f (light-remain (view t) (view (put t c p)) (put-light t c p k)) s i refl;
-      owns = λ i h. ap (λ q. q .own .0) (same i h);
-      pids = λ i l h. ap (λ q. pid-at q l) (same i h);
-      states = λ i h. ap (λ q. q .state) (same i h);
-      handleds = λ i h. ap (λ q. q .handled) (same i h);
-      pendings = λ i h. ap (λ q. q .pending) (same i h);
-      marks = λ i h. ap (λ q. q .unshared) (same i h);
-      childrens = λ i h. ap (λ q. q .children .0) (same i h);
-      parents = λ i h. ap (λ q. pid-in (view t) s (q .parent .0)) (same i h);
-      lasts = λ i h. refl;
-    }
-  where
-    same : (i : ℕ) → So (seen (view t) s i) → process (put t c p) i ≡ process t i
-    same i h = put-other t c p k i (λ e. false≢true (sym o ∙ ap (seen (view t) s) (sym e) ∙ h))
 
 -- a delivery to one that does not live does nothing
 deliver-nothing : (t : Table) (f x n : ℕ) → living (view t) x ≡ false → deliver t f x n ≡ t
@@ -213,9 +185,9 @@ kill-leaves z n t s i h hs k a g = go (within 0 signals n) refl (names-group z) 
     done low o g true e =
         let q = all-zero xs t (view t .own i) (natural n) e in
         let w = start t s (sane t h) hs in
-        subst (λ y. sheet-of (freed y) (follow t (freed y) (at s)) ≡ sheet (view t) s) (sym q) (freed-after t t s h (sane t h) (subst (λ y. SoundTable (freed y)) q g) hs hs (w .same))
+        subst (λ y. sheet-of (freed y) (follow t (freed y) (at s)) ≡ sheet (view t) s) (sym q) (freed-leaves t t s h (sane t h) hs hs (w .same))
     done low o g false e =
-        freed-after t t₁ s h (w .fits) g hs (w .stands) (w .same)
+        freed-leaves t t₁ s h (w .fits) hs (w .stands) (w .same)
       where
         w : Going t t₁ s
         w =

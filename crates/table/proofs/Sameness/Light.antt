@@ -9,6 +9,7 @@ use lib.ListN.{getD, length}
 use lib.Seq.{getD-set-same, getD-set-other}
 use Rattle.table.proofs.Laws.Frame.{read-set}
 use Rattle.table.proofs.Laws.Lists.{In}
+use Rattle.table.proofs.Sameness.Remain.{Remain, everyone}
 use Rattle.table.proofs.Sameness.Same.{Same, listed-seen}
 use Rattle.table.proofs.Sameness.Twins.{Pair, Twin, twin-rows, twin-there, flip-pair, flip-twin}
 use Rattle.table.specs.Limits.{levels, no-slot}
@@ -158,3 +159,17 @@ put-outside t s c p k o =
     sheet-light (view t) (view (put t c p)) s (put-light t c p k)
     (λ i m. let e = put-other t c p k i (λ q. false≢true (sym o ∙ ap (seen (view t) s) (sym q) ∙ listed-seen (view t) s i m)) in
     row-light (view t) (view (put t c p)) s i (put-light t c p k) (ap (λ q. q .state) e) (ap (λ q. q .handled) e) (ap (λ q. q .pending) e) (ap (λ q. q .unshared) e) (ap (λ q. q .children .0) e))
+
+pub light-remain : (v v′ : View) → v′ ≡ relight v v′ → Remain v v′ everyone everyone
+light-remain v v′ p =
+    record {
+      owns = λ i q. ap (λ (y : View). y .own i) p;
+      pids = λ i l q. ap (λ (y : View). y .pid i l) p;
+      gone = λ i q. absurd (false≢true (sym q));
+      ups = λ n h. ap (λ (y : View). y .up n) p;
+      levels = λ n h. ap (λ (y : View). y .level n) p;
+      lives = λ n h. ap (λ (y : View). y .life n) p;
+      up-kept = λ n k h e. refl;
+      own-kept = λ i q h. refl;
+      init-kept = λ n h a. refl;
+    }

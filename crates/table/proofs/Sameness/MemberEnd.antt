@@ -9,10 +9,10 @@ use Rattle.table.proofs.Keeps.MemberEnds.{member-gone}
 use Rattle.table.proofs.Laws.Cases.{choose}
 use Rattle.table.proofs.Laws.Facts.{Facts}
 use Rattle.table.proofs.Laws.Slots.{init-seen, seen-taken, children-of}
+use Rattle.table.proofs.Sameness.Anchor.{name-no-slot}
 use Rattle.table.proofs.Sameness.Readers.{twin-eqb, child-twins}
-use Rattle.table.proofs.Sameness.Remain.{Remain, Lit, same-remain, pid-in-remain, name-remain}
+use Rattle.table.proofs.Sameness.Remain.{Remain, Lit, same-remain, pid-in-remain, name-remain, everyone}
 use Rattle.table.proofs.Sameness.Same.{Same}
-use Rattle.table.proofs.Sameness.SetChildrenSame.{everyone, name-no-slot}
 use Rattle.table.proofs.Sameness.Twins.{Pair, Twin, owns, pid-in-seen, twin-rows}
 use Rattle.table.specs.Limits.{no-slot}
 use Rattle.table.specs.Read.{View, taken, pid-in, init, alive, child-of, namespace-taken}

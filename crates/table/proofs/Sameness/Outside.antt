@@ -5,10 +5,12 @@ use mathlib.Core.Path.{_≡_, refl}
 use lib.Dec.{eqb}
 use lib.IntN.{ℤ}
 use Rattle.table.proofs.Keeps.Changes.{make-sound}
+use Rattle.table.proofs.Laws.Facts.{facts}
 use Rattle.table.proofs.Laws.Quant.{left, isnt}
 use Rattle.table.proofs.Laws.Steps.{step-made, step-refused}
 use Rattle.table.proofs.Sameness.Glue.{follow-self}
 use Rattle.table.proofs.Sameness.Light.{put-outside}
+use Rattle.table.proofs.Sameness.Same.{Same, sheets-of-same}
 use Rattle.table.specs.Answers.{answers, granted, refused}
 use Rattle.table.specs.Calls.{getpid, getppid, handle, handle-off, handle-on, natural, poll, within}
 use Rattle.table.specs.Claims.{OutsideLeaves}
@@ -78,3 +80,8 @@ poll-leaves t s i h hs k a g = go (eqb (lowest-signal (process t i .pending)) si
     go : (b : Bool) → eqb (lowest-signal (process t i .pending)) signals ≡ b → sheet-of (poll t i .table) (follow t (poll t i .table) (at s)) ≡ sheet (view t) s
     go true e = rw (e, poll) (as-it-was t s hs)
     go false e = rw (e, poll) (signals-leave t s i _ _ hs (outsider t s i Poll a))
+
+-- S stands, and each row that was there is there, and no other
+pub stands-leaves : (t t′ : Table) (s : ℕ) → SoundTable t → SoundTable t′ → So (namespace-taken (view t) s) → So (namespace-taken (view t′) s) → Same (view t′) (view t) s s → sheet-of t′ (follow t t′ (at s)) ≡ sheet (view t) s
+unfolding follow sheet-of
+stands-leaves t t′ s h h′ k k′ w = rw k′ (sheets-of-same (view t′) (view t) s s (facts t′ h′) (facts t h) k′ k w)

@@ -1,4 +1,4 @@
--- wait, by twin callers.
+-- The removal of two twins that have ended: the tables stay the same to S.
 use Prim.Native.Nat.{ℕ, zero, suc, _<_, _≤_}
 use native.Mathlib.Decide.{ℕ-discrete}
 use native.Mathlib.Omega.{arith}
@@ -7,26 +7,20 @@ use mathlib.Core.Logic.{_⊎_, inl, inr, ⊎-elim}
 use mathlib.Core.Path.{_≡_, refl, sym, _∙_, ap, subst}
 use borrow.Author.Tests.{eqb-true, eqb-false, ne-eqb, ltb-true, ltb-false}
 use lib.Dec.{eqb, ltb}
-use lib.Seq.{getD-set-same, getD-set-other}
-use Rattle.table.proofs.Laws.Facts.{Facts, facts}
-use Rattle.table.proofs.Laws.Quant.{right, both, isnt, and-false, true-and, true-or, false-or-true, false-or-false, true-and-false}
-use Rattle.table.proofs.Laws.Slots.{slot-lt, seen-taken, children-of, alive-taken, init-taken, init-own, init-living, parent-living, past-level}
-use Rattle.table.proofs.Sameness.Calls.{shown, processes-length}
-use Rattle.table.proofs.Sameness.FreedSame.{process-freed, namespace-freed, own-is-kept, children-is-kept, freed-remain}
+use Rattle.table.proofs.Keeps.Reap.{without}
+use Rattle.table.proofs.Laws.Cases.{no-so, zero-or}
+use Rattle.table.proofs.Laws.Facts.{Facts}
+use Rattle.table.proofs.Laws.Quant.{right, isnt, and-false, true-and, true-or, false-or-true, false-or-false, true-and-false, isnt-not}
+use Rattle.table.proofs.Laws.Slots.{seen-taken, children-of, init-living, parent-living}
+use Rattle.table.proofs.Sameness.Anchor.{name-no-slot}
 use Rattle.table.proofs.Sameness.Readers.{twin-eqb}
-use Rattle.table.proofs.Sameness.Remain.{Remain, Lit, same-remain, standing, pid-in-remain, name-remain, taken-remain}
+use Rattle.table.proofs.Sameness.Remain.{Remain, Lit, same-remain, pid-in-remain, name-remain, everyone}
 use Rattle.table.proofs.Sameness.Same.{Same}
-use Rattle.table.proofs.Sameness.SetChildrenSame.{everyone, name-no-slot}
 use Rattle.table.proofs.Sameness.Twins.{Pair, Twin, twin-rows}
-use Rattle.table.specs.Freeing.{freed, kept}
-use Rattle.table.specs.Fresh.{empty-process}
-use Rattle.table.specs.Limits.{no-slot}
-use Rattle.table.specs.Read.{alive, init, is-init, living, namespace-taken, no-process, pid-at, pid-in, process, taken, view}
-use Rattle.table.specs.Records.{put}
+use Rattle.table.specs.Read.{living, pid-in, taken, View}
 use Rattle.table.specs.Sheet.{Row, name, row}
-use Rattle.table.specs.Sound.{SoundTable}
 use Rattle.table.specs.Tests.{_and_, _or_, if_then_else_, least}
-use Rattle.table.specs.declared.Table.{Table}
+use Rattle.table.specs.declared.State.the-variants.{Running}
 
 -- ---- the lowest
 
@@ -62,132 +56,72 @@ least-cases p f d (suc n) l = go (least p f d n) (least-cases p f d n (omega ari
         test false ex false ey (inr (q, m, h)) =
             rw (e, ex, ey, false-or-false, true-and-false) (inr (q, omega arith, extend (λ i. So (p i) → f b ≤ f i) h (λ k. ltb-false (f n) (f b) ey)))
 
--- ---- a slot emptied, then namespaces freed
+-- ---- a slot emptied
 
-module _ (t : Table) (h : SoundTable t) (x : ℕ) (tx : So (taken (view t) x)) (ex : So (view t .ended x)) where
-  f : Facts (view t)
-  f = facts t h
+-- who is left
+abbrev pub others : ℕ → ℕ → Bool
+others x i = not (eqb i x)
 
-  abbrev pub t₁ : Table
-  t₁ = put t x empty-process
-
-  abbrev pub others : ℕ → Bool
-  others i = not (eqb i x)
-
-  other : (i : ℕ) → So (others i) → process t₁ i ≡ process t i
-  other i q = getD-set-other (t .processes) x i empty-process no-process (eqb-false i x (isnt _ q))
-
-  living-other : (i : ℕ) → So (living (view t) i) → So (others i)
+module _ (v : View) (f : Facts v) (x : ℕ) (tx : So (taken v x)) (ex : So (v .ended x)) where
+  living-other : (i : ℕ) → So (living v i) → So (others x i)
   unfolding living
-  living-other i l = ap not (ne-eqb i x (λ e. false≢true (sym (isnt _ (right _ _ l)) ∙ ap (view t .ended) e ∙ ex)))
+  living-other i l = ap not (ne-eqb i x (λ e. no-so (isnt _ (right _ _ l)) (subst (λ j. So (v .ended j)) (sym e) ex)))
 
-  w₁ : Remain (view t) (view t₁) everyone others
+  pub reap-remain : Remain v (without v x) everyone (others x)
   unfolding taken
-  w₁ =
+  reap-remain =
       record {
-        owns = λ i q. ap (λ p. p .own .0) (other i q);
-        pids = λ i l q. ap (λ p. pid-at p l) (other i q);
-        gone = λ i q. ap (λ p. not (eqb (pid-at p 0) 0)) (ap (process t₁) (slot-of i q) ∙ getD-set-same (t .processes) x empty-process no-process (omega (arith, processes-length t h, slot-lt (view t) f x tx)));
+        owns = λ i q. rw (isnt (eqb i x) q);
+        pids = λ i l q. rw (isnt (eqb i x) q);
+        gone = λ i q. rw (isnt-not (eqb i x) q);
         ups = λ n k. refl;
         levels = λ n k. refl;
         lives = λ n k. refl;
         up-kept = λ n k a b. refl;
         own-kept = λ i q a. refl;
-        init-kept = λ n k a. living-other _ (init-living (view t) f n a);
+        init-kept = λ n k a. living-other _ (init-living v f n a);
       }
-    where
-      slot-of : (i : ℕ) → others i ≡ false → i ≡ x
-      slot-of i q = eqb-true i x (not-false-is (eqb i x) q)
-        where
-          not-false-is : (b : Bool) → not b ≡ false → b ≡ true
-          not-false-is true e = refl
-          not-false-is false e = sym e
 
-  abbrev pub K : ℕ → Bool
-  K n = true and kept (view t₁) n
+  parent-other : (i : ℕ) → So (taken v i) → So (others x (v .parent i))
+  parent-other i k = zero-or i (λ z. ap not (ne-eqb (v .parent i) x (λ e. omega (arith, ap (v .parent) z, f .root-parent, f .in-range x tx)))) (λ z. living-other _ (parent-living v f i k z))
 
-  pub reap-remain : Remain (view t) (view (freed t₁)) K others
-  reap-remain = freed-remain (view t) f t₁ everyone others w₁ (past-level (view t) f no-slot (omega arith)) (λ i k. inl refl)
+  reap-parent : (s i : ℕ) → So (taken v i) → So (others x i) → pid-in (without v x) s (without v x .parent i) ≡ pid-in v s (v .parent i)
+  reap-parent s i k q = rw (isnt (eqb i x) q) (pid-in-remain v (without v x) everyone (others x) f reap-remain s (v .parent i) refl (parent-other i k))
 
-  still : (i : ℕ) → So (others i) → So (taken (view t) i) → So (taken (view t₁) i)
-  still i q k = taken-remain (view t) (view t₁) everyone others f w₁ i q ∙ k
-
-  pub alive-kept : (s : ℕ) → So (alive (view t) s) → So (K s)
-  alive-kept s a =
-      let q = living-other _ (init-living (view t) f s a) in
-      both _ _ refl
-      (subst (λ y. So (kept (view t₁) y)) (w₁ .owns (init (view t) s) q ∙ init-own (view t) f s a)
-      (own-is-kept (view t₁) (init (view t) s) (slot-lt (view t) f _ (init-taken (view t) f s a)) (still _ q (init-taken (view t) f s a))))
-
-  parent-other : (i : ℕ) → So (taken (view t) i) → So (others (view t .parent i))
-  parent-other i k = go (ℕ-discrete i 0)
-    where
-      go : Dec (i ≡ 0) → So (others (view t .parent i))
-      go (yes z) = ap not (ne-eqb (view t .parent i) x (λ e. omega (arith, ap (view t .parent) z, f .root-parent, slot-lt (view t) f x tx)))
-      go (no z) = living-other _ (parent-living (view t) f i k z)
-
-  after : (i : ℕ) → So (others i) → process (freed t₁) i ≡ process t i
-  after i q = process-freed t₁ i ∙ other i q
-
-  pub reap-parent : (s i : ℕ) → So (alive (view t) s) → So (taken (view t) i) → So (others i) → pid-in (view (freed t₁)) s (view (freed t₁) .parent i) ≡ pid-in (view t) s (view t .parent i)
-  reap-parent s i a k q =
-      ap (λ p. pid-in (view (freed t₁)) s (p .parent .0)) (after i q)
-      ∙ pid-in-remain (view t) (view (freed t₁)) K others f reap-remain s (view t .parent i) (alive-kept s a) (parent-other i k)
-
-  pub reap-children : (s i : ℕ) → So (alive (view t) s) → So (taken (view t) i) → So (others i) → name (view (freed t₁)) s (view (freed t₁) .children i) ≡ name (view t) s (view t .children i)
-  reap-children s i a k q =
-      ap (λ p. name (view (freed t₁)) s (p .children .0)) (after i q)
-      ∙ ⊎-elim
-      (λ y. name-remain (view t) (view (freed t₁)) K others f reap-remain s (view t .children i) (alive-kept s a) (both _ _ refl (subst (λ n. So (kept (view t₁) n)) (ap (λ p. p .children .0) (other i q)) (children-is-kept (view t₁) i (slot-lt (view t) f i k) (still i q k)))) y)
-      (λ e. name-no-slot (view (freed t₁)) s _ e ∙ sym (name-no-slot (view t) s _ e)) (children-of (view t) f i k)
-
-  pub reap-last : (i : ℕ) → So (taken (view t) i) → So (others i) → (if is-init (view t) i then view (freed t₁) .last (view t .own i) else 0) ≡ (if is-init (view t) i then view t .last (view t .own i) else 0)
-  reap-last i k q = ap (λ (n : ℕ). if is-init (view t) i then n else 0) (ap (λ z. z .last .0) (namespace-freed t₁ (view t .own i) (right _ _ (reap-remain .own-kept i q k))))
+  reap-children : (s i : ℕ) → So (taken v i) → So (others x i) → name (without v x) s (without v x .children i) ≡ name v s (v .children i)
+  reap-children s i k q =
+      rw (isnt (eqb i x) q)
+      (⊎-elim (λ y. name-remain v (without v x) everyone (others x) f reap-remain s (v .children i) refl refl y) (λ e. name-no-slot (without v x) s _ e ∙ sym (name-no-slot v s _ e)) (children-of v f i k))
 
 -- ---- two tables
 
-module _ (t u : Table) (s r x y : ℕ) (ht : SoundTable t) (hu : SoundTable u) (w : Pair (view t) (view u) s r) (k : Twin (view t) (view u) s r x y) (ex : So (view t .ended x)) (ey : So (view u .ended y)) where
-  tx : So (taken (view t) x)
-  tx = seen-taken (view t) (facts t ht) s x (k .seen-v)
+module _ (v u : View) (s r : ℕ) (w : Pair v u s r) (x y : ℕ) (k : Twin v u s r x y) (ex : So (v .ended x)) (ey : So (u .ended y)) where
+  tx : So (taken v x)
+  tx = seen-taken v (w .facts-v) s x (k .seen-v)
 
-  ty : So (taken (view u) y)
-  ty = seen-taken (view u) (facts u hu) r y (k .seen-u)
+  ty : So (taken u y)
+  ty = seen-taken u (w .facts-u) r y (k .seen-u)
 
-  abbrev t′ : Table
-  t′ = freed (put t x empty-process)
+  both-stay : (i j : ℕ) → Twin v u s r i j → others x i ≡ others y j
+  both-stay i j m = ap not (twin-eqb v u s r w i j x y m k)
 
-  abbrev u′ : Table
-  u′ = freed (put u y empty-process)
-
-  both-stay : (i j : ℕ) → Twin (view t) (view u) s r i j → others t ht x tx ex i ≡ others u hu y ty ey j
-  both-stay i j m = ap not (twin-eqb (view t) (view u) s r w i j x y m k)
-
-  reap-lit : (i j : ℕ) → Twin (view t) (view u) s r i j → So (others t ht x tx ex i) → Lit (view t) (view u) (view t′) (view u′) s r i j
+  reap-lit : (i j : ℕ) → Twin v u s r i j → So (others x i) → Lit v u (without v x) (without u y) s r i j
   unfolding row
   reap-lit i j m q =
       let q′ = sym (both-stay i j m) ∙ q in
-      let ti = seen-taken (view t) (facts t ht) s i (m .seen-v) in
-      let tj = seen-taken (view u) (facts u hu) r j (m .seen-u) in
-      let e = after t ht x tx ex i q in
-      let g = after u hu y ty ey j q′ in
-      let z = shown t u s r w i j m in
-      let rows = twin-rows (view t) (view u) s r w i j m in
+      let ti = seen-taken v (w .facts-v) s i (m .seen-v) in
+      let tj = seen-taken u (w .facts-u) r j (m .seen-u) in
+      let rows = twin-rows v u s r w i j m in
+      let slot = twin-eqb v u s r w i j x y m k in
       record {
-        states = ap (λ p. p .state) e ∙ z .states ∙ sym (ap (λ p. p .state) g);
-        handleds = ap (λ p. p .handled) e ∙ z .handleds ∙ sym (ap (λ p. p .handled) g);
-        pendings = ap (λ p. p .pending) e ∙ z .pendings ∙ sym (ap (λ p. p .pending) g);
-        marks = ap (λ p. p .unshared) e ∙ z .marks ∙ sym (ap (λ p. p .unshared) g);
-        parents = reap-parent t ht x tx ex s i (w .alive-v) ti q ∙ ap (λ (o : Row). o .parent) rows ∙ sym (reap-parent u hu y ty ey r j (w .alive-u) tj q′);
-        childrens = reap-children t ht x tx ex s i (w .alive-v) ti q ∙ ap (λ (o : Row). o .children) rows ∙ sym (reap-children u hu y ty ey r j (w .alive-u) tj q′);
-        lasts = reap-last t ht x tx ex i ti q ∙ ap (λ (o : Row). o .last) rows ∙ sym (reap-last u hu y ty ey j tj q′);
+        states = λ z. if slot z then Running else rows z .state;
+        handleds = λ z. if slot z then 0 else rows z .handled;
+        pendings = λ z. if slot z then 0 else rows z .pending;
+        marks = λ z. if slot z then false else rows z .unshared;
+        parents = reap-parent v (w .facts-v) x tx ex s i ti q ∙ ap (λ (o : Row). o .parent) rows ∙ sym (reap-parent u (w .facts-u) y ty ey r j tj q′);
+        childrens = reap-children v (w .facts-v) x tx ex s i ti q ∙ ap (λ (o : Row). o .children) rows ∙ sym (reap-children u (w .facts-u) y ty ey r j tj q′);
+        lasts = ap (λ (o : Row). o .last) rows;
       }
 
-  pub same-reap : Same (view t′) (view u′) s r
-  same-reap =
-      same-remain (view t) (view u) (view t′) (view u′) s r w (K t ht x tx ex) (others t ht x tx ex) (K u hu y ty ey) (others u hu y ty ey) (reap-remain t ht x tx ex) (reap-remain u hu y ty ey) (alive-kept t ht x tx ex s (w .alive-v)) (alive-kept u hu y ty ey r (w .alive-u)) both-stay reap-lit
-
-  pub stands-t : So (namespace-taken (view t′) s)
-  stands-t = standing (view t) (view t′) (K t ht x tx ex) (others t ht x tx ex) (reap-remain t ht x tx ex) s (alive-kept t ht x tx ex s (w .alive-v)) (alive-taken (view t) (facts t ht) s (w .alive-v))
-
-  pub stands-u : So (namespace-taken (view u′) r)
-  stands-u = standing (view u) (view u′) (K u hu y ty ey) (others u hu y ty ey) (reap-remain u hu y ty ey) r (alive-kept u hu y ty ey r (w .alive-u)) (alive-taken (view u) (facts u hu) r (w .alive-u))
+  pub same-reap : Same (without v x) (without u y) s r
+  same-reap = same-remain v u (without v x) (without u y) s r w everyone (others x) everyone (others y) (reap-remain v (w .facts-v) x tx ex) (reap-remain u (w .facts-u) y ty ey) refl refl both-stay reap-lit

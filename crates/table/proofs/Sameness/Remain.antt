@@ -28,6 +28,9 @@ pub record Remain (v v′ : View) (K Q : ℕ → Bool) : Type 0 where
   pub own-kept : (i : ℕ) → So (Q i) → So (taken v i) → So (K (v .own i))
   pub init-kept : (n : ℕ) → So (K n) → So (alive v n) → So (Q (init v n))
 
+abbrev pub everyone : ℕ → Bool
+everyone i = true
+
 -- a row by what may change
 abbrev pub lit : View → ℕ → ℕ → State → ℕ → ℕ → Bool → ℕ → Name → ℕ → Row
 lit v s i st h q m p c z = record { pids = values (v .pid i) (levels - v .level s) (v .level s); state = st; handled = h; pending = q; unshared = m; parent = p; own = name v s (v .own i); children = c; last = z }

@@ -87,3 +87,11 @@ pub row-by : (v u : View) (s r i j : ℕ) → values (v .pid i) (levels - v .lev
 unfolding row
 row-by v u s r i j a b c d e f g h z =
     λ k. record { pids = a k; state = b k; handled = c k; pending = d k; unshared = e k; parent = f k; own = g k; children = h k; last = z k }
+
+pub same-trans : (v u x : View) (s r q : ℕ) → Same v u s r → Same u x r q → Same v x s q
+same-trans v u x s r q a b =
+    record {
+      levels = a .levels ∙ b .levels;
+      there = λ i k. let (j, m, e) = a .there i k in let (l, n, g) = b .there j m in (l, n, e ∙ g);
+      back = λ l n. let (j, m, g) = b .back l n in let (i, k, e) = a .back j m in (i, k, e ∙ g);
+    }

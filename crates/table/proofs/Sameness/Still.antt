@@ -6,26 +6,24 @@ use mathlib.Core.Bool.{Bool, true, false, not, So, false≢true}
 use mathlib.Core.Logic.{_⊎_, inl, inr, ⊎-elim}
 use mathlib.Core.Path.{_≡_, refl, sym, _∙_, ap, ap₂, subst, fun-ext}
 use lib.Dec.{eqb}
-use Rattle.table.proofs.Keeps.Changed.{namespace-count}
-use Rattle.table.proofs.Laws.Facts.{Facts, Sane}
+use Rattle.table.proofs.Laws.Facts.{Facts}
 use Rattle.table.proofs.Laws.Quant.{both, cases, or-left, or-right}
 use Rattle.table.proofs.Laws.Slots.{up-level, seen-taken, seen-below, below-trans, below-parent, below-same, below-level}
 use Rattle.table.proofs.Laws.Tree.{below-refl}
-use Rattle.table.proofs.Sameness.Anchor.{anchor, up-below}
-use Rattle.table.proofs.Sameness.FreedRow.{freed-seen, freed-row, seen-keeps, level-kept, kept-stands, not-kept-gone}
-use Rattle.table.proofs.Sameness.Leaves.{stands-leaves, gone-leaves}
+use Rattle.table.proofs.Sameness.Anchor.{anchor, up-below, name-no-slot}
+use Rattle.table.proofs.Sameness.Light.{Placed, put-other, light-remain, put-light}
 use Rattle.table.proofs.Sameness.Namespaces.{children-below}
+use Rattle.table.proofs.Sameness.Remain.{seen-remain, everyone}
 use Rattle.table.proofs.Sameness.Same.{Same}
-use Rattle.table.proofs.Sameness.SetChildrenSame.{name-no-slot}
-use Rattle.table.specs.Events.{at, follow, sheet-of}
-use Rattle.table.specs.Freeing.{freed, kept}
 use Rattle.table.specs.Limits.{levels, no-slot}
-use Rattle.table.specs.Read.{View, below, climb, init, init-of, is-alive, is-init, living, namespace-taken, pid-in, pid-seen, seen, taken, view}
-use Rattle.table.specs.Sheet.{by-init, dead-at, name, name-by, nearest, no-name, row, sheet}
+use Rattle.table.specs.Read.{View, below, climb, init, init-of, is-alive, is-init, living, namespace-taken, pid-in, pid-seen, seen, taken, view, process, pid-at}
+use Rattle.table.specs.Records.{put}
+use Rattle.table.specs.Sheet.{by-init, dead-at, name, name-by, nearest, no-name, row}
 use Rattle.table.specs.Sound as S
 use Rattle.table.specs.Tests.{_or_, if_then_else_, values}
 use Rattle.table.specs.declared.Life.the-variants.{Unborn, Alive, Dead}
 use Rattle.table.specs.declared.Life.{Life}
+use Rattle.table.specs.declared.Process.{Process}
 use Rattle.table.specs.declared.Table.{Table}
 
 -- the namespaces of K, those that the rows name and all above them, and the processes of S stand as they stood
@@ -152,7 +150,7 @@ module _ (v : View) (f : Facts v) (s : ℕ) where
   near-own i h = or-left _ _ (seen-below v f s i h)
 
   pub near-children : (i : ℕ) → So (seen v s i) → So (near v s (v .children i)) ⊎ (v .children i ≡ no-slot)
-  unfolding living S.ended-bare
+  unfolding living
   near-children i h = go (v .ended i) refl
     where
       ti : So (taken v i)
@@ -162,20 +160,28 @@ module _ (v : View) (f : Facts v) (s : ℕ) where
       go true e = inr (f .ended-bare i ti e .0 .0 .0)
       go false e = inl (or-left _ _ (below-trans v f _ _ s (children-below v f i (both _ _ ti (ap not e))) (seen-below v f s i h)))
 
--- ---- then namespaces are freed
-
-pub freed-after : (t t₁ : Table) (s : ℕ) → S.SoundTable t → Sane t₁ → S.SoundTable (freed t₁) → So (namespace-taken (view t) s) → So (namespace-taken (view t₁) s) → Same (view t₁) (view t) s s → sheet-of (freed t₁) (follow t (freed t₁) (at s)) ≡ sheet (view t) s
-freed-after t t₁ s h fits h′ hs hs₁ w = go (kept (view t₁) s) refl
+-- one outside S changed in its lights
+pub put-still : (t : Table) (f : Facts (view t)) (c : ℕ) (p : Process) → Placed p (process t c) → (s : ℕ) → seen (view t) s c ≡ false → Still (view t) (view (put t c p)) s (near (view t) s)
+put-still t f c p k s o =
+    record {
+      here = near-here (view t) f s;
+      up-kept = near-up (view t) f s;
+      own-kept = near-own (view t) f s;
+      children-kept = near-children (view t) f s;
+      ups = λ n h. refl;
+      levels = λ n h. refl;
+      lives = λ n h. refl;
+      seens = λ i. seen-remain (view t) (view (put t c p)) everyone everyone f (light-remain (view t) (view (put t c p)) (put-light t c p k)) s i refl;
+      owns = λ i h. ap (λ q. q .own .0) (same i h);
+      pids = λ i l h. ap (λ q. pid-at q l) (same i h);
+      states = λ i h. ap (λ q. q .state) (same i h);
+      handleds = λ i h. ap (λ q. q .handled) (same i h);
+      pendings = λ i h. ap (λ q. q .pending) (same i h);
+      marks = λ i h. ap (λ q. q .unshared) (same i h);
+      childrens = λ i h. ap (λ q. q .children .0) (same i h);
+      parents = λ i h. ap (λ q. pid-in (view t) s (q .parent .0)) (same i h);
+      lasts = λ i h. refl;
+    }
   where
-    f : Facts (view t₁)
-    f = fits .facts
-
-    go : (b : Bool) → kept (view t₁) s ≡ b → sheet-of (freed t₁) (follow t (freed t₁) (at s)) ≡ sheet (view t) s
-    go true ks =
-        stands-leaves t (freed t₁) s h h′ hs (kept-stands t₁ f s ks hs₁)
-        (record {
-          levels = level-kept t₁ f s ks ∙ w .levels;
-          there = λ i k. let q = sym (freed-seen t₁ f s i) ∙ k in let (j, m, e) = w .there i q in (j, m, freed-row t₁ f s i ks (seen-taken (view t₁) f s i q) ∙ e);
-          back = λ j k. let (i, m, e) = w .back j k in (i, freed-seen t₁ f s i ∙ m, freed-row t₁ f s i ks (seen-taken (view t₁) f s i m) ∙ e);
-        })
-    go false ks = gone-leaves t (freed t₁) s (not-kept-gone t₁ f s (namespace-count t₁ (fits .shape-of)) hs₁ ks) (λ j k. let (i, m, e) = w .back j k in false≢true (sym ks ∙ seen-keeps t₁ f s i m))
+    same : (i : ℕ) → So (seen (view t) s i) → process (put t c p) i ≡ process t i
+    same i h = put-other t c p k i (λ e. false≢true (sym o ∙ ap (seen (view t) s) (sym e) ∙ h))

@@ -3,26 +3,27 @@ use Prim.Native.Nat.{ℕ, _<_}
 use native.Mathlib.Omega.{arith}
 use mathlib.Core.Bool.{Bool, true, false, So, false≢true}
 use mathlib.Core.Logic.{_⊎_, inl, inr}
-use mathlib.Core.Path.{_≡_, refl, sym, _∙_, ap, subst}
+use mathlib.Core.Path.{_≡_, refl, sym, _∙_, ap, subst, subst₂}
 use borrow.Author.Tests.{eqb-true}
 use lib.ListN.{List·getD-eq-default}
-use Rattle.table.proofs.Laws.Facts.{Facts, facts}
+use Rattle.table.proofs.Keeps.PutKeeps.{reaped-sane, reaped-view}
+use Rattle.table.proofs.Laws.Facts.{Facts, facts, sane}
 use Rattle.table.proofs.Laws.Quant.{left, right, both, any-elim, any-intro}
 use Rattle.table.proofs.Laws.Slots.{slot-lt, seen-taken, child-seen}
 use Rattle.table.proofs.Laws.Tree.{below-refl}
 use Rattle.table.proofs.Sameness.Calls.{shown, processes-length, both-refuse, both-tell, owns-twins}
-use Rattle.table.proofs.Sameness.Inside.{Kept, Ready, MadeSame, stands-same}
+use Rattle.table.proofs.Sameness.Freeing.{freed-alike}
+use Rattle.table.proofs.Sameness.Inside.{Kept, Ready, MadeSame}
 use Rattle.table.proofs.Sameness.Readers.{child-twins, seen-above, ended-twins}
-use Rattle.table.proofs.Sameness.ReapSame.{Least, least-cases, same-reap, stands-t, stands-u}
+use Rattle.table.proofs.Sameness.ReapSame.{Least, least-cases, same-reap}
+use Rattle.table.proofs.Sameness.Same.{Same}
 use Rattle.table.proofs.Sameness.Targets.{twin-of-pid}
 use Rattle.table.proofs.Sameness.Twins.{Twin, Twins, flip-pair, flip-twin, bool-ext, twin-there, pid-twins}
 use Rattle.table.specs.Answers.{granted}
 use Rattle.table.specs.Calls.{first-ended, pid-to, reap, wait}
-use Rattle.table.specs.Freeing.{freed}
-use Rattle.table.specs.Fresh.{empty-process}
 use Rattle.table.specs.Limits.{process-slots}
 use Rattle.table.specs.Read.{View, child-of, is-ended, no-process, seen, taken, view}
-use Rattle.table.specs.Records.{put, to-pid}
+use Rattle.table.specs.Records.{to-pid}
 use Rattle.table.specs.Sound.{SoundTable}
 use Rattle.table.specs.Step.{make}
 use Rattle.table.specs.Tests.{_and_, any, least}
@@ -109,14 +110,23 @@ no-state : (t : Table) → SoundTable t → (x : ℕ) → x ≡ process-slots �
 no-state t h x e = ap (λ p. p .state) (List·getD-eq-default (t .processes) no-process (omega (arith, processes-length t h)))
 
 -- two callers reap two twins that have ended in the same way
-reap-kept : (t u : Table) (s r c d : ℕ) → Ready t u s r c d → (x y : ℕ) → Twin (view t) (view u) s r x y → So (view t .ended x) → So (view u .ended y) → (a : State) → So (is-ended a) → SoundTable (reap t c x a .table) → SoundTable (reap u d y a .table) → Kept t u s r (reap t c x a) (reap u d y a)
+reap-kept : (t u : Table) (s r c d : ℕ) → Ready t u s r c d → (x y : ℕ) → Twin (view t) (view u) s r x y → So (view t .ended x) → So (view u .ended y) → (a : State) → So (is-ended a) → Kept t u s r (reap t c x a) (reap u d y a)
 unfolding reap granted
-reap-kept t u s r c d w x y k ex ey Running z h g = absurd (false≢true z)
-reap-kept t u s r c d w x y k ex ey Stopped z h g = absurd (false≢true z)
-reap-kept t u s r c d w x y k ex ey (Ended e) z h g =
+reap-kept t u s r c d w x y k ex ey Running z = absurd (false≢true z)
+reap-kept t u s r c d w x y k ex ey Stopped z = absurd (false≢true z)
+reap-kept t u s r c d w x y k ex ey (Ended e) z =
+    let a = reaped-sane t (sane t (w .sound-t)) x ex in
+    let b = reaped-sane u (sane u (w .sound-u)) y ey in
     inr (
       ap (λ n. Reaped (to-pid n) e) (pid-twins (view t) (view u) s r (w .pair) x y _ _ k (owns-twins t u s r c d w)),
-      stands-same t u (freed (put t x empty-process)) (freed (put u y empty-process)) s r h g (stands-t t u s r x y (w .sound-t) (w .sound-u) (w .pair) k ex ey) (stands-u t u s r x y (w .sound-t) (w .sound-u) (w .pair) k ex ey) (same-reap t u s r x y (w .sound-t) (w .sound-u) (w .pair) k ex ey),
+      freed-alike t u _ _ a b s r
+          (record {
+            facts-v = a .facts;
+            facts-u = b .facts;
+            alive-v = w .pair .alive-v;
+            alive-u = w .pair .alive-u;
+            same = subst₂ (λ (v′ u′ : View). Same v′ u′ s r) (sym (reaped-view t (sane t (w .sound-t)) x ex)) (sym (reaped-view u (sane u (w .sound-u)) y ey)) (same-reap (view t) (view u) s r (w .pair) x y k ex ey);
+          }),
     )
 
 pub wait-same : MadeSame Wait
@@ -135,7 +145,7 @@ wait-same t u s r c d w h g = go (any process-slots (child-of (view t) c)) refl
     some-child e (inr (k, ex, ey)) =
         let q = shown t u s r (w .pair) x y k .states in
         rw (e, sym (any-same t u s r c d w) ∙ e, ← q, wait)
-        (reap-kept t u s r c d w x y k ex ey (view t .state x) ex (rw (e, wait) at h) (rw (sym (any-same t u s r c d w) ∙ e, ← q, wait) at g))
+        (reap-kept t u s r c d w x y k ex ey (view t .state x) ex)
 
     go : (b : Bool) → any process-slots (child-of (view t) c) ≡ b → Kept t u s r (wait t c) (wait u d)
     go true e = some-child e (first-twins t u s r c d w)
