@@ -11,9 +11,6 @@ pub mod Reach
 pub mod Lowest
 pub mod SignalSets
 pub mod Cases
-pub mod Frame
-pub mod FrameEnd
 pub mod Lists
 pub mod Slots
-pub mod ChangedTo
 pub mod Follows

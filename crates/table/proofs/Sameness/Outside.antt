@@ -9,8 +9,8 @@ use Rattle.table.proofs.Laws.Facts.{facts}
 use Rattle.table.proofs.Laws.Quant.{left, isnt}
 use Rattle.table.proofs.Laws.Steps.{step-made, step-refused}
 use Rattle.table.proofs.Sameness.Glue.{follow-self}
-use Rattle.table.proofs.Sameness.Light.{put-outside}
 use Rattle.table.proofs.Sameness.Same.{Same, sheets-of-same}
+use Rattle.table.proofs.Sameness.Still.{same-still, near, put-still}
 use Rattle.table.specs.Answers.{answers, granted, refused}
 use Rattle.table.specs.Calls.{getpid, getppid, handle, handle-off, handle-on, natural, poll, within}
 use Rattle.table.specs.Claims.{OutsideLeaves}
@@ -52,9 +52,14 @@ pub outsider : (t : Table) (s i : ℕ) (c : Call) → So (allowed t (at s) (outs
 unfolding allowed is-inside
 outsider t s i c a = isnt _ (left _ _ a)
 
-signals-leave : (t : Table) (s i a b : ℕ) → So (namespace-taken (view t) s) → seen (view t) s i ≡ false → sheet-of (put t i (with-signals (process t i) a b)) (follow t (put t i (with-signals (process t i) a b)) (at s)) ≡ sheet (view t) s
-unfolding follow sheet-of namespace-taken
-signals-leave t s i a b h o = rw h (put-outside t s i (with-signals (process t i) a b) (record { owns = refl; parents = refl; pids = refl }) o)
+-- S stands, and each row that was there is there, and no other
+pub stands-leaves : (t t′ : Table) (s : ℕ) → SoundTable t → SoundTable t′ → So (namespace-taken (view t) s) → So (namespace-taken (view t′) s) → Same (view t′) (view t) s s → sheet-of t′ (follow t t′ (at s)) ≡ sheet (view t) s
+unfolding follow sheet-of
+stands-leaves t t′ s h h′ k k′ w = rw k′ (sheets-of-same (view t′) (view t) s s (facts t′ h′) (facts t h) k′ k w)
+
+signals-leave : (t : Table) (s i a b : ℕ) → SoundTable t → SoundTable (put t i (with-signals (process t i) a b)) → So (namespace-taken (view t) s) → seen (view t) s i ≡ false → sheet-of (put t i (with-signals (process t i) a b)) (follow t (put t i (with-signals (process t i) a b)) (at s)) ≡ sheet (view t) s
+unfolding namespace-taken
+signals-leave t s i a b h g hs o = stands-leaves t _ s h g hs hs (same-still (view t) _ s (near (view t) s) (facts t h) (put-still t (facts t h) i (with-signals (process t i) a b) (record { owns = refl; parents = refl; pids = refl }) s o))
 
 pub getpid-leaves : MadeLeaves Getpid
 unfolding MadeLeaves make getpid answers granted
@@ -70,8 +75,8 @@ handle-leaves z on t s i h hs k a g = go (not (within 1 signals z) or eqb (natur
   where
     go : (b : Bool) → not (within 1 signals z) or eqb (natural z) sigkill or eqb (natural z) sigstop ≡ b → (o : Bool) → on ≡ o → sheet-of (handle t i z on .table) (follow t (handle t i z on .table) (at s)) ≡ sheet (view t) s
     go true e o q = rw (e, handle) (as-it-was t s hs)
-    go false e true q = rw (e, q, handle) (signals-leave t s i _ _ hs (outsider t s i (Handle z on) a))
-    go false e false q = rw (e, q, handle) (signals-leave t s i _ _ hs (outsider t s i (Handle z on) a))
+    go false e true q = rw (e, q, handle) (signals-leave t s i _ _ h (rw (e, q, handle) at g) hs (outsider t s i (Handle z on) a))
+    go false e false q = rw (e, q, handle) (signals-leave t s i _ _ h (rw (e, q, handle) at g) hs (outsider t s i (Handle z on) a))
 
 pub poll-leaves : MadeLeaves Poll
 unfolding MadeLeaves make poll answers granted
@@ -79,9 +84,4 @@ poll-leaves t s i h hs k a g = go (eqb (lowest-signal (process t i .pending)) si
   where
     go : (b : Bool) → eqb (lowest-signal (process t i .pending)) signals ≡ b → sheet-of (poll t i .table) (follow t (poll t i .table) (at s)) ≡ sheet (view t) s
     go true e = rw (e, poll) (as-it-was t s hs)
-    go false e = rw (e, poll) (signals-leave t s i _ _ hs (outsider t s i Poll a))
-
--- S stands, and each row that was there is there, and no other
-pub stands-leaves : (t t′ : Table) (s : ℕ) → SoundTable t → SoundTable t′ → So (namespace-taken (view t) s) → So (namespace-taken (view t′) s) → Same (view t′) (view t) s s → sheet-of t′ (follow t t′ (at s)) ≡ sheet (view t) s
-unfolding follow sheet-of
-stands-leaves t t′ s h h′ k k′ w = rw k′ (sheets-of-same (view t′) (view t) s s (facts t′ h′) (facts t h) k′ k w)
+    go false e = rw (e, poll) (signals-leave t s i _ _ h (rw (e, poll) at g) hs (outsider t s i Poll a))
