@@ -9,7 +9,7 @@ use lib.Dec.{eqb, leb}
 use Rattle.table.proofs.Keeps.Changed.{pick}
 use Rattle.table.proofs.Keeps.MemberEnds.{reaches}
 use Rattle.table.proofs.Keeps.NewPid.{Fresh, next-fresh, next-first, nobody, free-is}
-use Rattle.table.proofs.Laws.Below.{last-step, above-namespace, above-is, above-same, below-level, root-above}
+use Rattle.table.proofs.Laws.Below.{last-step, below-taken, above-is, above-same, below-level, root-above}
 use Rattle.table.proofs.Laws.Cases.{yes-or-no, no-so, isnt-so, zero-or, same-or, life-cases, alive-unborn, dead-unborn}
 use Rattle.table.proofs.Laws.Facts.{Holder, root, member, for-children, child, Facts, Held, Taken, Stands, Lives, Below, Seen, Other, lives-taken, is-seen}
 use Rattle.table.proofs.Laws.Iff.{not-iff}
@@ -61,7 +61,7 @@ module _ (v : View) (f : Facts v) (c n k : ℕ) (c-lives : Lives v c) (here : St
   born-pid m b = let l : v .level m ≤ v .level n = below-level v f n m b in let e = le-leb (v .level m) (v .level n) l in rw (self, e) (ap (next-pid v) (above-same v f n m b))
 
   fresh : (m : ℕ) → Below v n m → Fresh v m (next-pid v m)
-  fresh m b = next-fresh v f m (above-namespace v f n m here b)
+  fresh m b = next-fresh v f m (below-taken v f n m here b)
 
   k-taken : Taken w k
   unfolding taken
@@ -75,7 +75,7 @@ module _ (v : View) (f : Facts v) (c n k : ℕ) (c-lives : Lives v c) (here : St
 
   -- above n, only n may be unborn
   unborn-above : (m : ℕ) → Below v n m → So (unborn v m) → n ≡ m
-  unborn-above m b u = ⊎-elim (λ x. x) (λ (a, s, o, e, d). absurd (f .unborn-leaf m (above-namespace v f n m here b) u a s o e)) (last-step v f n m here b)
+  unborn-above m b u = ⊎-elim (λ x. x) (λ (a, s, o, e, d). absurd (f .unborn-leaf m (below-taken v f n m here b) u a s o e)) (last-step v f n m here b)
 
   life-w : (m : ℕ) → (Below v n m × So (unborn v m) × (w .life m ≡ Alive (record { 0 = k }))) ⊎ (w .life m ≡ v .life m)
   life-w m =
@@ -134,7 +134,7 @@ module _ (v : View) (f : Facts v) (c n k : ℕ) (c-lives : Lives v c) (here : St
   -- the init of a living namespace above n has 1 there
   not-first : (m : ℕ) → Below v n m → So (alive v m) → next-pid v m ≡ 1 → ⊥
   not-first m b a e =
-      let s = above-namespace v f n m here b in
+      let s = below-taken v f n m here b in
       let (l, o) = f .inits m s a in
       let h : Seen v m (init v m) = is-seen v m _ (lives-taken v _ l) (subst (λ x. Below v x m) (sym o) (below-refl v m)) in
       clash m (init v m) b h (f .first m s a (init v m) h .1 refl ∙ sym e)
@@ -167,7 +167,7 @@ module _ (v : View) (f : Facts v) (c n k : ℕ) (c-lives : Lives v c) (here : St
 
   empty-namespace-w : (m : ℕ) → (Stands v m → ⊥) → So (zero-namespace w m)
   unfolding zero-namespace
-  empty-namespace-w m o = rw (isnt-so (λ b. o (above-namespace v f n m here b))) (f .empty-namespace m o)
+  empty-namespace-w m o = rw (isnt-so (λ b. o (below-taken v f n m here b))) (f .empty-namespace m o)
 
   last-w : (m : ℕ) → m < namespace-slots → w .last m ≤ greatest-pid
   last-w m l = ⊎-elim (λ (b : Below v n m). rw b (fresh m b .within)) (λ (b : below v n m ≡ false). rw b (f .last-pids m l)) (yes-or-no (below v n m))

@@ -15,7 +15,7 @@ use Rattle.table.proofs.Keeps.FreedKeeps.{freed-keeps}
 use Rattle.table.proofs.Keeps.NewNamespace.{namespace-pre}
 use Rattle.table.proofs.Keeps.Premises as K
 use Rattle.table.proofs.Keeps.PutKeeps.{with-all, signalled-sane, set-children-sane, reaped-sane, new-namespace-view, new-namespace-shape}
-use Rattle.table.proofs.Laws.Below.{low-level}
+use Rattle.table.proofs.Laws.Below.{level-deepest}
 use Rattle.table.proofs.Laws.Cases.{isnt-so, no-so, choose}
 use Rattle.table.proofs.Laws.Facts.{Facts, Holder, Taken, Stands, Lives, Below, Seen, Other, SignalsOk, lives-taken, not-ended, seen-taken, seen-below, facts, held-in, Sane, sane}
 use Rattle.table.proofs.Laws.Quant.{left, right, both, isnt-not, or-false-left, or-false-right}
@@ -62,7 +62,7 @@ namespace-sane t s c l a b =
     let f = s .facts in
     let m = f .members c (lives-taken (view t) c l) in
     let (low, free) = K.free-namespace-is (view t) b in
-    let d : view t .level (view t .own c) < deepest = omega (arith, low-level (view t) f (view t .own c) (m .0 .0)) in
+    let d : view t .level (view t .own c) < deepest = omega (arith, level-deepest (view t) f (view t .own c) (m .0 .0)) in
     record {
       shape-of = new-namespace-shape t (s .shape-of) c low;
       facts = subst Facts (sym (new-namespace-view t (s .shape-of) c low)) (namespace-pre (view t) f (view t .own c) _ (m .0 .0) d (λ x. not-ended (view t) c l (m .0 .1 x)) (m .1) low free);

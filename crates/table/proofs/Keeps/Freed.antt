@@ -6,7 +6,7 @@ use mathlib.Core.Logic.{_⊎_, inl, inr, ⊎-elim}
 use mathlib.Core.Path.{_≡_, refl, sym, _∙_, ap, subst}
 use borrow.Author.Tests.{eq-eqb, eqb-true}
 use lib.Dec.{eqb, leb}
-use Rattle.table.proofs.Laws.Below.{below-trans, below-up, last-step, below-child, stepwise, deep-other, deep-namespace}
+use Rattle.table.proofs.Laws.Below.{below-trans, below-up, last-step, below-child, up-level, not-root, deep-namespace}
 use Rattle.table.proofs.Laws.Cases.{alive-unborn}
 use Rattle.table.proofs.Laws.Facts.{Holder, root, member, for-children, child, Facts, Held, Taken, Stands, Lives, Below, Seen, Other}
 use Rattle.table.proofs.Laws.Iff.{not-iff, or-iff}
@@ -112,9 +112,9 @@ module _ (v : View) (p : Facts v) where
   climb-at zero a b e h = refl
   climb-at (suc k) a b e h =
       let s = deep-namespace v a k e in
-      let o = deep-other v p a k e in
+      let o = not-root v p a k e in
       ap (λ x. elim (eqb a b) as (λ z. Bool) [ true ↦ true | false ↦ climb (w .up) k x b ]) (up-at a h)
-      ∙ ap (λ x. elim (eqb a b) as (λ z. Bool) [ true ↦ true | false ↦ x ]) (climb-at k (v .up a) b (stepwise v p a k e) (kept-up v p a s o h))
+      ∙ ap (λ x. elim (eqb a b) as (λ z. Bool) [ true ↦ true | false ↦ x ]) (climb-at k (v .up a) b (up-level v p a k e) (kept-up v p a s o h))
 
   below-at : (a b : ℕ) → So (kept v a) → below w a b ≡ below v a b
   unfolding below

@@ -14,7 +14,7 @@ use Rattle.table.proofs.Keeps.Deliver.{Each, Safe}
 use Rattle.table.proofs.Keeps.NewNamespace.{Ready, ready, with-namespace}
 use Rattle.table.proofs.Keeps.PutKeeps.{signalled-sane, signalled-view, new-namespace-view}
 use Rattle.table.proofs.Keeps.Signal.{signalled-held}
-use Rattle.table.proofs.Laws.Below.{shallow-below, low-level}
+use Rattle.table.proofs.Laws.Below.{shallow-below, level-deepest}
 use Rattle.table.proofs.Laws.Cases.{no-so, isnt-so}
 use Rattle.table.proofs.Laws.Facts.{Holder, Facts, Held, Taken, Stands, Lives, Below, Seen, SignalsOk, lives-taken, not-ended, seen-below, facts, held-in, sound-from, sane}
 use Rattle.table.proofs.Laws.Lowest.{lowest-is}
@@ -157,7 +157,7 @@ module _ (t : Table) (c : ℕ) (h : SoundTable t) (r : So (runs (view t) c)) whe
     j-free = free-namespace-is v room .1
 
     low : v .level a < deepest
-    low = omega (arith, low-level v f a a-namespace)
+    low = omega (arith, level-deepest v f a a-namespace)
 
     not-dead : So (dead v a) → ⊥
     not-dead d = not-ended v c lives (f .members c here .0 .1 d)

@@ -12,10 +12,11 @@ use Rattle.table.proofs.Keeps.Birth.{with-born}
 use Rattle.table.proofs.Keeps.BirthKeeps.{birth-view}
 use Rattle.table.proofs.Keeps.Changes.{namespace-sane}
 use Rattle.table.proofs.Keeps.Premises.{free-slot-is}
+use Rattle.table.proofs.Laws.Below.{below-level, below-trans}
 use Rattle.table.proofs.Laws.Cases.{no-so, isnt-so}
-use Rattle.table.proofs.Laws.Facts.{Facts, facts, Sane, sane}
+use Rattle.table.proofs.Laws.Facts.{Facts, facts, Sane, sane, seen-taken, seen-below, lives-taken}
 use Rattle.table.proofs.Laws.Quant.{left, right, both, cases, or-false-left, or-false-right}
-use Rattle.table.proofs.Laws.Slots.{seen-taken, seen-below, children-of, own-taken, living-taken, below-level, below-same, below-trans, below-parent}
+use Rattle.table.proofs.Laws.Slots.{children-of, own-taken, below-same, below-parent}
 use Rattle.table.proofs.Laws.Tree.{below-refl}
 use Rattle.table.proofs.Sameness.Born.{below-grown, seen-grown, life-born, life-other, bottom, old}
 use Rattle.table.proofs.Sameness.ExitSame.{runs-living}
@@ -48,7 +49,7 @@ module _ (v : View) (f : Facts v) (c n k : ℕ) (new : taken v k ≡ false) (tn 
   v′ = with-born v c n k
 
   apart : (i : ℕ) → So (seen v s i) → i ≡ k → ⊥
-  apart i h = old v f c n k new tn i (seen-taken v f s i h)
+  apart i h = old v f c n k new tn i (seen-taken v s i h)
 
   seen-either : (i : ℕ) → Dec (i ≡ k) → seen v′ s i ≡ seen v s i
   unfolding seen
@@ -85,7 +86,7 @@ module _ (v : View) (f : Facts v) (c n k : ℕ) (new : taken v k ≡ false) (tn 
       }
     where
       not-above : (i : ℕ) → So (seen v s i) → below v n (v .own i) ≡ false
-      not-above i h = bool-ext _ _ (λ b. absurd (false≢true (sym o ∙ below-trans v f n (v .own i) s b (seen-below v f s i h)))) (λ b. absurd (false≢true b))
+      not-above i h = bool-ext _ _ (λ b. absurd (false≢true (sym o ∙ below-trans v f n (v .own i) s b (seen-below v s i h)))) (λ b. absurd (false≢true b))
 
 module _ (t : Table) (w : Sane t) (c n : ℕ) (tn : So (namespace-taken (view t) n)) (room : free-slot (view t) ≡ process-slots → ⊥) (s : ℕ) (o : below (view t) n s ≡ false) where
   still : Still (view t) (view (birth t c n)) s (near (view t) s)
@@ -143,8 +144,8 @@ module _ (t : Table) (h : SoundTable t) (c : ℕ) (room : free-namespace-slot (v
       record {
         here = stays s hs;
         up-kept = R .up-kept;
-        own-kept = λ i k. stays (view t .own i) (own-taken (view t) (ft .facts) i (seen-taken (view t) (ft .facts) s i k));
-        children-kept = λ i k. ⊎-elim (λ y. inl (stays (view t .children i) y)) (λ e. inr e) (children-of (view t) (ft .facts) i (seen-taken (view t) (ft .facts) s i k));
+        own-kept = λ i k. stays (view t .own i) (own-taken (view t) (ft .facts) i (seen-taken (view t) s i k));
+        children-kept = λ i k. ⊎-elim (λ y. inl (stays (view t .children i) y)) (λ e. inr e) (children-of (view t) (ft .facts) i (seen-taken (view t) s i k));
         ups = R .ups;
         levels = R .levels;
         lives = R .lives;
@@ -157,7 +158,7 @@ module _ (t : Table) (h : SoundTable t) (c : ℕ) (room : free-namespace-slot (v
         marks = λ i k. refl;
         childrens = λ i k. refl;
         parents = λ i k. refl;
-        lasts = λ i k. ap (λ z. z .last .0) (getD-set-other (t .namespaces) x (view t .own i) _ no-namespace (taken-other t ft c room _ (own-taken (view t) (ft .facts) i (seen-taken (view t) (ft .facts) s i k))));
+        lasts = λ i k. ap (λ z. z .last .0) (getD-set-other (t .namespaces) x (view t .own i) _ no-namespace (taken-other t ft c room _ (own-taken (view t) (ft .facts) i (seen-taken (view t) s i k))));
       }
 
   pub new-same : Same (view t₁) (view t) s s
@@ -223,4 +224,4 @@ clone-new-leaves t s i h hs k a g = go (eqb (own-level (view t) i) deepest) refl
         room₁ e = eqb-false _ _ (or-false-left _ _ eb) (sym (same-free t i) ∙ e)
 
         o : below (view t₁) x s ≡ false
-        o = new-outside t h i room s hs (living-taken (view t) (facts t h) i li) f₁ (outsider t s i CloneNew a)
+        o = new-outside t h i room s hs (lives-taken (view t) i li) f₁ (outsider t s i CloneNew a)

@@ -7,9 +7,9 @@ use mathlib.Core.Logic.{_⊎_, inl, inr}
 use mathlib.Core.Path.{_≡_, sym, _∙_, ap, ap₂, subst, fun-ext}
 use lib.Dec.{eqb, leb}
 use Rattle.table.proofs.Laws.Cases.{no-so}
-use Rattle.table.proofs.Laws.Facts.{Facts}
+use Rattle.table.proofs.Laws.Facts.{Facts, seen-taken, seen-below}
 use Rattle.table.proofs.Laws.Quant.{left, any-elim}
-use Rattle.table.proofs.Laws.Slots.{seen-taken, seen-below, own-not-unborn}
+use Rattle.table.proofs.Laws.Slots.{own-not-unborn}
 use Rattle.table.proofs.Sameness.Born.{bottom}
 use Rattle.table.proofs.Sameness.NextPid.{next-twins}
 use Rattle.table.proofs.Sameness.Twins.{Pair, Twins, bool-ext, twins-level, twins-up-by}
@@ -20,7 +20,7 @@ use Rattle.table.specs.Tests.{_and_, any, if_then_else_, lowest}
 
 -- nobody is seen from an unborn namespace
 unborn-unseen : (v : View) (f : Facts v) (n i : ℕ) → So (unborn v n) → So (seen v n i) → ⊥
-unborn-unseen v f n i h k = no-so (own-not-unborn v f i (seen-taken v f n i k)) (subst (λ m. So (unborn v m)) (sym (bottom v f (v .own i) n (seen-below v f n i k) h)) h)
+unborn-unseen v f n i h k = no-so (own-not-unborn v f i (seen-taken v n i k)) (subst (λ m. So (unborn v m)) (sym (bottom v f (v .own i) n (seen-below v n i k) h)) h)
 
 unborn-free : (v : View) (f : Facts v) (n k : ℕ) → So (unborn v n) → So (free-pid v n k)
 unfolding free-pid

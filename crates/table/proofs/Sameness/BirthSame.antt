@@ -9,9 +9,10 @@ use mathlib.Core.Path.{_≡_, refl, sym, _∙_, ap, ap₂, fun-ext, subst}
 use borrow.Author.Tests.{eqb-true, eq-eqb, ne-eqb, le-leb, lt-leb}
 use lib.Dec.{eqb, leb}
 use Rattle.table.proofs.Keeps.Birth.{with-born}
+use Rattle.table.proofs.Laws.Below.{below-level, below-trans}
 use Rattle.table.proofs.Laws.Cases.{zero-or, no-so}
-use Rattle.table.proofs.Laws.Facts.{Facts}
-use Rattle.table.proofs.Laws.Slots.{slot-lt, seen-taken, own-taken, own-not-unborn, alive-taken, alive-not-unborn, init-taken, children-of, below-trans, init-seen, living-taken, parent-living, below-parent, below-level, below-same}
+use Rattle.table.proofs.Laws.Facts.{Facts, seen-taken, lives-taken}
+use Rattle.table.proofs.Laws.Slots.{own-taken, own-not-unborn, alive-taken, alive-not-unborn, init-taken, children-of, init-seen, parent-living, below-parent, below-same}
 use Rattle.table.proofs.Laws.Tree.{below-refl}
 use Rattle.table.proofs.Sameness.Anchor.{is-unborn-name, name-taken, up-below, name-no-slot}
 use Rattle.table.proofs.Sameness.BirthPids.{Cradles, cradle-next, next-unborn}
@@ -66,7 +67,7 @@ named v f s n h e = false≢true (sym (go (v .life n)) ∙ ap is-no-name (sym (n
 
 not-init : (v : View) (f : Facts v) (i : ℕ) → So (taken v i) → alive v (v .own i) ≡ false → is-init v i ≡ false
 unfolding is-init
-not-init v f i h a = ne-eqb (init v (v .own i)) i (λ e. omega (arith, slot-lt v f i h, sym (go (v .life (v .own i)) a) ∙ e))
+not-init v f i h a = ne-eqb (init v (v .own i)) i (λ e. omega (arith, f .in-range i h, sym (go (v .life (v .own i)) a) ∙ e))
   where
     go : (x : Life) → is-alive x ≡ false → init-of x ≡ no-slot
     go Unborn z = refl
@@ -140,10 +141,10 @@ module _ (v u : View) (s r : ℕ) (w : Pair v u s r) (c d n m k l : ℕ) (tc : T
 
   module _ (i j : ℕ) (x : Twin v u s r i j) where
     ti : So (taken v i)
-    ti = seen-taken v (w .facts-v) s i (x .seen-v)
+    ti = seen-taken v s i (x .seen-v)
 
     tj : So (taken u j)
-    tj = seen-taken u (w .facts-u) r j (x .seen-u)
+    tj = seen-taken u r j (x .seen-u)
 
     oi : i ≡ k → ⊥
     oi = old v (w .facts-v) c n k nv tn i ti
@@ -188,7 +189,7 @@ module _ (v u : View) (s r : ℕ) (w : Pair v u s r) (c d n m k l : ℕ) (tc : T
         go false h = rw (not-init v (w .facts-v) i ti h, not-init u (w .facts-u) j tj (sym (own-alive v u s r w i j x) ∙ h)) refl
 
     parent-old : (y : View) (f : Facts y) (e k′ : ℕ) → taken y k′ ≡ false → k′ < process-slots → So (taken y e) → y .parent e ≡ k′ → ⊥
-    parent-old y f e k′ no-one lt t q = zero-or e (λ z. omega (arith, lt, f .root-parent, ap (y .parent) z, q)) (λ z. no-so no-one (subst (λ x. So (taken y x)) q (living-taken y f _ (parent-living y f e t z))))
+    parent-old y f e k′ no-one lt t q = zero-or e (λ z. omega (arith, lt, f .root-parent, ap (y .parent) z, q)) (λ z. no-so no-one (subst (λ x. So (taken y x)) q (lives-taken y _ (parent-living y f e t z))))
 
     old-rows : row v′ s i ≡ row u′ r j
     unfolding row
@@ -226,7 +227,7 @@ module _ (v u : View) (s r : ℕ) (w : Pair v u s r) (c d n m k l : ℕ) (tc : T
       let ek = eq-eqb k k refl in
       let el = eq-eqb l l refl in
       row-by v′ u′ s r k l new-pids (rw (ek, el)) (rw (ek, el)) (rw (ek, el)) (rw (ek, el))
-      (rw (ek, el) (pid-in-grown v (w .facts-v) c n k nv tn s c (old v (w .facts-v) c n k nv tn c (seen-taken v (w .facts-v) s c (tc .seen-v))) ∙ pid-in-seen v s c (tc .seen-v) ∙ tc .pids ∙ sym (pid-in-grown u (w .facts-u) d m l nu tm r d (old u (w .facts-u) d m l nu tm d (seen-taken u (w .facts-u) r d (tc .seen-u))) ∙ pid-in-seen u r d (tc .seen-u))))
+      (rw (ek, el) (pid-in-grown v (w .facts-v) c n k nv tn s c (old v (w .facts-v) c n k nv tn c (seen-taken v s c (tc .seen-v))) ∙ pid-in-seen v s c (tc .seen-v) ∙ tc .pids ∙ sym (pid-in-grown u (w .facts-u) d m l nu tm r d (old u (w .facts-u) d m l nu tm d (seen-taken u r d (tc .seen-u))) ∙ pid-in-seen u r d (tc .seen-u))))
       (rw (ek, el) cradle-name) (rw (ek, el) cradle-name) new-last
 
   pub birth-same : Same v′ u′ s r
@@ -241,10 +242,10 @@ module _ (v u : View) (s r : ℕ) (w : Pair v u s r) (c d n m k l : ℕ) (tc : T
       there-case i h (yes e) = (l, child-seen u (w .facts-u) d m l nu tm r bm, ap (row v′ s) e ∙ new-rows)
       there-case i h (no o) =
           let (j, x) = twin-there v u s r w i (sym (seen-grown v (w .facts-v) c n k nv tn s i o) ∙ h) in
-          (j, seen-grown u (w .facts-u) d m l nu tm r j (old u (w .facts-u) d m l nu tm j (seen-taken u (w .facts-u) r j (x .seen-u))) ∙ x .seen-u, old-rows i j x)
+          (j, seen-grown u (w .facts-u) d m l nu tm r j (old u (w .facts-u) d m l nu tm j (seen-taken u r j (x .seen-u))) ∙ x .seen-u, old-rows i j x)
 
       back-case : (j : ℕ) → So (seen u′ r j) → Dec (j ≡ l) → (i : ℕ) × So (seen v′ s i) × (row v′ s i ≡ row u′ r j)
       back-case j h (yes e) = (k, child-seen v (w .facts-v) c n k nv tn s bn, new-rows ∙ sym (ap (row u′ r) e))
       back-case j h (no o) =
           let (i, x) = twin-there u v r s (flip-pair v u s r w) j (sym (seen-grown u (w .facts-u) d m l nu tm r j o) ∙ h) in
-          (i, seen-grown v (w .facts-v) c n k nv tn s i (old v (w .facts-v) c n k nv tn i (seen-taken v (w .facts-v) s i (x .seen-u))) ∙ x .seen-u, old-rows i j (flip-twin u v r s j i x))
+          (i, seen-grown v (w .facts-v) c n k nv tn s i (old v (w .facts-v) c n k nv tn i (seen-taken v s i (x .seen-u))) ∙ x .seen-u, old-rows i j (flip-twin u v r s j i x))

@@ -8,11 +8,11 @@ use borrow.Author.Tests.{ne-eqb, le-leb, eq-eqb}
 use lib.Dec.{eqb}
 use Rattle.table.proofs.Keeps.Birth.{with-born}
 use Rattle.table.proofs.Keeps.NewPid.{next-fresh}
-use Rattle.table.proofs.Laws.Below.{above-is}
+use Rattle.table.proofs.Laws.Below.{above-is, up-level, below-level}
 use Rattle.table.proofs.Laws.Cases.{no-so, isnt-so}
 use Rattle.table.proofs.Laws.Facts.{Facts}
 use Rattle.table.proofs.Laws.Quant.{both}
-use Rattle.table.proofs.Laws.Slots.{up-level, namespace-lt, below-level, below-same, below-up-by, up-by-level, up-by-end, init-taken, alive-not-unborn, no-heirs}
+use Rattle.table.proofs.Laws.Slots.{below-same, below-up-by, up-by-level, up-by-end, init-taken, alive-not-unborn, no-heirs}
 use Rattle.table.proofs.Laws.Tree.{below-refl}
 use Rattle.table.proofs.Sameness.Anchor.{anchor, anchor-alive}
 use Rattle.table.proofs.Sameness.Twins.{pid-in-seen}
@@ -123,7 +123,7 @@ module _ (v : View) (f : Facts v) (c n k : ℕ) (new : taken v k ≡ false) (tn 
 
   pub name-other : (s m : ℕ) → So (namespace-taken v m) → So (unborn v m) → (n ≡ m → ⊥) → name v′ s m ≡ unborn-name
   unfolding name name-by
-  name-other s m ht h o = rw (ne-eqb m no-slot (λ e. omega (arith, namespace-lt v f m ht)), life-other m h o, is-unborn-life (v .life m) h) refl
+  name-other s m ht h o = rw (ne-eqb m no-slot (λ e. omega (arith, f .in-namespace m ht)), life-other m h o, is-unborn-life (v .life m) h) refl
     where
       is-unborn-life : (l : Life) → So (is-unborn l) → l ≡ Unborn
       is-unborn-life Unborn z = refl
@@ -133,5 +133,5 @@ module _ (v : View) (f : Facts v) (c n k : ℕ) (new : taken v k ≡ false) (tn 
   pub name-new : (s : ℕ) → So (unborn v n) → So (below v n s) → name v′ s n ≡ by-init (next-pid v s)
   unfolding name name-by
   name-new s h b =
-      rw (ne-eqb n no-slot (λ e. omega (arith, namespace-lt v f n tn)), life-new h)
+      rw (ne-eqb n no-slot (λ e. omega (arith, f .in-namespace n tn)), life-new h)
       (ap by-init (pid-in-seen v′ s k (child-seen s b) ∙ child-pid-in s b))

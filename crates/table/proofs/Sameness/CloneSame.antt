@@ -7,10 +7,11 @@ use borrow.Author.Tests.{eqb-true, eqb-false, eq-eqb}
 use lib.Dec.{eqb}
 use Rattle.table.proofs.Keeps.BirthKeeps.{birth-view}
 use Rattle.table.proofs.Keeps.Premises.{free-slot-is}
+use Rattle.table.proofs.Laws.Below.{up-level, below-trans}
 use Rattle.table.proofs.Laws.Cases.{isnt-so}
-use Rattle.table.proofs.Laws.Facts.{Facts, facts, Sane, sane}
+use Rattle.table.proofs.Laws.Facts.{Facts, facts, Sane, sane, seen-taken, seen-below}
 use Rattle.table.proofs.Laws.Quant.{or-true}
-use Rattle.table.proofs.Laws.Slots.{seen-taken, seen-below, below-trans, alive-otherwise, root-only, up-level, alive-not-unborn}
+use Rattle.table.proofs.Laws.Slots.{alive-otherwise, root-only, alive-not-unborn}
 use Rattle.table.proofs.Sameness.Anchor.{anchor-self, root-alive, is-unborn-name, is-dead-name, name-taken}
 use Rattle.table.proofs.Sameness.BirthPids.{Cradles}
 use Rattle.table.proofs.Sameness.BirthSame.{birth-same}
@@ -74,10 +75,10 @@ module _ (t u : Table) (s r c d : ℕ) (w : Ready t u s r c d) where
   hm = children-taken (view u) fu d ld
 
   bn : So (below (view t) (view t .children c) s)
-  bn = below-trans (view t) ft _ _ s (children-below (view t) ft c lc) (seen-below (view t) ft s c (w .twin .seen-v))
+  bn = below-trans (view t) ft _ _ s (children-below (view t) ft c lc) (seen-below (view t) s c (w .twin .seen-v))
 
   bm : So (below (view u) (view u .children d) r)
-  bm = below-trans (view u) fu _ _ r (children-below (view u) fu d ld) (seen-below (view u) fu r d (w .twin .seen-u))
+  bm = below-trans (view u) fu _ _ r (children-below (view u) fu d ld) (seen-below (view u) r d (w .twin .seen-u))
 
   names : name (view t) s (view t .children c) ≡ name (view u) r (view u .children d)
   unfolding row
@@ -91,10 +92,10 @@ module _ (t u : Table) (s r c d : ℕ) (w : Ready t u s r c d) where
   unborns = sym (name-unborn (view t) ft s _ hn) ∙ ap is-unborn-name names ∙ name-unborn (view u) fu r _ hm
 
   tc : So (taken (view t) c)
-  tc = seen-taken (view t) ft s c (w .twin .seen-v)
+  tc = seen-taken (view t) s c (w .twin .seen-v)
 
   td : So (taken (view u) d)
-  td = seen-taken (view u) fu r d (w .twin .seen-u)
+  td = seen-taken (view u) r d (w .twin .seen-u)
 
   cradles : dead (view t) (view t .children c) ≡ false → Cradles (view t) (view u) s r (view t .children c) (view u .children d)
   cradles nd = go (unborn (view t) (view t .children c)) refl
@@ -120,8 +121,8 @@ module _ (t u : Table) (s r c d : ℕ) (w : Ready t u s r c d) where
   holders : (i j : ℕ) → Twin (view t) (view u) s r i j → So (unborn (view t) (view t .children c)) → eqb (view t .children i) (view t .children c) ≡ eqb (view u .children j) (view u .children d)
   holders i j x h =
       let h′ = sym unborns ∙ h in
-      let ti = seen-taken (view t) ft s i (x .seen-v) in
-      let tj = seen-taken (view u) fu r j (x .seen-u) in
+      let ti = seen-taken (view t) s i (x .seen-v) in
+      let tj = seen-taken (view u) r j (x .seen-u) in
       let e = twin-eqb (view t) (view u) s r (w .pair) i j c d x (w .twin) in
       bool-ext _ _
       (λ q. eq-eqb _ _ (ap (view u .children) (eqb-true j d (sym e ∙ eq-eqb i c (ft .unborn-one _ hn h i c ti (eqb-true _ _ q) tc refl)))))

@@ -10,9 +10,10 @@ use borrow.Author.Tests.{eqb-true, eq-eqb, le-leb, lt-ltb}
 use lib.Dec.{eqb}
 use Rattle.table.proofs.Keeps.Changed.{process-count}
 use Rattle.table.proofs.Keeps.Deliver.{Good, action-good, act-sane}
-use Rattle.table.proofs.Laws.Facts.{Facts, Sane}
+use Rattle.table.proofs.Laws.Below.{below-taken, below-level}
+use Rattle.table.proofs.Laws.Facts.{Facts, Sane, lives-taken}
 use Rattle.table.proofs.Laws.Quant.{left, right, both, or-true}
-use Rattle.table.proofs.Laws.Slots.{slot-lt, living-own-alive, living-taken, root-only, below-taken, own-taken, below-level, root-own, level-of-root}
+use Rattle.table.proofs.Laws.Slots.{living-own-alive, root-only, own-taken}
 use Rattle.table.proofs.Sameness.Calls.{Shown, shown, same-put}
 use Rattle.table.proofs.Sameness.Light.{relight, Placed, put-light, put-other}
 use Rattle.table.proofs.Sameness.Readers.{is-init-twins, living-twins}
@@ -125,7 +126,7 @@ module _ (t u : Table) (s r f g : ℕ) (w : Held t u s r f g) (x y : ℕ) (k : T
       fits-u = fu;
       alive-s = w .alive-s;
       alive-r = w .alive-r;
-      same = same-put t u s r x y z k (omega (arith, process-count t (w .fits-t .shape-of), slot-lt (view t) (w .fits-t .facts) x (living-taken (view t) (w .fits-t .facts) x lx))) (omega (arith, process-count u (w .fits-u .shape-of), slot-lt (view u) (w .fits-u .facts) y (living-taken (view u) (w .fits-u .facts) y ly))) p q a b h;
+      same = same-put t u s r x y z k (omega (arith, process-count t (w .fits-t .shape-of), w .fits-t .facts .in-range x (lives-taken (view t) x lx))) (omega (arith, process-count u (w .fits-u .shape-of), w .fits-u .facts .in-range y (lives-taken (view u) y ly))) p q a b h;
       from = light-twins (view t) (view u) (view (put t x p)) (view (put u y q)) s r (put-light t x p a) (put-light u y q b) f g (w .from);
     },
     λ i j. elim [
@@ -191,7 +192,7 @@ root-safe : (v : View) (h : Facts v) (f x : ℕ) → So (seen v f x) → x ≡ 0
 unfolding seen
 root-safe v h f x k z =
     let b : So (below v (v .own x) f) = right _ _ k in
-    root-only v h f (below-taken v h (v .own x) f (own-taken v h x (left _ _ k)) b) (omega (arith, below-level v h (v .own x) f b, ap (v .level) (ap (v .own) z ∙ root-own v h), level-of-root v h))
+    root-only v h f (below-taken v h (v .own x) f (own-taken v h x (left _ _ k)) b) (omega (arith, below-level v h (v .own x) f b, ap (v .level) (ap (v .own) z ∙ h .root-own), h .root-level))
 
 module _ (ends : EndSame) (t u : Table) (s r f g : ℕ) (w : Held t u s r f g) (x y n : ℕ) (low : n < signals) (k : Twin (view t) (view u) s r x y) (hx : So (seen (view t) f x)) (lx : So (living (view t) x)) where
   z : Shown t u s r (process t x) (process u y)

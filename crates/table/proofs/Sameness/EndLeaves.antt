@@ -11,10 +11,11 @@ use lib.IntN.{ℤ}
 use Rattle.table.proofs.Keeps.End.{end-view, end-sane}
 use Rattle.table.proofs.Keeps.FreedKeeps.{freed-view}
 use Rattle.table.proofs.Keeps.InitEnds.{gone, subtree-gone}
+use Rattle.table.proofs.Laws.Below.{up-level, below-level, below-trans}
 use Rattle.table.proofs.Laws.Cases.{no-so, isnt-so, choose}
-use Rattle.table.proofs.Laws.Facts.{Facts, facts, Sane, sane}
+use Rattle.table.proofs.Laws.Facts.{Facts, facts, Sane, sane, seen-below, lives-taken}
 use Rattle.table.proofs.Laws.Quant.{right, both, cases, any-intro, isnt}
-use Rattle.table.proofs.Laws.Slots.{namespace-lt, seen-below, own-taken, up-level, below-level, below-same, below-parent, below-trans, init-own, living-own-alive, living-taken}
+use Rattle.table.proofs.Laws.Slots.{own-taken, below-same, below-parent, init-own, living-own-alive}
 use Rattle.table.proofs.Laws.Steps.{remainder}
 use Rattle.table.proofs.Laws.Tree.{below-refl}
 use Rattle.table.proofs.Sameness.ExitSame.{runs-living}
@@ -108,7 +109,7 @@ module _ (v : View) (f : Facts v) (x : ℕ) (e : End) (tx : So (taken v x)) (s :
   disjoint m a b = ⊎-elim (λ k. no-so n k) (λ k. no-so o (both _ _ tx k)) (either-below v f m s (v .own x) a b)
 
   spared : (i : ℕ) → So (seen v s i) → seen v (v .own x) i ≡ false
-  spared i k = isnt-so (λ q. disjoint (v .own i) (seen-below v f s i k) (seen-below v f (v .own x) i q))
+  spared i k = isnt-so (λ q. disjoint (v .own i) (seen-below v s i k) (seen-below v (v .own x) i q))
 
   not-gone : (i : ℕ) → So (seen v s i) → gone v (v .own x) i ≡ false
   not-gone i k = isnt _ (not-seen-stays v x i (spared i k))
@@ -146,7 +147,7 @@ module _ (v : View) (f : Facts v) (x : ℕ) (e : End) (tx : So (taken v x)) (s :
 
 pub end-still : (t : Table) (w : Sane t) (x : ℕ) (e : End) → So (living (view t) x) → (s : ℕ) → seen (view t) s x ≡ false → (So (is-init (view t) x) → below (view t) s (view t .own x) ≡ false) → Still (view t) (view (end t x e)) s (near (view t) s)
 end-still t w x e l s o n =
-    let tx = living-taken (view t) (w .facts) x l in
+    let tx = lives-taken (view t) x l in
     subst (λ u. Still (view t) u s (near (view t) s)) (sym (end-view t w x e tx))
     (choose (λ u. Still (view t) u s (near (view t) s)) (is-init (view t) x) (λ q. init-still (view t) (w .facts) x e tx s o (n q)) (λ q. member-still (view t) (w .facts) x e (living-own-alive (view t) (w .facts) x l) tx s o))
 
@@ -202,13 +203,13 @@ exit-leaves z t s i h hs k a g = go (eqb i 0) refl g
         no-touch = untouched-made t s i (Exit z) h k a (answers (freed t₁) 0) (rw (q, exit) refl) refl
 
         own-not : view t .own i ≡ s → ⊥
-        own-not m = not-own t s i (living-taken (view t) (facts t h) i li) o m
+        own-not m = not-own t s i (lives-taken (view t) i li) o m
 
         not-above : So (is-init (view t) i) → below (view t) s (view t .own i) ≡ false
         not-above m =
             isnt-so
-            (λ b. lives-on t (freed t₁) s no-touch (view t .own i) (namespace-lt (view t) (facts t h) _ (own-taken (view t) (facts t h) i (living-taken (view t) (facts t h) i li))) own-not b (living-own-alive (view t) (facts t h) i li)
-            (isnt-so (λ y. false≢true (sym (end-dies t (sane t h) i e (living-taken (view t) (facts t h) i li) m) ∙ freed-back t₁ (end-sane t (sane t h) i e li (eqb-false _ _ q) (remainder z)) (view t .own i) y))))
+            (λ b. lives-on t (freed t₁) s no-touch (view t .own i) (facts t h .in-namespace _ (own-taken (view t) (facts t h) i (lives-taken (view t) i li))) own-not b (living-own-alive (view t) (facts t h) i li)
+            (isnt-so (λ y. false≢true (sym (end-dies t (sane t h) i e (lives-taken (view t) i li) m) ∙ freed-back t₁ (end-sane t (sane t h) i e li (eqb-false _ _ q) (remainder z)) (view t .own i) y))))
 
         still : Still (view t) (view t₁) s (near (view t) s)
         still = end-still t (sane t h) i e li s o not-above

@@ -8,9 +8,10 @@ use borrow.Author.Tests.{eq-eqb}
 use lib.Dec.{eqb}
 use Rattle.table.proofs.Keeps.End.{ended-view, end-view, end-sane}
 use Rattle.table.proofs.Keeps.InitEnds.{subtree-gone, gone}
+use Rattle.table.proofs.Laws.Below.{below-level}
 use Rattle.table.proofs.Laws.Cases.{false-and, no-so, isnt-so, and-false, choose}
-use Rattle.table.proofs.Laws.Facts.{Facts}
-use Rattle.table.proofs.Laws.Slots.{living-own-alive, living-taken, below-level, seen-below, below-same}
+use Rattle.table.proofs.Laws.Facts.{Facts, seen-below, lives-taken}
+use Rattle.table.proofs.Laws.Slots.{living-own-alive, below-same}
 use Rattle.table.proofs.Sameness.DeliverSame.{EndSame, pair-of, Target}
 use Rattle.table.proofs.Sameness.InitEnd.{fallen-shape, both-stay, init-same, stays, init-stays}
 use Rattle.table.proofs.Sameness.MemberEnd.{member-remain, member-same, member-of}
@@ -108,7 +109,7 @@ module _ (v u : View) (s r f g x y : ℕ) (e : End) (p : Pair v u s r) (from : T
 
   module _ (other : v .own x ≡ f → ⊥) where
     pub deeper : v .level f < v .level (v .own x)
-    deeper = lt-of (below-level v (p .facts-v) _ f (seen-below v (p .facts-v) f x sx)) (λ q. other (below-same v (p .facts-v) _ f (seen-below v (p .facts-v) f x sx) q))
+    deeper = lt-of (below-level v (p .facts-v) _ f (seen-below v f x sx)) (λ q. other (below-same v (p .facts-v) _ f (seen-below v f x sx) q))
       where
         lt-of : v .level f ≤ v .level (v .own x) → (v .level (v .own x) ≡ v .level f → ⊥) → v .level f < v .level (v .own x)
         lt-of l m = omega arith
@@ -172,10 +173,10 @@ end-same t u s r f g x y e w k sx lx ok other =
     lives = living-own-alive (view t) (w .fits-t .facts) x lx
 
     ev : view (end t x e) ≡ ended-view (view t) x e
-    ev = end-view t (w .fits-t) x e (living-taken (view t) (w .fits-t .facts) x lx)
+    ev = end-view t (w .fits-t) x e (lives-taken (view t) x lx)
 
     eu : view (end u y e) ≡ ended-view (view u) y e
-    eu = end-view u (w .fits-u) y e (living-taken (view u) (w .fits-u .facts) y ly)
+    eu = end-view u (w .fits-u) y e (lives-taken (view u) y ly)
 
     both-init : is-init (view t) x ≡ is-init (view u) y
     both-init = is-init-twins (view t) (view u) s r pr x y k lives

@@ -10,9 +10,10 @@ use lib.Dec.{eqb}
 use lib.IntN.{ℤ}
 use Rattle.table.proofs.Keeps.End.{end-sane, end-tree, end-view}
 use Rattle.table.proofs.Keeps.InitEnds.{subtree-gone}
-use Rattle.table.proofs.Laws.Facts.{Facts, Sane, sane}
+use Rattle.table.proofs.Laws.Below.{below-level, up-level}
+use Rattle.table.proofs.Laws.Facts.{Facts, Sane, sane, seen-taken, seen-below}
 use Rattle.table.proofs.Laws.Quant.{left, right, both}
-use Rattle.table.proofs.Laws.Slots.{seen-below, alive-taken, init-pid, init-own, root-own, root-only, level-of-root, below-level, pid-unique, up-level, alive-up, init-seen, seen-taken}
+use Rattle.table.proofs.Laws.Slots.{alive-taken, init-pid, init-own, root-only, pid-unique, alive-up, init-seen}
 use Rattle.table.proofs.Laws.Steps.{remainder}
 use Rattle.table.proofs.Laws.Tree.{below-refl}
 use Rattle.table.proofs.Sameness.Calls.{both-refuse, owns-twins, own-lives, taken-s, taken-r}
@@ -66,7 +67,7 @@ zero-there v u s r w i j k z =
     pid-unique u (w .facts-u) r j 0 (alive-taken u (w .facts-u) r (w .alive-u)) (k .seen-u) zero-seen (sym (k .pids) ∙ one ∙ sym one′)
   where
     level-s : v .level s ≡ 0
-    level-s = omega (arith, below-level v (w .facts-v) (v .own i) s (seen-below v (w .facts-v) s i (k .seen-v)), ap (λ x. v .level (v .own x)) z ∙ ap (v .level) (root-own v (w .facts-v)) ∙ level-of-root v (w .facts-v))
+    level-s = omega (arith, below-level v (w .facts-v) (v .own i) s (seen-below v s i (k .seen-v)), ap (λ x. v .level (v .own x)) z ∙ ap (v .level) (w .facts-v .root-own) ∙ w .facts-v .root-level)
 
     r-root : r ≡ 0
     r-root = root-only u (w .facts-u) r (alive-taken u (w .facts-u) r (w .alive-u)) (omega (arith, w .same .levels, level-s))
@@ -75,7 +76,7 @@ zero-there v u s r w i j k z =
     one = ap₂ (λ x y. v .pid x y) z level-s ∙ root-pid v (w .facts-v)
 
     one′ : u .pid 0 (u .level r) ≡ 1
-    one′ = ap (λ x. u .pid 0 x) (ap (u .level) r-root ∙ level-of-root u (w .facts-u)) ∙ root-pid u (w .facts-u)
+    one′ = ap (λ x. u .pid 0 x) (ap (u .level) r-root ∙ w .facts-u .root-level) ∙ root-pid u (w .facts-u)
 
     zero-seen : So (seen u r 0)
     zero-seen = subst₂ (λ x y. So (seen u x y)) (sym r-root) (w .facts-u .root-init) (init-seen u (w .facts-u) 0 0 (subst (λ x. So (alive u x)) r-root (w .alive-u)) (below-refl u 0))
@@ -134,10 +135,10 @@ module _ (t u : Table) (s r c d : ℕ) (w : Ready t u s r c d) (e : End) (ok : S
       p = w .pair
 
       tc : So (taken (view t) c)
-      tc = seen-taken (view t) (p .facts-v) s c (w .twin .seen-v)
+      tc = seen-taken (view t) s c (w .twin .seen-v)
 
       td : So (taken (view u) d)
-      td = seen-taken (view u) (p .facts-u) r d (w .twin .seen-u)
+      td = seen-taken (view u) r d (w .twin .seen-u)
 
       ft : Sane (end t c e)
       ft = end-sane t (held .fits-t) c e (runs-living t c (w .runs-t)) nc ok

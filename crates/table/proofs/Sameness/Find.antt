@@ -8,10 +8,10 @@ use mathlib.Core.Logic.{_⊎_, inl, inr}
 use mathlib.Core.Path.{_≡_, refl, sym, _∙_, ap, subst}
 use borrow.Author.Tests.{eq-eqb, eqb-true}
 use lib.Dec.{eqb}
-use Rattle.table.proofs.Laws.Facts.{Facts}
+use Rattle.table.proofs.Laws.Facts.{Facts, seen-taken}
 use Rattle.table.proofs.Laws.Lists.{In, in-map}
 use Rattle.table.proofs.Laws.Quant.{left, right, both}
-use Rattle.table.proofs.Laws.Slots.{slot-lt, seen-taken, pid-unique}
+use Rattle.table.proofs.Laws.Slots.{pid-unique}
 use Rattle.table.proofs.Sameness.Same.{Same, same-of-sheets, row-key, level-lt, key, seen-listed}
 use Rattle.table.specs.Limits.{levels, process-slots}
 use Rattle.table.specs.Read.{View, all-seen, find, namespace-taken, pid-seen, seen}
@@ -58,7 +58,7 @@ find-seen v f n i t h = go (find-cases v n (pid-seen v n i))
   where
     go : Found v n (pid-seen v n i) (find v n (pid-seen v n i)) → find v n (pid-seen v n i) ≡ i
     go (inl (s, e, l)) = pid-unique v f n _ i t s h e
-    go (inr (e, no-one)) = absurd (no-one i (slot-lt v f i (seen-taken v f n i h)) h refl)
+    go (inr (e, no-one)) = absurd (no-one i (f .in-range i (seen-taken v n i h)) h refl)
 
 -- ---- with equal sheets
 
@@ -80,8 +80,8 @@ find-same v u s r k h g hs hr e = go (find-cases v s k) (find-cases u r k)
 
     go : Found v s k (find v s k) → Found u r k (find u r k) → ((find v s k ≡ process-slots) × (find u r k ≡ process-slots)) ⊎ Callers v u s r (find v s k) (find u r k)
     go (inl (a, b, c)) (inl (x, y, z)) = inr (record { seen-t = a; seen-u = x; pids = b ∙ sym y; lt-t = c; lt-u = z })
-    go (inl (a, b, c)) (inr (x, y)) = let (j, m, q) = w .there _ a in absurd (y j (slot-lt u g j (seen-taken u g r j m)) m (sym (row-pid v u s r _ j (level-lt v h s hs) (level-lt u g r hr) q) ∙ b))
-    go (inr (a, b)) (inl (x, y, z)) = let (i, m, q) = w .back _ x in absurd (b i (slot-lt v h i (seen-taken v h s i m)) m (row-pid v u s r i _ (level-lt v h s hs) (level-lt u g r hr) q ∙ y))
+    go (inl (a, b, c)) (inr (x, y)) = let (j, m, q) = w .there _ a in absurd (y j (g .in-range j (seen-taken u r j m)) m (sym (row-pid v u s r _ j (level-lt v h s hs) (level-lt u g r hr) q) ∙ b))
+    go (inr (a, b)) (inl (x, y, z)) = let (i, m, q) = w .back _ x in absurd (b i (h .in-range i (seen-taken v s i m)) m (row-pid v u s r i _ (level-lt v h s hs) (level-lt u g r hr) q ∙ y))
     go (inr (a, b)) (inr (x, y)) = inl (a, x)
 
 -- A sheet with no rows has nobody to find.

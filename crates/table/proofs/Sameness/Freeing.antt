@@ -7,11 +7,12 @@ use mathlib.Core.Path.{_≡_, refl, sym, _∙_, ap, subst}
 use borrow.Author.Tests.{eqb-true}
 use Rattle.table.proofs.Keeps.Freed.{restrict, kept-up, kept-children, kept-own, kept-by, kept-root}
 use Rattle.table.proofs.Keeps.FreedKeeps.{freed-view, freed-keeps}
+use Rattle.table.proofs.Laws.Below.{deep-namespace, not-root}
 use Rattle.table.proofs.Laws.Cases.{isnt-so, no-so}
-use Rattle.table.proofs.Laws.Facts.{Facts, facts, Sane}
+use Rattle.table.proofs.Laws.Facts.{Facts, facts, Sane, seen-taken, seen-below}
 use Rattle.table.proofs.Laws.Lists.{In}
 use Rattle.table.proofs.Laws.Quant.{cases}
-use Rattle.table.proofs.Laws.Slots.{seen-taken, children-of, level-taken, not-root, seen-below, init-own, alive-taken, init-taken}
+use Rattle.table.proofs.Laws.Slots.{children-of, init-own, alive-taken, init-taken}
 use Rattle.table.proofs.Sameness.Anchor.{name-no-slot}
 use Rattle.table.proofs.Sameness.Remain.{Remain, lit, row-remain, seen-remain, pid-in-remain, name-remain, everyone}
 use Rattle.table.proofs.Sameness.Same.{Same, sheets-of-same, listed-seen}
@@ -38,7 +39,7 @@ module _ (v : View) (f : Facts v) where
         ups = λ n k. rw k;
         levels = λ n k. rw k;
         lives = λ n k. rw k;
-        up-kept = λ n k h e. kept-up v f n (level-taken v f n k e) (not-root v f n k e) h;
+        up-kept = λ n k h e. kept-up v f n (deep-namespace v n k e) (not-root v f n k e) h;
         own-kept = λ i q t. kept-own v f i t;
         init-kept = λ n k a. refl;
       }
@@ -63,8 +64,8 @@ module _ (v : View) (f : Facts v) where
     same-freed ks =
         record {
           levels = rw ks;
-          there = λ i k. let q = sym (seen-freed s i) ∙ k in (i, q, row-freed s i ks (seen-taken v f s i q));
-          back = λ i k. (i, seen-freed s i ∙ k, row-freed s i ks (seen-taken v f s i k));
+          there = λ i k. let q = sym (seen-freed s i) ∙ k in (i, q, row-freed s i ks (seen-taken v s i q));
+          back = λ i k. (i, seen-freed s i ∙ k, row-freed s i ks (seen-taken v s i k));
         }
 
     stands-freed : So (kept v s) → So (namespace-taken v s) → So (namespace-taken w s)
@@ -77,7 +78,7 @@ module _ (v : View) (f : Facts v) where
     gone-freed k = rw k (isnt-so (λ h. ⊎-elim (λ z. no-so k (subst (λ n. So (kept v n)) (sym (eqb-true s 0 z)) (kept-root v f))) (λ z. false≢true z) (cases _ _ h)))
 
     nobody-freed : kept v s ≡ false → (i : ℕ) → So (seen v s i) → ⊥
-    nobody-freed k i h = no-so k (kept-by v f s i (seen-taken v f s i h) (inl (seen-below v f s i h)))
+    nobody-freed k i h = no-so k (kept-by v f s i (seen-taken v s i h) (inl (seen-below v s i h)))
 
     -- a living namespace is kept
     alive-kept : So (alive v s) → So (kept v s)

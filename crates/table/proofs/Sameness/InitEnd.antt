@@ -6,10 +6,11 @@ use mathlib.Core.Path.{_≡_, refl, sym, _∙_, ap, ap₂, subst, fun-ext}
 use borrow.Author.Tests.{ne-eqb}
 use lib.Dec.{eqb}
 use Rattle.table.proofs.Keeps.InitEnds.{subtree-gone, gone}
+use Rattle.table.proofs.Laws.Below.{below-trans}
 use Rattle.table.proofs.Laws.Cases.{isnt-so, no-so, false-and}
-use Rattle.table.proofs.Laws.Facts.{Facts}
+use Rattle.table.proofs.Laws.Facts.{Facts, seen-taken, seen-below}
 use Rattle.table.proofs.Laws.Quant.{right, both, isnt, isnt-not}
-use Rattle.table.proofs.Laws.Slots.{seen-taken, seen-below, own-taken, below-trans, init-own, child-seen}
+use Rattle.table.proofs.Laws.Slots.{own-taken, init-own, child-seen}
 use Rattle.table.proofs.Sameness.Anchor.{anchor, is-unborn-name, name-no-slot}
 use Rattle.table.proofs.Sameness.Namespaces.{children-taken, children-below, name-unborn, unborn-outside, anchors-of, below-named, level-named, parent-in-twins}
 use Rattle.table.proofs.Sameness.Readers.{twin-eqb, ended-twins}
@@ -119,10 +120,10 @@ module _ (v u : View) (s r : ℕ) (p : Pair v u s r) (x y : ℕ) (e : End) (k : 
 
   module _ (i j : ℕ) (m : Twin v u s r i j) (q : So (stays v x i)) where
     ti : So (taken v i)
-    ti = seen-taken v (p .facts-v) s i (m .seen-v)
+    ti = seen-taken v s i (m .seen-v)
 
     tj : So (taken u j)
-    tj = seen-taken u (p .facts-u) r j (m .seen-u)
+    tj = seen-taken u r j (m .seen-u)
 
     qj : So (stays u y j)
     qj = sym (both-stay i j m) ∙ q
@@ -171,8 +172,8 @@ module _ (v u : View) (s r : ℕ) (p : Pair v u s r) (x y : ℕ) (e : End) (k : 
         anchored : unborn v (v .children i) ≡ false → Twins v u s r (anchor v (v .children i)) (anchor u (u .children j))
         anchored z =
             anchors-of v u s r p _ _ names hi hj
-            (below-trans v (p .facts-v) _ _ s (children-below v (p .facts-v) i li) (seen-below v (p .facts-v) s i (m .seen-v)))
-            (below-trans u (p .facts-u) _ _ r (children-below u (p .facts-u) j lj) (seen-below u (p .facts-u) r j (m .seen-u)))
+            (below-trans v (p .facts-v) _ _ s (children-below v (p .facts-v) i li) (seen-below v s i (m .seen-v)))
+            (below-trans u (p .facts-u) _ _ r (children-below u (p .facts-u) j lj) (seen-below u r j (m .seen-u)))
             z (sym same-unborn ∙ z)
 
         go : (b : Bool) → unborn v (v .children i) ≡ b → name v′ s (v .children i) ≡ name u′ r (u .children j)

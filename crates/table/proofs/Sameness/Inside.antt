@@ -4,10 +4,10 @@ use mathlib.Core.Bool.{Bool, true, false, not, So, false≢true}
 use mathlib.Core.Logic.{_⊎_, inr}
 use mathlib.Core.Path.{_≡_, refl, sym, _∙_, ap}
 use Rattle.table.proofs.Keeps.Changes.{make-sound}
-use Rattle.table.proofs.Laws.Facts.{facts}
+use Rattle.table.proofs.Laws.Facts.{facts, seen-taken, seen-below}
 use Rattle.table.proofs.Laws.Quant.{left, right, both}
+use Rattle.table.proofs.Laws.Slots.{living-own-alive, alive-above}
 use Rattle.table.proofs.Laws.Slots.{pid-unique}
-use Rattle.table.proofs.Laws.Slots.{seen-taken, seen-below, living-own-alive, alive-above}
 use Rattle.table.proofs.Laws.Steps.{step-made, step-refused}
 use Rattle.table.proofs.Sameness.Find.{row-pid}
 use Rattle.table.proofs.Sameness.Glue.{InsideSame, follow-self}
@@ -68,12 +68,12 @@ runs-living v i h k = both _ _ (left _ _ h) (ap not (go (v .state i) refl (right
 
 runs-alive : (t : Table) (s i : ℕ) → SoundTable t → So (seen (view t) s i) → So (runs (view t) i) → So (alive (view t) s)
 runs-alive t s i h k a =
-    alive-above (view t) (facts t h) (view t .own i) s (living-own-alive (view t) (facts t h) i (runs-living (view t) i a (λ x e. ap is-ended e))) (seen-below (view t) (facts t h) s i k)
+    alive-above (view t) (facts t h) (view t .own i) s (living-own-alive (view t) (facts t h) i (runs-living (view t) i a (λ x e. ap is-ended e))) (seen-below (view t) s i k)
 
 runs-same : (t u : Table) (s r i j : ℕ) → SoundTable t → SoundTable u → So (seen (view t) s i) → So (seen (view u) r j) → row (view t) s i ≡ row (view u) r j → runs (view t) i ≡ runs (view u) j
 unfolding runs row
 runs-same t u s r i j h g a b e =
-    rw (seen-taken (view t) (facts t h) s i a, seen-taken (view u) (facts u g) r j b) (ap (λ (q : Row). true and is-running (q .state)) e)
+    rw (seen-taken (view t) s i a, seen-taken (view u) r j b) (ap (λ (q : Row). true and is-running (q .state)) e)
 
 pub inside-same : ((c : Call) → MadeSame c) → InsideSame
 unfolding InsideSame MadeSame

@@ -10,10 +10,10 @@ use Rattle.table.proofs.Keeps.Deliver.{Safe, deliver-sane, Good, action
 use Rattle.table.proofs.Keeps.End.{end-view}
 use Rattle.table.proofs.Keeps.Premises.{natural-low, targets-safe}
 use Rattle.table.proofs.Laws.Cases.{isnt-so}
-use Rattle.table.proofs.Laws.Facts.{Facts, facts, Sane, sane}
+use Rattle.table.proofs.Laws.Facts.{Facts, facts, Sane, sane, lives-taken}
 use Rattle.table.proofs.Laws.Lists.{some-of-false}
 use Rattle.table.proofs.Laws.Quant.{both, or-false-left, or-false-right}
-use Rattle.table.proofs.Laws.Slots.{namespace-lt, own-taken, living-own-alive, living-taken}
+use Rattle.table.proofs.Laws.Slots.{own-taken, living-own-alive}
 use Rattle.table.proofs.Sameness.DeliverSame.{not-living-put, resumed-placed, action-none}
 use Rattle.table.proofs.Sameness.EndLeaves.{end-still, end-dies, end-back, freed-back, lives-on, not-own}
 use Rattle.table.proofs.Sameness.EndSame.{ended-end}
@@ -107,12 +107,12 @@ module _ (t₀ t : Table) (s x n : ℕ) (g : Going t₀ t s) (o : seen (view t) 
       (λ i. subst (λ u. living (view t) i ≡ false → living u i ≡ false) (sym (end-view t (g .fits) x (Signaled n) tx)) (ended-end (view t) x (Signaled n) i))
     where
       tx : So (taken (view t) x)
-      tx = living-taken (view t) f x l
+      tx = lives-taken (view t) x l
 
       not-above : So (is-init (view t) x) → below (view t) s (view t .own x) ≡ false
       not-above i =
           isnt-so
-          (λ b. h (view t .own x) (namespace-lt (view t) f _ (own-taken (view t) f x tx)) (not-own t s x tx o) (sym (g .aboves (view t .own x)) ∙ b) (g .backs _ (living-own-alive (view t) f x l)) (end-dies t (g .fits) x (Signaled n) tx i))
+          (λ b. h (view t .own x) (f .in-namespace _ (own-taken (view t) f x tx)) (not-own t s x tx o) (sym (g .aboves (view t .own x)) ∙ b) (g .backs _ (living-own-alive (view t) f x l)) (end-dies t (g .fits) x (Signaled n) tx i))
 
   applied : (e : Action) → Sane (act t x n e) → Above t₀ s (act t x n e) → Going t₀ (act t x n e) s
   unfolding act with-pending
@@ -129,7 +129,7 @@ module _ (from n : ℕ) (low : n < signals) where
   act-back t w x Nothing g m k = k
   act-back t w x Resume g m k = k
   act-back t w x Stop g m k = k
-  act-back t w x Finish g m k = end-back t w x (Signaled n) (living-taken (view t) (w .facts) x (g .0)) m k
+  act-back t w x Finish g m k = end-back t w x (Signaled n) (lives-taken (view t) x (g .0)) m k
   act-back t w x Pend g m k = k
 
   all-back : (xs : List ℕ) (t : Table) → Sane t → Safe from xs → (m : ℕ) → So (alive (view (deliver-all t from xs n)) m) → So (alive (view t) m)

@@ -7,8 +7,8 @@ use lib.Dec.{eqb}
 use Rattle.table.proofs.Keeps.Changed.{pick}
 use Rattle.table.proofs.Keeps.MemberEnds.{member-gone}
 use Rattle.table.proofs.Laws.Cases.{choose}
-use Rattle.table.proofs.Laws.Facts.{Facts}
-use Rattle.table.proofs.Laws.Slots.{init-seen, seen-taken, children-of}
+use Rattle.table.proofs.Laws.Facts.{Facts, seen-taken}
+use Rattle.table.proofs.Laws.Slots.{init-seen, children-of}
 use Rattle.table.proofs.Sameness.Anchor.{name-no-slot}
 use Rattle.table.proofs.Sameness.Readers.{twin-eqb, child-twins}
 use Rattle.table.proofs.Sameness.Remain.{Remain, Lit, same-remain, pid-in-remain, name-remain, everyone}
@@ -66,9 +66,9 @@ module _ (v u : View) (s r : ℕ) (p : Pair v u s r) (x y : ℕ) (e : End) (k : 
         marks = λ z. if slot z then false else rows z .unshared;
         parents = parent-after v (p .facts-v) x e s i ∙ (λ z. if slot z then rows z .parent else (if child z then reapers z else rows z .parent)) ∙ sym (parent-after u (p .facts-u) y e r j);
         childrens =
-            children-after v (p .facts-v) x e s i (seen-taken v (p .facts-v) s i (m .seen-v))
+            children-after v (p .facts-v) x e s i (seen-taken v s i (m .seen-v))
             ∙ (λ z. if slot z then none z else rows z .children)
-            ∙ sym (children-after u (p .facts-u) y e r j (seen-taken u (p .facts-u) r j (m .seen-u)));
+            ∙ sym (children-after u (p .facts-u) y e r j (seen-taken u r j (m .seen-u)));
         lasts = λ z. rows z .last;
       }
 

@@ -3,9 +3,10 @@ use Prim.Native.Nat.{ℕ, _<_, _≤_}
 use native.Mathlib.Omega.{arith}
 use mathlib.Core.Bool.{Bool, true, false, So, false≢true}
 use mathlib.Core.Path.{_≡_, refl, sym, _∙_, ap, subst}
-use Rattle.table.proofs.Laws.Facts.{Facts}
+use Rattle.table.proofs.Laws.Below.{below-level, below-trans}
+use Rattle.table.proofs.Laws.Facts.{Facts, lives-taken}
 use Rattle.table.proofs.Laws.Quant.{both}
-use Rattle.table.proofs.Laws.Slots.{living-taken, below-trans, below-level, below-same, below-parent, init-seen, alive-not-unborn}
+use Rattle.table.proofs.Laws.Slots.{below-same, below-parent, init-seen, alive-not-unborn}
 use Rattle.table.proofs.Sameness.Anchor.{anchor, anchor-self, anchor-alive, anchor-below, anchor-least, is-by-init, is-unborn-name, name-pid, name-taken, name-alive, name-anchor}
 use Rattle.table.proofs.Sameness.Readers.{parent-seen, parent-twin, seen-above}
 use Rattle.table.proofs.Sameness.Twins.{Pair, Twin, Twins, bool-ext, pid-in-seen, below-twins, seen-twins, twins-up, twins-level}
@@ -24,11 +25,11 @@ name-level no-name = 0
 module _ (v : View) (f : Facts v) where
   pub children-taken : (i : ℕ) → So (living v i) → So (namespace-taken v (v .children i))
   unfolding S.children-namespaces
-  children-taken i h = f .children i (living-taken v f i h) h .0
+  children-taken i h = f .children i (lives-taken v i h) h .0
 
   pub children-below : (i : ℕ) → So (living v i) → So (below v (v .children i) (v .own i))
   unfolding S.children-namespaces
-  children-below i h = f .children i (living-taken v f i h) h .1
+  children-below i h = f .children i (lives-taken v i h) h .1
 
   by-unborn : (s n : ℕ) (l : Life) → is-unborn-name (name-by v s n l) ≡ is-unborn l
   unfolding name-by
@@ -53,7 +54,7 @@ module _ (v : View) (f : Facts v) where
   unfolding seen
   unborn-outside top i h n a o =
       bool-ext _ _
-      (λ b. absurd (false≢true (sym o ∙ both _ _ (living-taken v f i h) (subst (λ x. So (below v x top)) (sym (f .unborn-own (v .children i) (children-taken i h) n i (living-taken v f i h) refl)) (below-parent v f (v .children i) top b (deeper b))))))
+      (λ b. absurd (false≢true (sym o ∙ both _ _ (lives-taken v i h) (subst (λ x. So (below v x top)) (sym (f .unborn-own (v .children i) (children-taken i h) n i (lives-taken v i h) refl)) (below-parent v f (v .children i) top b (deeper b))))))
       (λ b. absurd (false≢true b))
     where
       deeper : So (below v (v .children i) top) → v .level top < v .level (v .children i)

@@ -11,10 +11,11 @@ use Rattle.table.proofs.Keeps.BirthKeeps.{birth-view}
 use Rattle.table.proofs.Keeps.Changed.{process-count, namespace-count}
 use Rattle.table.proofs.Keeps.Changes.{namespace-sane, unshare-sane}
 use Rattle.table.proofs.Keeps.Premises.{free-slot-is}
+use Rattle.table.proofs.Laws.Below.{below-trans}
 use Rattle.table.proofs.Laws.Cases.{isnt-so}
-use Rattle.table.proofs.Laws.Facts.{Facts, facts, Sane, sane}
+use Rattle.table.proofs.Laws.Facts.{Facts, facts, Sane, sane, seen-taken}
 use Rattle.table.proofs.Laws.Quant.{isnt, or-right, or-false-left, or-false-right}
-use Rattle.table.proofs.Laws.Slots.{seen-taken, slot-lt, own-taken, up-taken, alive-taken, children-of, below-trans}
+use Rattle.table.proofs.Laws.Slots.{own-taken, up-taken, alive-taken, children-of}
 use Rattle.table.proofs.Sameness.Anchor.{up-below, name-no-slot}
 use Rattle.table.proofs.Sameness.BirthPids.{Cradles}
 use Rattle.table.proofs.Sameness.BirthSame.{birth-same}
@@ -154,8 +155,8 @@ module _ (t u : Table) (s r c d : ℕ) (w : Ready t u s r c d) (ot : own-level (
   unfolding row
   new-lit i j m =
       let z = shown t u s r (w .pair) i j m in
-      let ti = seen-taken (view t) (ft .facts) s i (m .seen-v) in
-      let tj = seen-taken (view u) (fu .facts) r j (m .seen-u) in
+      let ti = seen-taken (view t) s i (m .seen-v) in
+      let tj = seen-taken (view u) r j (m .seen-u) in
       let rows = twin-rows (view t) (view u) s r (w .pair) i j m in
       record {
         states = ap (λ p. p .state) (same-process t ft c rt i) ∙ z .states ∙ sym (ap (λ p. p .state) (same-process u fu d ru j));
@@ -213,7 +214,7 @@ module _ (t u : Table) (s r c d : ℕ) (w : Ready t u s r c d) (ot : own-level (
               alive-v = new-pair .alive-v;
               alive-u = new-pair .alive-u;
               same =
-                  same-put tn un s r c d new-pair k (omega (arith, process-count tn (gt .shape-of), slot-lt (view t) (ft .facts) c (seen-taken (view t) (ft .facts) s c (w .twin .seen-v)))) (omega (arith, process-count un (gu .shape-of), slot-lt (view u) (fu .facts) d (seen-taken (view u) (fu .facts) r d (w .twin .seen-u)))) _ _ (record { owns = refl; parents = refl; pids = refl }) (record { owns = refl; parents = refl; pids = refl })
+                  same-put tn un s r c d new-pair k (omega (arith, process-count tn (gt .shape-of), ft .facts .in-range c (seen-taken (view t) s c (w .twin .seen-v)))) (omega (arith, process-count un (gu .shape-of), fu .facts .in-range d (seen-taken (view u) r d (w .twin .seen-u)))) _ _ (record { owns = refl; parents = refl; pids = refl }) (record { owns = refl; parents = refl; pids = refl })
                   (record { states = z .states; handleds = z .handleds; pendings = z .pendings; marks = refl; childrens = x-name t ft c rt s ∙ sym (x-name u fu d ru r) });
             }),
       )
@@ -257,7 +258,7 @@ module _ (t u : Table) (s r c d : ℕ) (w : Ready t u s r c d) (ot : own-level (
             (ap (λ (x : View). eqb r 0 or not (eqb (x .level r) 0)) ew ∙ stands-here u fu d ru r (w .pair .alive-u))
             (subst₂ (λ (a b : View). Same a b s r) (sym ev) (sym ew)
             (birth-same (view tn) (view un) s r new-pair c d (free-namespace-slot (view t)) (free-namespace-slot (view u)) (free-slot (view tn)) (free-slot (view un)) (new-twin c d (w .twin)) new-cradles (x-taken t ft c rt) (x-taken u fu d ru) (fresh-below t ft c rt (gt .facts) s (new-owns .below-v)) (fresh-below u fu d ru (gu .facts) r (new-owns .below-u)) (isnt-so et) (isnt-so eu) lt lu
-            (λ i j m z. not-held t ft c rt i (still-there t c i (seen-taken (view tn) (gt .facts) s i (m .seen-v))) ∙ sym (not-held u fu d ru j (still-there u d j (seen-taken (view un) (gu .facts) r j (m .seen-u))))))),
+            (λ i j m z. not-held t ft c rt i (still-there t c i (seen-taken (view tn) s i (m .seen-v))) ∙ sym (not-held u fu d ru j (still-there u d j (seen-taken (view un) r j (m .seen-u))))))),
       )
 
 -- ---- the two calls

@@ -4,9 +4,9 @@ use mathlib.Core.Bool.{Bool, not, So}
 use mathlib.Core.Path.{_≡_, refl, sym, _∙_, ap, ap₂, fun-ext}
 use borrow.Author.Tests.{eq-eqb, eqb-true}
 use lib.Dec.{eqb, leb}
-use Rattle.table.proofs.Laws.Facts.{Facts}
+use Rattle.table.proofs.Laws.Facts.{Facts, seen-taken}
 use Rattle.table.proofs.Laws.Quant.{left, right, both, any-elim, any-intro}
-use Rattle.table.proofs.Laws.Slots.{slot-lt, seen-taken, init-own}
+use Rattle.table.proofs.Laws.Slots.{init-own}
 use Rattle.table.proofs.Sameness.Readers.{seen-above}
 use Rattle.table.proofs.Sameness.Twins.{Pair, Twins, flip-pair, flip-twins, bool-ext, twin-there, twin-rows, seen-twins, pid-twins, inits-twin}
 use Rattle.table.specs.Limits.{greatest-pid, process-slots, restart-pid}
@@ -19,7 +19,7 @@ held-there : (v u : View) (s r : ℕ) (w : Pair v u s r) (n m k : ℕ) → Twins
 held-there v u s r w n m k l h =
     let (i, b, g) = any-elim _ _ h in
     let (j, p) = twin-there v u s r w i (seen-above v (w .facts-v) n s i (l .below-v) (left _ _ g)) in
-    any-intro _ _ j (slot-lt u (w .facts-u) j (seen-taken u (w .facts-u) r j (p .seen-u)))
+    any-intro _ _ j (w .facts-u .in-range j (seen-taken u r j (p .seen-u)))
     (both _ _ (sym (seen-twins v u s r w i j n m p l) ∙ left _ _ g) (eq-eqb _ _ (sym (pid-twins v u s r w i j n m p l) ∙ eqb-true _ _ (right _ _ g))))
 
 module _ (v u : View) (s r : ℕ) (w : Pair v u s r) (n m : ℕ) (l : Twins v u s r n m) where

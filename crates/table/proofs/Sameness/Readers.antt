@@ -6,9 +6,10 @@ use mathlib.Core.Logic.{_⊎_, inl, inr}
 use mathlib.Core.Path.{_≡_, refl, sym, _∙_, ap, ap₂, subst}
 use borrow.Author.Tests.{eq-eqb, ne-eqb, eqb-true}
 use lib.Dec.{eqb}
-use Rattle.table.proofs.Laws.Facts.{Facts}
+use Rattle.table.proofs.Laws.Below.{below-level, below-trans}
+use Rattle.table.proofs.Laws.Facts.{Facts, seen-taken, seen-below}
 use Rattle.table.proofs.Laws.Quant.{left, right, both}
-use Rattle.table.proofs.Laws.Slots.{slot-lt, seen-taken, seen-below, below-level, below-trans, pid-pos, alive-taken, pid-unique}
+use Rattle.table.proofs.Laws.Slots.{pid-pos, alive-taken, pid-unique}
 use Rattle.table.proofs.Sameness.Find.{Found, find-cases}
 use Rattle.table.proofs.Sameness.Twins.{Pair, Twin, Twins, flip-pair, flip-twin, bool-ext, pid-in-seen, twin-rows, twin-there, twin-unique, seen-twins, pid-twins, inits-twin, owns}
 use Rattle.table.specs.Limits.{process-slots}
@@ -24,7 +25,7 @@ module _ (v : View) (f : Facts v) where
 
   pub seen-pid : (n i : ℕ) → So (seen v n i) → 1 ≤ pid-seen v n i
   unfolding pid-seen
-  seen-pid n i h = pid-pos v f i (v .level n) (seen-taken v f n i h) (below-level v f _ n (seen-below v f n i h))
+  seen-pid n i h = pid-pos v f i (v .level n) (seen-taken v n i h) (below-level v f _ n (seen-below v n i h))
 
   pub pid-in-unseen : (n i : ℕ) → seen v n i ≡ false → pid-in v n i ≡ 0
   unfolding pid-in
@@ -88,11 +89,11 @@ module _ (v u : View) (s r : ℕ) (w : Pair v u s r) where
           inr (subst (λ q. Twin v u s r (find v n k) q) e p, c, z)
       go (inl (a, b, c)) (inr (x, y)) =
           let (j, p) = twin-there v u s r w (find v n k) (seen-above v (w .facts-v) n s _ (l .below-v) a) in
-          absurd (y j (slot-lt u (w .facts-u) j (seen-taken u (w .facts-u) r j (p .seen-u))) (sym (seen-twins v u s r w _ j n m p l) ∙ a) (sym (pid-twins v u s r w _ j n m p l) ∙ b))
+          absurd (y j (w .facts-u .in-range j (seen-taken u r j (p .seen-u))) (sym (seen-twins v u s r w _ j n m p l) ∙ a) (sym (pid-twins v u s r w _ j n m p l) ∙ b))
       go (inr (a, b)) (inl (x, y, z)) =
           let (i, p) = twin-there u v r s (flip-pair v u s r w) (find u m k) (seen-above u (w .facts-u) m r _ (l .below-u) x) in
           let q = flip-twin u v r s _ _ p in
-          absurd (b i (slot-lt v (w .facts-v) i (seen-taken v (w .facts-v) s i (q .seen-v))) (seen-twins v u s r w i _ n m q l ∙ x) (pid-twins v u s r w i _ n m q l ∙ y))
+          absurd (b i (w .facts-v .in-range i (seen-taken v s i (q .seen-v))) (seen-twins v u s r w i _ n m q l ∙ x) (pid-twins v u s r w i _ n m q l ∙ y))
       go (inr (a, b)) (inr (x, y)) = inl (a, x)
 
   -- whether a process is the init of its namespace, where that lives
@@ -104,7 +105,7 @@ module _ (v u : View) (s r : ℕ) (w : Pair v u s r) where
   pub child-twins : (i j c d : ℕ) → Twin v u s r i j → Twin v u s r c d → child-of v c i ≡ child-of u d j
   unfolding child-of
   child-twins i j c d k l =
-      ap₂ _and_ (seen-taken v (w .facts-v) s i (k .seen-v) ∙ sym (seen-taken u (w .facts-u) r j (k .seen-u))) (go (seen v s (v .parent i)) refl)
+      ap₂ _and_ (seen-taken v s i (k .seen-v) ∙ sym (seen-taken u r j (k .seen-u))) (go (seen v s (v .parent i)) refl)
     where
       other : (x : View) (a b p : ℕ) → So (seen x a b) → seen x a p ≡ false → eqb p b ≡ false
       other x a b p h e = ne-eqb p b (λ q. false≢true (sym e ∙ ap (seen x a) q ∙ h))
@@ -119,4 +120,4 @@ module _ (v u : View) (s r : ℕ) (w : Pair v u s r) where
 
   pub living-twins : (i j : ℕ) → Twin v u s r i j → living v i ≡ living u j
   unfolding living
-  living-twins i j k = ap₂ (λ (a b : Bool). a and not b) (seen-taken v (w .facts-v) s i (k .seen-v) ∙ sym (seen-taken u (w .facts-u) r j (k .seen-u))) (ended-twins i j k)
+  living-twins i j k = ap₂ (λ (a b : Bool). a and not b) (seen-taken v s i (k .seen-v) ∙ sym (seen-taken u r j (k .seen-u))) (ended-twins i j k)

@@ -9,9 +9,9 @@ use borrow.Author.Tests.{eqb-true, eqb-false, ne-eqb, ltb-true, ltb-false}
 use lib.Dec.{eqb, ltb}
 use Rattle.table.proofs.Keeps.Reap.{without}
 use Rattle.table.proofs.Laws.Cases.{no-so, zero-or}
-use Rattle.table.proofs.Laws.Facts.{Facts}
+use Rattle.table.proofs.Laws.Facts.{Facts, seen-taken}
 use Rattle.table.proofs.Laws.Quant.{right, isnt, and-false, true-and, true-or, false-or-true, false-or-false, true-and-false, isnt-not}
-use Rattle.table.proofs.Laws.Slots.{seen-taken, children-of, init-living, parent-living}
+use Rattle.table.proofs.Laws.Slots.{children-of, init-living, parent-living}
 use Rattle.table.proofs.Sameness.Anchor.{name-no-slot}
 use Rattle.table.proofs.Sameness.Readers.{twin-eqb}
 use Rattle.table.proofs.Sameness.Remain.{Remain, Lit, same-remain, pid-in-remain, name-remain, everyone}
@@ -97,10 +97,10 @@ module _ (v : View) (f : Facts v) (x : ℕ) (tx : So (taken v x)) (ex : So (v .e
 
 module _ (v u : View) (s r : ℕ) (w : Pair v u s r) (x y : ℕ) (k : Twin v u s r x y) (ex : So (v .ended x)) (ey : So (u .ended y)) where
   tx : So (taken v x)
-  tx = seen-taken v (w .facts-v) s x (k .seen-v)
+  tx = seen-taken v s x (k .seen-v)
 
   ty : So (taken u y)
-  ty = seen-taken u (w .facts-u) r y (k .seen-u)
+  ty = seen-taken u r y (k .seen-u)
 
   both-stay : (i j : ℕ) → Twin v u s r i j → others x i ≡ others y j
   both-stay i j m = ap not (twin-eqb v u s r w i j x y m k)
@@ -109,8 +109,8 @@ module _ (v u : View) (s r : ℕ) (w : Pair v u s r) (x y : ℕ) (k : Twin v u s
   unfolding row
   reap-lit i j m q =
       let q′ = sym (both-stay i j m) ∙ q in
-      let ti = seen-taken v (w .facts-v) s i (m .seen-v) in
-      let tj = seen-taken u (w .facts-u) r j (m .seen-u) in
+      let ti = seen-taken v s i (m .seen-v) in
+      let tj = seen-taken u r j (m .seen-u) in
       let rows = twin-rows v u s r w i j m in
       let slot = twin-eqb v u s r w i j x y m k in
       record {

@@ -3,9 +3,10 @@ use Prim.Native.Nat.{ℕ, zero, suc, _-_}
 use mathlib.Core.Bool.{Bool, true, false, not, So, false≢true}
 use mathlib.Core.Path.{_≡_, refl, sym, _∙_, ap, ap₂, subst, fun-ext}
 use lib.Dec.{eqb}
-use Rattle.table.proofs.Laws.Facts.{Facts}
+use Rattle.table.proofs.Laws.Below.{up-level}
+use Rattle.table.proofs.Laws.Facts.{Facts, seen-taken}
 use Rattle.table.proofs.Laws.Quant.{and-false}
-use Rattle.table.proofs.Laws.Slots.{up-level, own-taken, seen-taken}
+use Rattle.table.proofs.Laws.Slots.{own-taken}
 use Rattle.table.proofs.Sameness.Anchor.{anchor, anchor-alive}
 use Rattle.table.proofs.Sameness.Same.{Same}
 use Rattle.table.proofs.Sameness.Twins.{Pair, Twin, twin-rows, twin-there, flip-pair, flip-twin}
@@ -152,9 +153,9 @@ lit-same v u s r i j e es eh eq em ep ec ez =
 module _ (v u v′ u′ : View) (s r : ℕ) (w : Pair v u s r) (K Q K′ Q′ : ℕ → Bool) (a : Remain v v′ K Q) (b : Remain u u′ K′ Q′) (hs : So (K s)) (hr : So (K′ r)) (both-remain : (i j : ℕ) → Twin v u s r i j → Q i ≡ Q′ j) (h : (i j : ℕ) → Twin v u s r i j → So (Q i) → Lit v u v′ u′ s r i j) where
   remain-rows : (i j : ℕ) → Twin v u s r i j → So (Q i) → row v′ s i ≡ row u′ r j
   remain-rows i j k q =
-      row-remain v v′ K Q (w .facts-v) a s i hs q (seen-taken v (w .facts-v) s i (k .seen-v))
+      row-remain v v′ K Q (w .facts-v) a s i hs q (seen-taken v s i (k .seen-v))
       ∙ lit-same v u s r i j (twin-rows v u s r w i j k) (h i j k q .states) (h i j k q .handleds) (h i j k q .pendings) (h i j k q .marks) (h i j k q .parents) (h i j k q .childrens) (h i j k q .lasts)
-      ∙ sym (row-remain u u′ K′ Q′ (w .facts-u) b r j hr (sym (both-remain i j k) ∙ q) (seen-taken u (w .facts-u) r j (k .seen-u)))
+      ∙ sym (row-remain u u′ K′ Q′ (w .facts-u) b r j hr (sym (both-remain i j k) ∙ q) (seen-taken u r j (k .seen-u)))
 
   pub same-remain : Same v′ u′ s r
   same-remain =

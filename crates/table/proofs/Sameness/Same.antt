@@ -5,9 +5,10 @@ use mathlib.Core.Bool.{So}
 use mathlib.Core.List.{map}
 use mathlib.Core.Path.{_≡_, sym, _∙_, ap, subst}
 use lib.ListN.{getD}
-use Rattle.table.proofs.Laws.Facts.{Facts}
+use Rattle.table.proofs.Laws.Below.{level-deepest}
+use Rattle.table.proofs.Laws.Facts.{Facts, seen-taken}
 use Rattle.table.proofs.Laws.Lists.{In, in-map, map-in, in-ascending, ascending-in, ascending-sorted, Sorted, map-sorted, sorted-unique}
-use Rattle.table.proofs.Laws.Slots.{slot-lt, seen-taken, pid-unique, level-deepest}
+use Rattle.table.proofs.Laws.Slots.{pid-unique}
 use Rattle.table.specs.Limits.{levels, process-slots}
 use Rattle.table.specs.Read.{View, all-seen, namespace-taken, pid-seen, seen, pid-in, is-init}
 use Rattle.table.specs.Sheet.{Row, row, sheet, name}
@@ -39,7 +40,7 @@ level-lt v f s h = omega (arith, level-deepest v f s h)
 
 pub seen-listed : (v : View) → Facts v → (s i : ℕ) → So (seen v s i) → In i (all-seen v s)
 unfolding all-seen
-seen-listed v f s i h = in-ascending _ _ process-slots i (slot-lt v f i (seen-taken v f s i h)) h
+seen-listed v f s i h = in-ascending _ _ process-slots i (f .in-range i (seen-taken v s i h)) h
 
 pub listed-seen : (v : View) (s i : ℕ) → In i (all-seen v s) → So (seen v s i)
 unfolding all-seen

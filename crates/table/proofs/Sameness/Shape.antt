@@ -6,9 +6,10 @@ use mathlib.Core.Bool.{Bool, true, false, not, So, false≢true}
 use mathlib.Core.Path.{_≡_, refl, sym, _∙_, ap, ap₂, subst}
 use borrow.Author.Tests.{ne-eqb}
 use lib.Dec.{eqb}
+use Rattle.table.proofs.Laws.Below.{up-level, below-level, below-trans}
 use Rattle.table.proofs.Laws.Facts.{Facts}
 use Rattle.table.proofs.Laws.Quant.{and-false}
-use Rattle.table.proofs.Laws.Slots.{up-level, namespace-lt, below-level, below-trans, below-parent, below-same, alive-up}
+use Rattle.table.proofs.Laws.Slots.{below-parent, below-same, alive-up}
 use Rattle.table.proofs.Sameness.Anchor.{anchor, anchor-alive, anchor-below, up-below}
 use Rattle.table.proofs.Sameness.Same.{Same}
 use Rattle.table.proofs.Sameness.Twins.{Pair, Twin, twin-there, flip-pair, flip-twin, bool-ext}
@@ -149,7 +150,7 @@ module _ (v v′ : View) (f : Facts v) (Q : ℕ → Bool) (w : Shape v v′ Q) (
     pub name-in : (s n : ℕ) → So (alive v top) → So (below v n top) → So (namespace-taken v n) → name v′ s n ≡ dead-at (v .level n) (pid-in v s (init v (v .up top)))
     unfolding name name-by
     name-in s n a h ht =
-        rw (ne-eqb n no-slot (λ e. omega (arith, namespace-lt v f n ht)), life-in n h)
+        rw (ne-eqb n no-slot (λ e. omega (arith, f .in-namespace n ht)), life-in n h)
         (ap₂ dead-at (ap (λ (level : ℕ → ℕ). level n) (w .levels))
         (ap (pid-in v′ s) (ap init-of (ap (v′ .life) (ap (λ (level : ℕ → ℕ). nearest (v′ .life) (v′ .up) (level n) n) (w .levels) ∙ near-in a (v .level n) n refl h) ∙ life-out (v .up top) top-up-out))
         ∙ pid-in-shape v v′ Q w s (init v (v .up top)) (stays (v .up top) (alive-up v f top m a deep) top-up-out)))

@@ -6,9 +6,10 @@ use mathlib.Core.Bool.{Bool, true, false, not, So, false≢true}
 use mathlib.Core.Logic.{_⊎_, inl, inr, ⊎-elim}
 use mathlib.Core.Path.{_≡_, refl, sym, _∙_, ap, ap₂, subst, fun-ext}
 use lib.Dec.{eqb}
-use Rattle.table.proofs.Laws.Facts.{Facts}
+use Rattle.table.proofs.Laws.Below.{up-level, below-level, below-trans}
+use Rattle.table.proofs.Laws.Facts.{Facts, seen-taken, seen-below}
 use Rattle.table.proofs.Laws.Quant.{both, cases, or-left, or-right}
-use Rattle.table.proofs.Laws.Slots.{up-level, seen-taken, seen-below, below-trans, below-parent, below-same, below-level}
+use Rattle.table.proofs.Laws.Slots.{below-parent, below-same}
 use Rattle.table.proofs.Laws.Tree.{below-refl}
 use Rattle.table.proofs.Sameness.Anchor.{anchor, up-below, name-no-slot}
 use Rattle.table.proofs.Sameness.Light.{Placed, put-other, light-remain, put-light}
@@ -147,18 +148,18 @@ module _ (v : View) (f : Facts v) (s : ℕ) where
       go l q b = open-case b (ℕ-discrete (v .level s) (v .level n))
 
   pub near-own : (i : ℕ) → So (seen v s i) → So (near v s (v .own i))
-  near-own i h = or-left _ _ (seen-below v f s i h)
+  near-own i h = or-left _ _ (seen-below v s i h)
 
   pub near-children : (i : ℕ) → So (seen v s i) → So (near v s (v .children i)) ⊎ (v .children i ≡ no-slot)
   unfolding living
   near-children i h = go (v .ended i) refl
     where
       ti : So (taken v i)
-      ti = seen-taken v f s i h
+      ti = seen-taken v s i h
 
       go : (b : Bool) → v .ended i ≡ b → So (near v s (v .children i)) ⊎ (v .children i ≡ no-slot)
       go true e = inr (f .ended-bare i ti e .0 .0 .0)
-      go false e = inl (or-left _ _ (below-trans v f _ _ s (children-below v f i (both _ _ ti (ap not e))) (seen-below v f s i h)))
+      go false e = inl (or-left _ _ (below-trans v f _ _ s (children-below v f i (both _ _ ti (ap not e))) (seen-below v s i h)))
 
 -- one outside S changed in its lights
 pub put-still : (t : Table) (f : Facts (view t)) (c : ℕ) (p : Process) → Placed p (process t c) → (s : ℕ) → seen (view t) s c ≡ false → Still (view t) (view (put t c p)) s (near (view t) s)

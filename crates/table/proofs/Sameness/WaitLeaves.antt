@@ -13,7 +13,6 @@ use Rattle.table.proofs.Keeps.Reap.{without}
 use Rattle.table.proofs.Laws.Cases.{no-so, isnt-so}
 use Rattle.table.proofs.Laws.Facts.{Facts, facts, sane}
 use Rattle.table.proofs.Laws.Quant.{left, right, both, isnt, any-intro, isnt-not}
-use Rattle.table.proofs.Laws.Slots.{slot-lt}
 use Rattle.table.proofs.Laws.Steps.{step-made}
 use Rattle.table.proofs.Sameness.Calls.{processes-length}
 use Rattle.table.proofs.Sameness.Freeing.{freed-leaves}
@@ -133,4 +132,4 @@ wait-leaves t s i h hs k a g = go (any process-slots (child-of (view t) i)) refl
             ∙ ap (λ (u : View). taken u x) (reaped-view t (sane t h) x ex) ∙ reap-remain (view t) (facts t h) x tx ex .gone x (ap not (eq-eqb x x refl))
 
         unseen : seen (view t) s x ≡ false
-        unseen = isnt-so (λ m. no-so no-touch (any-intro _ _ x (slot-lt (view t) (facts t h) x tx) (both _ _ m (ap not removed))))
+        unseen = isnt-so (λ m. no-so no-touch (any-intro _ _ x (facts t h .in-range x tx) (both _ _ m (ap not removed))))

@@ -7,9 +7,9 @@ use mathlib.Core.Path.{_≡_, refl, sym, _∙_, ap, subst, subst₂}
 use borrow.Author.Tests.{eqb-true}
 use lib.ListN.{List·getD-eq-default}
 use Rattle.table.proofs.Keeps.PutKeeps.{reaped-sane, reaped-view}
-use Rattle.table.proofs.Laws.Facts.{Facts, facts, sane}
+use Rattle.table.proofs.Laws.Facts.{Facts, facts, sane, seen-taken}
 use Rattle.table.proofs.Laws.Quant.{left, right, both, any-elim, any-intro}
-use Rattle.table.proofs.Laws.Slots.{slot-lt, seen-taken, child-seen}
+use Rattle.table.proofs.Laws.Slots.{child-seen}
 use Rattle.table.proofs.Laws.Tree.{below-refl}
 use Rattle.table.proofs.Sameness.Calls.{shown, processes-length, both-refuse, both-tell, owns-twins}
 use Rattle.table.proofs.Sameness.Freeing.{freed-alike}
@@ -46,7 +46,7 @@ ended-kid v c i = child-of v c i and v .ended i
 
 module _ (t u : Table) (s r c d : ℕ) (w : Ready t u s r c d) where
   tc : So (taken (view t) c)
-  tc = seen-taken (view t) (facts t (w .sound-t)) s c (w .twin .seen-v)
+  tc = seen-taken (view t) s c (w .twin .seen-v)
 
   -- a child here is a child there
   kid-there : (i : ℕ) → So (child-of (view t) c i) → (j : ℕ) × Twin (view t) (view u) s r i j
@@ -59,12 +59,12 @@ module _ (t u : Table) (s r c d : ℕ) (w : Ready t u s r c d) where
   any-there h =
       let (i, l, k) = any-elim _ _ h in
       let (j, m) = kid-there i k in
-      any-intro _ _ j (slot-lt (view u) (facts u (w .sound-u)) j (seen-taken (view u) (facts u (w .sound-u)) r j (m .seen-u))) (sym (kid-same i j m) ∙ k)
+      any-intro _ _ j (facts u (w .sound-u) .in-range j (seen-taken (view u) r j (m .seen-u))) (sym (kid-same i j m) ∙ k)
 
   ended-there : (i : ℕ) → So (ended-kid (view t) c i) → (j : ℕ) × Twin (view t) (view u) s r i j × So (ended-kid (view u) d j) × (j < process-slots)
   ended-there i h =
       let (j, m) = kid-there i (left _ _ h) in
-      (j, m, both _ _ (sym (kid-same i j m) ∙ left _ _ h) (sym (ended-twins (view t) (view u) s r (w .pair) i j m) ∙ right _ _ h), slot-lt (view u) (facts u (w .sound-u)) j (seen-taken (view u) (facts u (w .sound-u)) r j (m .seen-u)))
+      (j, m, both _ _ (sym (kid-same i j m) ∙ left _ _ h) (sym (ended-twins (view t) (view u) s r (w .pair) i j m) ∙ right _ _ h), facts u (w .sound-u) .in-range j (seen-taken (view u) r j (m .seen-u)))
 
 flip-ready : (t u : Table) (s r c d : ℕ) → Ready t u s r c d → Ready u t r s d c
 flip-ready t u s r c d w =
