@@ -19,12 +19,10 @@ pub mod Namespaces
 pub mod InitEnd
 pub mod MemberEnd
 pub mod EndSame
-pub mod NextPid
+pub mod Born
 pub mod ReapSame
 pub mod WaitSame
 pub mod ExitSame
-pub mod BirthPids
-pub mod Born
 pub mod BirthSame
 pub mod CloneSame
 pub mod NewNamespaceSame

@@ -10,12 +10,10 @@ use Rattle.table.proofs.Keeps.Changed.{pick}
 use Rattle.table.proofs.Keeps.MemberEnds.{reaches}
 use Rattle.table.proofs.Keeps.NewPid.{Fresh, next-fresh, next-first, nobody, free-is}
 use Rattle.table.proofs.Laws.Below.{last-step, below-taken, above-is, above-same, below-level, root-above}
-use Rattle.table.proofs.Laws.Cases.{yes-or-no, no-so, isnt-so, zero-or, same-or, life-cases, alive-unborn, dead-unborn}
 use Rattle.table.proofs.Laws.Facts.{Holder, root, member, for-children, child, Facts, Held, Taken, Stands, Lives, Below, Seen, Other, lives-taken, is-seen}
-use Rattle.table.proofs.Laws.Iff.{not-iff}
-use Rattle.table.proofs.Laws.Quant.{left, right, both}
 use Rattle.table.proofs.Laws.Reach.{reach-bounded, reach-zero, reach-step, reach-cases}
-use Rattle.table.proofs.Laws.SignalSets.{no-signals}
+use Rattle.table.proofs.Laws.Signals.{no-signals}
+use Rattle.table.proofs.Laws.Tests.{yes-or-no, no-so, isnt-so, zero-or, same-or, life-cases, alive-unborn, dead-unborn, not-iff, left, right, both}
 use Rattle.table.proofs.Laws.Tree.{below-refl}
 use Rattle.table.specs.Limits.{greatest-pid, namespace-slots, process-slots}
 use Rattle.table.specs.Pids.{next-pid}

@@ -9,9 +9,8 @@ use lib.ListN.{replicate}
 use Rattle.table.proofs.Keeps.Birth.{with-born}
 use Rattle.table.proofs.Keeps.Changed.{getD-replicate, view-changed, shaped-changed, process-shaped, view-put, shaped-put, pick, changed-at, length-changed}
 use Rattle.table.proofs.Laws.Below.{below-taken, level-deepest}
-use Rattle.table.proofs.Laws.Cases.{isnt-so}
 use Rattle.table.proofs.Laws.Facts.{Facts, Stands}
-use Rattle.table.proofs.Laws.Quant.{both}
+use Rattle.table.proofs.Laws.Tests.{isnt-so, both}
 use Rattle.table.specs.Births.{birth, joined, new-pids, newborn}
 use Rattle.table.specs.Limits.{levels, namespace-slots, process-slots}
 use Rattle.table.specs.Pids.{free-slot, next-pid}

@@ -11,17 +11,15 @@ use lib.ListN.{length}
 use Rattle.table.proofs.Keeps.Changed.{shape-at}
 use Rattle.table.proofs.Keeps.Deliver.{Safe, Good, action-good, pend-ok, deliver-sane}
 use Rattle.table.proofs.Keeps.End.{end-sane}
-use Rattle.table.proofs.Keeps.FreedKeeps.{freed-keeps}
+use Rattle.table.proofs.Keeps.Freed.{freed-keeps}
 use Rattle.table.proofs.Keeps.NewNamespace.{namespace-pre}
 use Rattle.table.proofs.Keeps.Premises as K
 use Rattle.table.proofs.Keeps.PutKeeps.{with-all, signalled-sane, set-children-sane, reaped-sane, new-namespace-view, new-namespace-shape}
 use Rattle.table.proofs.Laws.Below.{level-deepest}
-use Rattle.table.proofs.Laws.Cases.{isnt-so, no-so, choose}
 use Rattle.table.proofs.Laws.Facts.{Facts, Holder, Taken, Stands, Lives, Below, Seen, Other, SignalsOk, lives-taken, not-ended, seen-taken, seen-below, facts, held-in, Sane, sane}
-use Rattle.table.proofs.Laws.Quant.{left, right, both, isnt-not, or-false-left, or-false-right}
-use Rattle.table.proofs.Laws.SignalBits.{with-signal-lt, without-signal-le}
-use Rattle.table.proofs.Laws.SignalSets.{poll-ok, on-ok, off-ok}
+use Rattle.table.proofs.Laws.Signals.{with-signal-lt, without-signal-le, poll-ok, on-ok, off-ok}
 use Rattle.table.proofs.Laws.Steps.{made-or-refused, runs-lives, remainder}
+use Rattle.table.proofs.Laws.Tests.{isnt-so, no-so, choose, left, right, both, isnt-not, or-false-left, or-false-right}
 use Rattle.table.specs.Answers.{answers, granted, refused}
 use Rattle.table.specs.Births.{birth}
 use Rattle.table.specs.Calls.{clone, clone-new, exit, first-ended, getpid, getppid, handle, handle-off, handle-on, kill, named, names-group, natural, new-namespace, own-level, poll, reap, set-children, setns, status, targets, unshare, wait, within}

@@ -9,9 +9,8 @@ use Rattle.table.proofs.Keeps.Changed.{getD-replicate, view-changed, sh
 use Rattle.table.proofs.Keeps.InitEnds.{gone, subtree-gone, subtree-pre}
 use Rattle.table.proofs.Keeps.MemberEnds.{member-gone, member-pre}
 use Rattle.table.proofs.Laws.Below.{shallow-below, no-level}
-use Rattle.table.proofs.Laws.Cases.{false-and, isnt-so, choose}
 use Rattle.table.proofs.Laws.Facts.{Facts, Lives, Other, lives-taken, seen-taken, facts, Sane, Taken}
-use Rattle.table.proofs.Laws.Quant.{left, both}
+use Rattle.table.proofs.Laws.Tests.{false-and, isnt-so, choose, left, both}
 use Rattle.table.specs.Ends.{end, init-ends, namespace-dies, member-ends}
 use Rattle.table.specs.Fresh.{empty-process}
 use Rattle.table.specs.Limits.{levels, namespace-slots, no-slot, process-slots}

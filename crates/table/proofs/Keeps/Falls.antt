@@ -8,16 +8,14 @@ use Rattle.table.proofs.Keeps.BirthKeeps.{birth-view}
 use Rattle.table.proofs.Keeps.Changes.{Change, ends, signals-of, turns, reaps, makes-namespace, change-sane, Run, start, more, run-sane, MayBear, Made, nothing-done, freed-after, signalled, born, born-in-new, made-sound, call-made}
 use Rattle.table.proofs.Keeps.End.{end-view}
 use Rattle.table.proofs.Keeps.Fixed.{made-fixed}
-use Rattle.table.proofs.Keeps.Freed.{restrict, kept-root}
-use Rattle.table.proofs.Keeps.FreedKeeps.{freed-view}
+use Rattle.table.proofs.Keeps.Freed.{restrict, kept-root, freed-view}
 use Rattle.table.proofs.Keeps.Premises as K
 use Rattle.table.proofs.Keeps.PutKeeps.{new-namespace-view}
 use Rattle.table.proofs.Laws.Below.{deep-namespace, not-root, up-level}
-use Rattle.table.proofs.Laws.Cases.{no-so, alive-unborn, dead-unborn, choose}
 use Rattle.table.proofs.Laws.Facts.{Facts, facts, Taken, Stands, Lives, Below, Seen, lives-taken, not-ended, seen-taken, seen-below, Sane, sane}
-use Rattle.table.proofs.Laws.Quant.{cases}
 use Rattle.table.proofs.Laws.Slots.{alive-taken}
 use Rattle.table.proofs.Laws.Steps.{made-or-refused}
+use Rattle.table.proofs.Laws.Tests.{no-so, alive-unborn, dead-unborn, choose, cases}
 use Rattle.table.proofs.Laws.Tree.{climb-cases}
 use Rattle.table.specs.Births.{birth}
 use Rattle.table.specs.Calls.{new-namespace}

@@ -17,12 +17,11 @@ use Rattle.table.proofs.Keeps.Fixed.{Shrinks, shrinks-trans, run-shrink
 use Rattle.table.proofs.Keeps.NewPid.{found, free-is}
 use Rattle.table.proofs.Keeps.Premises as K
 use Rattle.table.proofs.Laws.Below.{below-trans, below-level}
-use Rattle.table.proofs.Laws.Cases.{isnt-so, zero-or, choose}
 use Rattle.table.proofs.Laws.Facts.{Facts, Taken, Stands, Below, Seen, lives-taken, seen-taken, seen-below, is-seen, facts, Sane, sane}
 use Rattle.table.proofs.Laws.Lists.{In, some-of-in, in-some-of, only-in, in-only, in-ascending, ascending-in}
-use Rattle.table.proofs.Laws.Quant.{left, right, both, isnt-not}
 use Rattle.table.proofs.Laws.Slots.{pid-pos}
 use Rattle.table.proofs.Laws.Steps.{made-or-refused}
+use Rattle.table.proofs.Laws.Tests.{isnt-so, zero-or, choose, left, right, both, isnt-not}
 use Rattle.table.proofs.Sameness.Find.{find-cases}
 use Rattle.table.specs.Answers.{answers, granted, refused}
 use Rattle.table.specs.Calls.{kill, names-group, natural, targets, within, named, others, pid-to}

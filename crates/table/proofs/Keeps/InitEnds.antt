@@ -7,11 +7,10 @@ use mathlib.Core.Path.{_≡_, refl, sym, _∙_, ap, subst}
 use borrow.Author.Tests.{eqb-true}
 use lib.Dec.{eqb}
 use Rattle.table.proofs.Laws.Below.{below-trans, below-up, shallow-below, no-level}
-use Rattle.table.proofs.Laws.Cases.{yes-or-no, no-so, isnt-so, false-and, zero-or}
 use Rattle.table.proofs.Laws.Facts.{Facts, Taken, Stands, Lives, Below, Seen, Other, SignalsOk, lives-taken, is-seen, seen-taken, seen-below}
-use Rattle.table.proofs.Laws.Quant.{left, right, both, all-intro}
 use Rattle.table.proofs.Laws.Reach.{reach-zero, reach-step, reach-cases}
-use Rattle.table.proofs.Laws.SignalSets.{no-signals}
+use Rattle.table.proofs.Laws.Signals.{no-signals}
+use Rattle.table.proofs.Laws.Tests.{yes-or-no, no-so, isnt-so, false-and, zero-or, left, right, both, all-intro}
 use Rattle.table.specs.Limits.{levels, no-slot, process-slots}
 use Rattle.table.specs.Read.{View, alive, below, dead, init, init-of, is-alive, is-init, living, namespace-taken, pid-seen, seen, taken, unborn, is-ended}
 use Rattle.table.specs.Sound.{kept-end, reaches-root, zero-namespace, zero-process}

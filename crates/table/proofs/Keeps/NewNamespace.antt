@@ -7,9 +7,8 @@ use mathlib.Core.Path.{_≡_, refl, sym, _∙_, ap, subst}
 use borrow.Author.Tests.{eq-eqb, ne-eqb}
 use lib.Dec.{eqb}
 use Rattle.table.proofs.Laws.Below.{below-taken, deep-namespace, not-root, up-level, below-up}
-use Rattle.table.proofs.Laws.Cases.{same-or}
 use Rattle.table.proofs.Laws.Facts.{Holder, root, member, for-children, child, Facts, Held, Taken, Stands, Lives, Below, Seen, Other, child-namespace, seen-taken, seen-below, root-namespace}
-use Rattle.table.proofs.Laws.Quant.{left, right, both}
+use Rattle.table.proofs.Laws.Tests.{same-or, left, right, both}
 use Rattle.table.proofs.Laws.Tree.{below-refl}
 use Rattle.table.specs.Limits.{deepest, namespace-slots}
 use Rattle.table.specs.Pids.{free-slot}

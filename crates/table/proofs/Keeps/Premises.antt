@@ -15,11 +15,10 @@ use Rattle.table.proofs.Keeps.NewNamespace.{Ready, ready, with-namespac
 use Rattle.table.proofs.Keeps.PutKeeps.{signalled-sane, signalled-view, new-namespace-view}
 use Rattle.table.proofs.Keeps.Signal.{signalled-held}
 use Rattle.table.proofs.Laws.Below.{shallow-below, level-deepest}
-use Rattle.table.proofs.Laws.Cases.{no-so, isnt-so}
 use Rattle.table.proofs.Laws.Facts.{Holder, Facts, Held, Taken, Stands, Lives, Below, Seen, SignalsOk, lives-taken, not-ended, seen-below, facts, held-in, sound-from, sane}
 use Rattle.table.proofs.Laws.Lowest.{lowest-is}
-use Rattle.table.proofs.Laws.Quant.{left, right}
 use Rattle.table.proofs.Laws.Steps.{runs-lives}
+use Rattle.table.proofs.Laws.Tests.{no-so, isnt-so, left, right}
 use Rattle.table.specs.Births.{birth}
 use Rattle.table.specs.Calls.{named, natural, new-namespace, others, targets, within}
 use Rattle.table.specs.Limits.{deepest, namespace-slots, process-slots, signals}

@@ -12,9 +12,8 @@ use Rattle.table.proofs.Keeps.NewNamespace.{with-namespace}
 use Rattle.table.proofs.Keeps.Reap.{without, reaped-pre}
 use Rattle.table.proofs.Keeps.SetChildren.{with-other-children, set-children-pre}
 use Rattle.table.proofs.Keeps.Signal.{with-signalled, signalled-pre}
-use Rattle.table.proofs.Laws.Cases.{isnt-so}
 use Rattle.table.proofs.Laws.Facts.{Facts, Taken, Stands, Lives, Below, SignalsOk, lives-taken, not-ended, Sane}
-use Rattle.table.proofs.Laws.Quant.{left, both}
+use Rattle.table.proofs.Laws.Tests.{isnt-so, left, both}
 use Rattle.table.specs.Calls.{new-namespace}
 use Rattle.table.specs.Fresh.{empty-process}
 use Rattle.table.specs.Limits.{levels, namespace-slots, process-slots, signals}

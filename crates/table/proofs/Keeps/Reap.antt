@@ -6,10 +6,9 @@ use mathlib.Core.Path.{_≡_, refl, sym, _∙_, subst, ap}
 use borrow.Author.Tests.{eq-eqb, ne-eqb}
 use lib.Dec.{eqb}
 use Rattle.table.proofs.Keeps.Changed.{pick}
-use Rattle.table.proofs.Laws.Cases.{zero-or, same-or}
 use Rattle.table.proofs.Laws.Facts.{Facts, Taken, Lives, Below, Seen, Other, lives-taken, not-ended}
-use Rattle.table.proofs.Laws.Quant.{left, right, both, all-intro}
 use Rattle.table.proofs.Laws.Reach.{reach-zero, reach-step, reach-cases}
+use Rattle.table.proofs.Laws.Tests.{zero-or, same-or, left, right, both, all-intro}
 use Rattle.table.specs.Limits.{levels, process-slots}
 use Rattle.table.specs.Read.{View, below, living, namespace-taken, pid-seen, seen, taken, is-ended}
 use Rattle.table.specs.Sound.{reaches-root, zero-namespace, zero-process}

@@ -5,8 +5,8 @@ use mathlib.Core.Logic.{⊎-elim}
 use mathlib.Core.Path.{sym, subst, _≡_, ap, _∙_}
 use borrow.Author.Tests.{eq-eqb, ne-eqb}
 use lib.Dec.{eqb}
-use Rattle.table.proofs.Laws.Cases.{same-or, isnt-so}
 use Rattle.table.proofs.Laws.Facts.{Holder, root, member, for-children, child, Facts, Held, Taken, Lives, SignalsOk, lives-taken, not-ended}
+use Rattle.table.proofs.Laws.Tests.{same-or, isnt-so}
 use Rattle.table.specs.Read.{View, below, living, namespace-taken, pid-seen, seen, taken, is-ended}
 use Rattle.table.specs.Sound.{kept-end, zero-namespace, zero-process}
 use Rattle.table.specs.Tests.{if_then_else_}

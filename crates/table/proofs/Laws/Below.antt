@@ -8,7 +8,7 @@ use mathlib.Core.Path.{_≡_, refl, sym, ap, subst}
 use borrow.Author.Tests.{eq-eqb, ne-eqb, eqb-true}
 use lib.Dec.{eqb}
 use Rattle.table.proofs.Laws.Facts.{Facts, Taken, Stands, Below, Other, lives-or-ended}
-use Rattle.table.proofs.Laws.Quant.{or-true}
+use Rattle.table.proofs.Laws.Tests.{or-true}
 use Rattle.table.proofs.Laws.Tree as Tree
 use Rattle.table.proofs.Laws.Tree.{Stepwise, climb-step, climb-cases}
 use Rattle.table.specs.Limits.{deepest, no-slot}

@@ -9,8 +9,7 @@ use borrow.Author.Tests.{eq-eqb, eqb-true}
 use lib.Dec.{eqb, leb}
 use lib.ListN.{length, List·getD-eq-default}
 use Rattle.table.proofs.Laws.Clauses.{Sound, sound-is, is-sound}
-use Rattle.table.proofs.Laws.Iff.{tests, not-iff, or-iff}
-use Rattle.table.proofs.Laws.Quant.{left, right, both, cases, or-left, all-intro, all-elim, any-elim, any-intro}
+use Rattle.table.proofs.Laws.Tests.{tests, not-iff, or-iff, left, right, both, cases, or-left, all-intro, all-elim, any-elim, any-intro}
 use Rattle.table.specs.Limits.{deepest, greatest-pid, levels, namespace-slots, no-slot, process-slots, signals}
 use Rattle.table.specs.Read.{View, view, no-process, no-namespace, taken, namespace-taken, living, alive, dead, unborn, init, below, seen, pid-seen, is-running, is-unborn, pid-at, is-ended}
 use Rattle.table.specs.SignalSets.{has}

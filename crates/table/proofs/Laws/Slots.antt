@@ -8,9 +8,8 @@ use mathlib.Core.Path.{_≡_, refl, sym, _∙_, ap, subst}
 use borrow.Author.Tests.{eq-eqb, eqb-true, eqb-false, leb-true, le-leb, lt-leb}
 use lib.Dec.{eqb}
 use Rattle.table.proofs.Laws.Below.{deep-namespace, up-level, not-root, level-deepest, below-trans}
-use Rattle.table.proofs.Laws.Cases.{isnt-so, no-so}
 use Rattle.table.proofs.Laws.Facts.{Facts, lives-or-ended, lives-taken}
-use Rattle.table.proofs.Laws.Quant.{left, right, cases, isnt, both}
+use Rattle.table.proofs.Laws.Tests.{isnt-so, no-so, left, right, cases, isnt, both}
 use Rattle.table.proofs.Laws.Tree as Tree
 use Rattle.table.proofs.Laws.Tree.{below-refl}
 use Rattle.table.specs.Limits.{levels, no-slot}

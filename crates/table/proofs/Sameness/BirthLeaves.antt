@@ -13,10 +13,9 @@ use Rattle.table.proofs.Keeps.BirthKeeps.{birth-view}
 use Rattle.table.proofs.Keeps.Changes.{namespace-sane}
 use Rattle.table.proofs.Keeps.Premises.{free-slot-is}
 use Rattle.table.proofs.Laws.Below.{below-level, below-trans}
-use Rattle.table.proofs.Laws.Cases.{no-so, isnt-so}
 use Rattle.table.proofs.Laws.Facts.{Facts, facts, Sane, sane, seen-taken, seen-below, lives-taken}
-use Rattle.table.proofs.Laws.Quant.{left, right, both, cases, or-false-left, or-false-right}
 use Rattle.table.proofs.Laws.Slots.{children-of, own-taken, below-same, below-parent}
+use Rattle.table.proofs.Laws.Tests.{no-so, isnt-so, left, right, both, cases, or-false-left, or-false-right}
 use Rattle.table.proofs.Laws.Tree.{below-refl}
 use Rattle.table.proofs.Sameness.Born.{below-grown, seen-grown, life-born, life-other, bottom, old}
 use Rattle.table.proofs.Sameness.ExitSame.{runs-living}

@@ -10,16 +10,14 @@ use borrow.Author.Tests.{eqb-true, eq-eqb, ne-eqb, le-leb, lt-leb}
 use lib.Dec.{eqb, leb}
 use Rattle.table.proofs.Keeps.Birth.{with-born}
 use Rattle.table.proofs.Laws.Below.{below-level, below-trans}
-use Rattle.table.proofs.Laws.Cases.{zero-or, no-so}
 use Rattle.table.proofs.Laws.Facts.{Facts, seen-taken, lives-taken}
 use Rattle.table.proofs.Laws.Slots.{own-taken, own-not-unborn, alive-taken, alive-not-unborn, init-taken, children-of, init-seen, parent-living, below-parent, below-same}
+use Rattle.table.proofs.Laws.Tests.{zero-or, no-so}
 use Rattle.table.proofs.Laws.Tree.{below-refl}
 use Rattle.table.proofs.Sameness.Anchor.{is-unborn-name, name-taken, up-below, name-no-slot}
-use Rattle.table.proofs.Sameness.BirthPids.{Cradles, cradle-next, next-unborn}
-use Rattle.table.proofs.Sameness.Born.{seen-grown, pid-in-grown, life-born, life-new, name-born, name-other, name-new, old, child-seen}
+use Rattle.table.proofs.Sameness.Born.{seen-grown, pid-in-grown, life-born, life-new, name-born, name-other, name-new, old, child-seen, Cradles, cradle-next, next-unborn, next-twins, last-twins}
 use Rattle.table.proofs.Sameness.ExitSame
 use Rattle.table.proofs.Sameness.Namespaces.{name-unborn}
-use Rattle.table.proofs.Sameness.NextPid.{next-twins, last-twins}
 use Rattle.table.proofs.Sameness.Readers.{is-init-twins}
 use Rattle.table.proofs.Sameness.Same.{Same, row-by}
 use Rattle.table.proofs.Sameness.Twins.{Pair, Twin, Twins, bool-ext, flip-pair, flip-twin, pid-in-seen, twin-rows, twin-there, twins-level, owns, own-alive, below-twins}

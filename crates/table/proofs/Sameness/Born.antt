@@ -1,28 +1,60 @@
--- A birth, on one table: what is read of the others is what it was.
-use Prim.Native.Nat.{ℕ, zero, suc, pred, _-_}
+-- A birth: the next number, and what is read of the others, on one table and on two that are the same to S.
+use Prim.Native.Nat.{ℕ, suc, _-_, zero, pred, _≤_}
 use native.Mathlib.Decide.{ℕ-discrete}
 use native.Mathlib.Omega.{arith}
-use mathlib.Core.Bool.{Bool, true, false, not, So, false≢true}
-use mathlib.Core.Path.{_≡_, refl, sym, _∙_, ap, ap₂, subst}
-use borrow.Author.Tests.{ne-eqb, le-leb, eq-eqb}
-use lib.Dec.{eqb}
+use mathlib.Core.Bool.{Bool, not, So, true, false, false≢true}
+use mathlib.Core.Logic.{_⊎_, inl, inr}
+use mathlib.Core.Path.{_≡_, refl, sym, _∙_, ap, ap₂, fun-ext, subst}
+use borrow.Author.Tests.{eq-eqb, eqb-true, ne-eqb, le-leb}
+use lib.Dec.{eqb, leb}
 use Rattle.table.proofs.Keeps.Birth.{with-born}
 use Rattle.table.proofs.Keeps.NewPid.{next-fresh}
 use Rattle.table.proofs.Laws.Below.{above-is, up-level, below-level}
-use Rattle.table.proofs.Laws.Cases.{no-so, isnt-so}
-use Rattle.table.proofs.Laws.Facts.{Facts}
-use Rattle.table.proofs.Laws.Quant.{both}
-use Rattle.table.proofs.Laws.Slots.{below-same, below-up-by, up-by-level, up-by-end, init-taken, alive-not-unborn, no-heirs}
+use Rattle.table.proofs.Laws.Facts.{Facts, seen-taken, seen-below}
+use Rattle.table.proofs.Laws.Slots.{init-own, below-same, below-up-by, up-by-level, up-by-end, init-taken, alive-not-unborn, no-heirs, own-not-unborn}
+use Rattle.table.proofs.Laws.Tests.{no-so, isnt-so, left, right, both, any-elim, any-intro}
 use Rattle.table.proofs.Laws.Tree.{below-refl}
 use Rattle.table.proofs.Sameness.Anchor.{anchor, anchor-alive}
-use Rattle.table.proofs.Sameness.Twins.{pid-in-seen}
-use Rattle.table.specs.Limits.{no-slot}
-use Rattle.table.specs.Pids.{next-pid}
-use Rattle.table.specs.Read.{View, above-at, below, init, init-of, is-alive, is-unborn, namespace-taken, pid-in, pid-seen, seen, taken, unborn, up-by}
-use Rattle.table.specs.Sheet.{by-init, dead-at, name, name-by, nearest, no-name, unborn-name}
-use Rattle.table.specs.Tests.{if_then_else_}
+use Rattle.table.proofs.Sameness.Readers.{seen-above}
+use Rattle.table.proofs.Sameness.Twins.{Pair, Twins, flip-pair, flip-twins, bool-ext, twin-there, twin-rows, seen-twins, pid-twins, inits-twin, pid-in-seen, twins-level, twins-up-by}
+use Rattle.table.specs.Limits.{greatest-pid, process-slots, restart-pid, no-slot}
+use Rattle.table.specs.Pids.{free-pid, next-pid}
+use Rattle.table.specs.Read.{View, alive, init, is-init, pid-seen, seen, above-at, below, init-of, is-alive, is-unborn, namespace-taken, pid-in, taken, unborn, up-by}
+use Rattle.table.specs.Sheet.{Row, row, by-init, dead-at, name, name-by, nearest, no-name, unborn-name}
+use Rattle.table.specs.Tests.{_and_, any, if_then_else_, lowest}
 use Rattle.table.specs.declared.Life.the-variants.{Unborn, Alive, Dead}
 use Rattle.table.specs.declared.Life.{Life}
+
+-- ---- the next number in two twin namespaces is the same
+
+held-there : (v u : View) (s r : ℕ) (w : Pair v u s r) (n m k : ℕ) → Twins v u s r n m → So (any process-slots (λ i. seen v n i and eqb (pid-seen v n i) k)) → So (any process-slots (λ j. seen u m j and eqb (pid-seen u m j) k))
+held-there v u s r w n m k l h =
+    let (i, b, g) = any-elim _ _ h in
+    let (j, p) = twin-there v u s r w i (seen-above v (w .facts-v) n s i (l .below-v) (left _ _ g)) in
+    any-intro _ _ j (w .facts-u .in-range j (seen-taken u r j (p .seen-u)))
+    (both _ _ (sym (seen-twins v u s r w i j n m p l) ∙ left _ _ g) (eq-eqb _ _ (sym (pid-twins v u s r w i j n m p l) ∙ eqb-true _ _ (right _ _ g))))
+
+module _ (v u : View) (s r : ℕ) (w : Pair v u s r) (n m : ℕ) (l : Twins v u s r n m) where
+  pub free-twins : (k : ℕ) → free-pid v n k ≡ free-pid u m k
+  unfolding free-pid
+  free-twins k = ap not (bool-ext _ _ (held-there v u s r w n m k l) (held-there u v r s (flip-pair v u s r w) m n k (flip-twins v u s r n m l)))
+
+  -- the last number, from the init's row
+  pub last-twins : v .last n ≡ u .last m
+  unfolding row is-init
+  last-twins = sym (shows v (w .facts-v) n (l .lives-v)) ∙ ap (λ (q : Row). q .last) (twin-rows v u s r w _ _ (inits-twin v u s r w n m l)) ∙ shows u (w .facts-u) m (l .lives-u)
+    where
+      shows : (x : View) (f : Facts x) (a : ℕ) → So (alive x a) → (if eqb (init x (x .own (init x a))) (init x a) then x .last (x .own (init x a)) else 0) ≡ x .last a
+      shows x f a h =
+          ap (λ (y : ℕ). if eqb (init x y) (init x a) then x .last y else 0) (init-own x f a h)
+          ∙ ap (λ (b : Bool). if b then x .last a else 0) (eq-eqb (init x a) (init x a) refl)
+
+  pub next-twins : next-pid v n ≡ next-pid u m
+  unfolding next-pid
+  next-twins =
+      ap₂ (λ (f : ℕ → Bool) (a : ℕ). let k = lowest f (greatest-pid - a) (suc a) in let q = lowest f (suc greatest-pid - restart-pid) restart-pid in if leb k greatest-pid then k else q) (fun-ext free-twins) last-twins
+
+-- ---- a birth, on one table: what is read of the others is what it was
 
 -- nothing lies below an unborn namespace but itself
 pub bottom : (v : View) (f : Facts v) (a m : ℕ) → So (below v a m) → So (unborn v m) → a ≡ m
@@ -135,3 +167,55 @@ module _ (v : View) (f : Facts v) (c n k : ℕ) (new : taken v k ≡ false) (tn 
   name-new s h b =
       rw (ne-eqb n no-slot (λ e. omega (arith, f .in-namespace n tn)), life-new h)
       (ap by-init (pid-in-seen v′ s k (child-seen s b) ∙ child-pid-in s b))
+
+-- ---- the numbers that two newborns get from S's level down are the same
+
+-- nobody is seen from an unborn namespace
+unborn-unseen : (v : View) (f : Facts v) (n i : ℕ) → So (unborn v n) → So (seen v n i) → ⊥
+unborn-unseen v f n i h k = no-so (own-not-unborn v f i (seen-taken v n i k)) (subst (λ m. So (unborn v m)) (sym (bottom v f (v .own i) n (seen-below v n i k) h)) h)
+
+unborn-free : (v : View) (f : Facts v) (n k : ℕ) → So (unborn v n) → So (free-pid v n k)
+unfolding free-pid
+unborn-free v f n k h = ap not (bool-ext held false (λ a. let (i, l, g) = any-elim _ _ a in absurd (unborn-unseen v f n i h (left _ _ g))) (λ a. absurd (false≢true a)))
+  where
+    held : Bool
+    held = any process-slots (λ i. seen v n i and eqb (pid-seen v n i) k)
+
+pub next-unborn : (v u : View) (f : Facts v) (g : Facts u) (n m : ℕ) → So (unborn v n) → So (unborn u m) → v .last n ≡ u .last m → next-pid v n ≡ next-pid u m
+unfolding next-pid
+next-unborn v u f g n m h k e =
+    ap₂ (λ (x : ℕ → Bool) (a : ℕ). let y = lowest x (greatest-pid - a) (suc a) in let q = lowest x (suc greatest-pid - restart-pid) restart-pid in if leb y greatest-pid then y else q) (fun-ext (λ i. unborn-free v f n i h ∙ sym (unborn-free u g m i k))) e
+
+-- where two children are born: in twin namespaces, or in unborn ones below twin namespaces
+pub record Unborns (v u : View) (s r n m : ℕ) : Type 0 where
+  pub unborn-v : So (unborn v n)
+  pub unborn-u : So (unborn u m)
+  pub lasts : v .last n ≡ u .last m
+  pub ups : Twins v u s r (v .up n) (u .up m)
+  pub level-v : v .level n ≡ suc (v .level (v .up n))
+  pub level-u : u .level m ≡ suc (u .level (u .up m))
+
+abbrev pub Cradles : View → View → ℕ → ℕ → ℕ → ℕ → Type 0
+Cradles v u s r n m = Twins v u s r n m ⊎ Unborns v u s r n m
+
+pub cradle-next : (v u : View) (s r : ℕ) (w : Pair v u s r) (n m l : ℕ) → Cradles v u s r n m → v .level s ≤ l → l ≤ v .level n → next-pid v (above-at v n l) ≡ next-pid u (above-at u m l)
+unfolding above-at up-by
+cradle-next v u s r w n m l (inl k) a b =
+    next-twins v u s r w (up-by (v .up) (v .level n - l) n) (up-by (u .up) (u .level m - l) m)
+    (subst (λ x. Twins v u s r (up-by (v .up) (v .level n - l) n) (up-by (u .up) (x - l) m)) (twins-level v u s r w n m k) (twins-up-by v u s r w (v .level n - l) n m k (omega arith)))
+cradle-next v u s r w n m l (inr k) a b = go (ℕ-discrete l (v .level n))
+  where
+    levels : v .level n ≡ u .level m
+    levels = omega (arith, k .level-v, k .level-u, twins-level v u s r w (v .up n) (u .up m) (k .ups))
+
+    go : Dec (l ≡ v .level n) → next-pid v (up-by (v .up) (v .level n - l) n) ≡ next-pid u (up-by (u .up) (u .level m - l) m)
+    go (yes e) =
+        let x : v .level n - l ≡ 0 = omega arith in
+        let y : u .level m - l ≡ 0 = omega (arith, levels) in
+        ap (λ z. next-pid v (up-by (v .up) z n)) x ∙ next-unborn v u (w .facts-v) (w .facts-u) n m (k .unborn-v) (k .unborn-u) (k .lasts) ∙ sym (ap (λ z. next-pid u (up-by (u .up) z m)) y)
+    go (no e) =
+        let x : v .level n - l ≡ suc (v .level (v .up n) - l) = omega (arith, k .level-v) in
+        let y : u .level m - l ≡ suc (v .level (v .up n) - l) = omega (arith, levels, k .level-v) in
+        ap (λ z. next-pid v (up-by (v .up) z n)) x
+        ∙ next-twins v u s r w _ _ (twins-up-by v u s r w (v .level (v .up n) - l) (v .up n) (u .up m) (k .ups) (omega arith))
+        ∙ sym (ap (λ z. next-pid u (up-by (u .up) z m)) y)

@@ -8,18 +8,16 @@ use lib.Dec.{eqb}
 use Rattle.table.proofs.Keeps.BirthKeeps.{birth-view}
 use Rattle.table.proofs.Keeps.Premises.{free-slot-is}
 use Rattle.table.proofs.Laws.Below.{up-level, below-trans}
-use Rattle.table.proofs.Laws.Cases.{isnt-so}
 use Rattle.table.proofs.Laws.Facts.{Facts, facts, Sane, sane, seen-taken, seen-below}
-use Rattle.table.proofs.Laws.Quant.{or-true}
 use Rattle.table.proofs.Laws.Slots.{alive-otherwise, root-only, alive-not-unborn}
+use Rattle.table.proofs.Laws.Tests.{isnt-so, or-true}
 use Rattle.table.proofs.Sameness.Anchor.{anchor-self, root-alive, is-unborn-name, is-dead-name, name-taken}
-use Rattle.table.proofs.Sameness.BirthPids.{Cradles}
 use Rattle.table.proofs.Sameness.BirthSame.{birth-same}
+use Rattle.table.proofs.Sameness.Born.{Cradles, next-twins}
 use Rattle.table.proofs.Sameness.Calls.{both-refuse, owns-twins, taken-s, taken-r, the-rows}
 use Rattle.table.proofs.Sameness.ExitSame.{runs-living}
 use Rattle.table.proofs.Sameness.Inside.{Kept, Ready, MadeSame, stands-same}
 use Rattle.table.proofs.Sameness.Namespaces.{children-taken, children-below, name-unborn, anchors-of}
-use Rattle.table.proofs.Sameness.NextPid.{next-twins}
 use Rattle.table.proofs.Sameness.Readers.{twin-eqb}
 use Rattle.table.proofs.Sameness.Same.{Same}
 use Rattle.table.proofs.Sameness.Twins.{Twin, Twins, bool-ext}

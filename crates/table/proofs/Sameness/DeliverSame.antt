@@ -12,8 +12,8 @@ use Rattle.table.proofs.Keeps.Changed.{process-count}
 use Rattle.table.proofs.Keeps.Deliver.{Good, action-good, act-sane}
 use Rattle.table.proofs.Laws.Below.{below-taken, below-level}
 use Rattle.table.proofs.Laws.Facts.{Facts, Sane, lives-taken}
-use Rattle.table.proofs.Laws.Quant.{left, right, both, or-true}
 use Rattle.table.proofs.Laws.Slots.{living-own-alive, root-only, own-taken}
+use Rattle.table.proofs.Laws.Tests.{left, right, both, or-true}
 use Rattle.table.proofs.Sameness.Calls.{Shown, shown, same-put}
 use Rattle.table.proofs.Sameness.Light.{relight, Placed, put-light, put-other}
 use Rattle.table.proofs.Sameness.Readers.{is-init-twins, living-twins}

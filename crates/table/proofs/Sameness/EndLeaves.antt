@@ -9,14 +9,13 @@ use borrow.Author.Tests.{eqb-true, eqb-false, ne-eqb}
 use lib.Dec.{eqb}
 use lib.IntN.{ℤ}
 use Rattle.table.proofs.Keeps.End.{end-view, end-sane}
-use Rattle.table.proofs.Keeps.FreedKeeps.{freed-view}
+use Rattle.table.proofs.Keeps.Freed.{freed-view}
 use Rattle.table.proofs.Keeps.InitEnds.{gone, subtree-gone}
 use Rattle.table.proofs.Laws.Below.{up-level, below-level, below-trans}
-use Rattle.table.proofs.Laws.Cases.{no-so, isnt-so, choose}
 use Rattle.table.proofs.Laws.Facts.{Facts, facts, Sane, sane, seen-below, lives-taken}
-use Rattle.table.proofs.Laws.Quant.{right, both, cases, any-intro, isnt}
 use Rattle.table.proofs.Laws.Slots.{own-taken, below-same, below-parent, init-own, living-own-alive}
 use Rattle.table.proofs.Laws.Steps.{remainder}
+use Rattle.table.proofs.Laws.Tests.{no-so, isnt-so, choose, right, both, cases, any-intro, isnt}
 use Rattle.table.proofs.Laws.Tree.{below-refl}
 use Rattle.table.proofs.Sameness.ExitSame.{runs-living}
 use Rattle.table.proofs.Sameness.Freeing.{freed-leaves}

@@ -9,9 +9,9 @@ use lib.Dec.{eqb}
 use Rattle.table.proofs.Keeps.End.{ended-view, end-view, end-sane}
 use Rattle.table.proofs.Keeps.InitEnds.{subtree-gone, gone}
 use Rattle.table.proofs.Laws.Below.{below-level}
-use Rattle.table.proofs.Laws.Cases.{false-and, no-so, isnt-so, and-false, choose}
 use Rattle.table.proofs.Laws.Facts.{Facts, seen-below, lives-taken}
 use Rattle.table.proofs.Laws.Slots.{living-own-alive, below-same}
+use Rattle.table.proofs.Laws.Tests.{false-and, no-so, isnt-so, and-not, choose}
 use Rattle.table.proofs.Sameness.DeliverSame.{EndSame, pair-of, Target}
 use Rattle.table.proofs.Sameness.InitEnd.{fallen-shape, both-stay, init-same, stays, init-stays}
 use Rattle.table.proofs.Sameness.MemberEnd.{member-remain, member-same, member-of}
@@ -41,7 +41,7 @@ ended-end v x e i h =
     (λ a. at (eqb i x))
   where
     not-true : (a : Bool) → a and false ≡ false
-    not-true a = and-false a refl
+    not-true a = and-not a refl
 
     go : (b c : Bool) → not (eqb (if b then 0 else v .pid i 0) 0) and not (if b then false else (if c then true else v .ended i)) ≡ false
     go true c = false-and _ _ (λ k. false≢true k)

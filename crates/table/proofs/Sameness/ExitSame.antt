@@ -12,9 +12,9 @@ use Rattle.table.proofs.Keeps.End.{end-sane, end-tree, end-view}
 use Rattle.table.proofs.Keeps.InitEnds.{subtree-gone}
 use Rattle.table.proofs.Laws.Below.{below-level, up-level}
 use Rattle.table.proofs.Laws.Facts.{Facts, Sane, sane, seen-taken, seen-below}
-use Rattle.table.proofs.Laws.Quant.{left, right, both}
 use Rattle.table.proofs.Laws.Slots.{alive-taken, init-pid, init-own, root-only, pid-unique, alive-up, init-seen}
 use Rattle.table.proofs.Laws.Steps.{remainder}
+use Rattle.table.proofs.Laws.Tests.{left, right, both}
 use Rattle.table.proofs.Laws.Tree.{below-refl}
 use Rattle.table.proofs.Sameness.Calls.{both-refuse, owns-twins, own-lives, taken-s, taken-r}
 use Rattle.table.proofs.Sameness.DeliverSame.{Held, pair-of, EndSame}

@@ -10,8 +10,8 @@ use borrow.Author.Tests.{eq-eqb, eqb-true}
 use lib.Dec.{eqb}
 use Rattle.table.proofs.Laws.Facts.{Facts, seen-taken}
 use Rattle.table.proofs.Laws.Lists.{In, in-map}
-use Rattle.table.proofs.Laws.Quant.{left, right, both}
 use Rattle.table.proofs.Laws.Slots.{pid-unique}
+use Rattle.table.proofs.Laws.Tests.{left, right, both}
 use Rattle.table.proofs.Sameness.Same.{Same, same-of-sheets, row-key, level-lt, key, seen-listed}
 use Rattle.table.specs.Limits.{levels, process-slots}
 use Rattle.table.specs.Read.{View, all-seen, find, namespace-taken, pid-seen, seen}

@@ -5,14 +5,12 @@ use mathlib.Core.List.{List, _∷_, map, []}
 use mathlib.Core.Logic.{inl, ⊎-elim}
 use mathlib.Core.Path.{_≡_, refl, sym, _∙_, ap, subst}
 use borrow.Author.Tests.{eqb-true}
-use Rattle.table.proofs.Keeps.Freed.{restrict, kept-up, kept-children, kept-own, kept-by, kept-root}
-use Rattle.table.proofs.Keeps.FreedKeeps.{freed-view, freed-keeps}
+use Rattle.table.proofs.Keeps.Freed.{restrict, kept-up, kept-children, kept-own, kept-by, kept-root, freed-view, freed-keeps}
 use Rattle.table.proofs.Laws.Below.{deep-namespace, not-root}
-use Rattle.table.proofs.Laws.Cases.{isnt-so, no-so}
 use Rattle.table.proofs.Laws.Facts.{Facts, facts, Sane, seen-taken, seen-below}
 use Rattle.table.proofs.Laws.Lists.{In}
-use Rattle.table.proofs.Laws.Quant.{cases}
 use Rattle.table.proofs.Laws.Slots.{children-of, init-own, alive-taken, init-taken}
+use Rattle.table.proofs.Laws.Tests.{isnt-so, no-so, cases}
 use Rattle.table.proofs.Sameness.Anchor.{name-no-slot}
 use Rattle.table.proofs.Sameness.Remain.{Remain, lit, row-remain, seen-remain, pid-in-remain, name-remain, everyone}
 use Rattle.table.proofs.Sameness.Same.{Same, sheets-of-same, listed-seen}

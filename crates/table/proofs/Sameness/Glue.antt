@@ -10,8 +10,8 @@ use borrow.Author.Tests.{eq-eqb, ne-eqb}
 use Rattle.table.proofs.Keeps.Changes.{keeps-sound}
 use Rattle.table.proofs.Laws.Facts.{facts}
 use Rattle.table.proofs.Laws.Lists.{heads-equal, tails-equal, not-empty}
-use Rattle.table.proofs.Laws.Quant.{left, right}
 use Rattle.table.proofs.Laws.Slots.{alive-taken}
+use Rattle.table.proofs.Laws.Tests.{left, right}
 use Rattle.table.proofs.Sameness.Find.{Callers, find-same, find-none}
 use Rattle.table.specs.Answers.{is-no-room}
 use Rattle.table.specs.Claims.{Agree, KeepsSound, Observed, OutsideLeaves, Sameness, observations, observe, lacks-room}

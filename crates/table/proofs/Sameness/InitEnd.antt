@@ -7,10 +7,9 @@ use borrow.Author.Tests.{ne-eqb}
 use lib.Dec.{eqb}
 use Rattle.table.proofs.Keeps.InitEnds.{subtree-gone, gone}
 use Rattle.table.proofs.Laws.Below.{below-trans}
-use Rattle.table.proofs.Laws.Cases.{isnt-so, no-so, false-and}
 use Rattle.table.proofs.Laws.Facts.{Facts, seen-taken, seen-below}
-use Rattle.table.proofs.Laws.Quant.{right, both, isnt, isnt-not}
 use Rattle.table.proofs.Laws.Slots.{own-taken, init-own, child-seen}
+use Rattle.table.proofs.Laws.Tests.{isnt-so, no-so, false-and, right, both, isnt, isnt-not}
 use Rattle.table.proofs.Sameness.Anchor.{anchor, is-unborn-name, name-no-slot}
 use Rattle.table.proofs.Sameness.Namespaces.{children-taken, children-below, name-unborn, unborn-outside, anchors-of, below-named, level-named, parent-in-twins}
 use Rattle.table.proofs.Sameness.Readers.{twin-eqb, ended-twins}

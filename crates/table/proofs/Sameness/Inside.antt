@@ -5,10 +5,10 @@ use mathlib.Core.Logic.{_⊎_, inr}
 use mathlib.Core.Path.{_≡_, refl, sym, _∙_, ap}
 use Rattle.table.proofs.Keeps.Changes.{make-sound}
 use Rattle.table.proofs.Laws.Facts.{facts, seen-taken, seen-below}
-use Rattle.table.proofs.Laws.Quant.{left, right, both}
 use Rattle.table.proofs.Laws.Slots.{living-own-alive, alive-above}
 use Rattle.table.proofs.Laws.Slots.{pid-unique}
 use Rattle.table.proofs.Laws.Steps.{step-made, step-refused}
+use Rattle.table.proofs.Laws.Tests.{left, right, both}
 use Rattle.table.proofs.Sameness.Find.{row-pid}
 use Rattle.table.proofs.Sameness.Glue.{InsideSame, follow-self}
 use Rattle.table.proofs.Sameness.Same.{Same, same-of-sheets, sheets-of-same, level-lt}

@@ -9,11 +9,10 @@ use lib.ListN.{length}
 use Rattle.table.proofs.Keeps.Deliver.{Safe, deliver-sane, Good, action-good, deliver-all-sane}
 use Rattle.table.proofs.Keeps.End.{end-view}
 use Rattle.table.proofs.Keeps.Premises.{natural-low, targets-safe}
-use Rattle.table.proofs.Laws.Cases.{isnt-so}
 use Rattle.table.proofs.Laws.Facts.{Facts, facts, Sane, sane, lives-taken}
 use Rattle.table.proofs.Laws.Lists.{some-of-false}
-use Rattle.table.proofs.Laws.Quant.{both, or-false-left, or-false-right}
 use Rattle.table.proofs.Laws.Slots.{own-taken, living-own-alive}
+use Rattle.table.proofs.Laws.Tests.{isnt-so, both, or-false-left, or-false-right}
 use Rattle.table.proofs.Sameness.DeliverSame.{not-living-put, resumed-placed, action-none}
 use Rattle.table.proofs.Sameness.EndLeaves.{end-still, end-dies, end-back, freed-back, lives-on, not-own}
 use Rattle.table.proofs.Sameness.EndSame.{ended-end}

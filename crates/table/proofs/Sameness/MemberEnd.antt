@@ -6,9 +6,9 @@ use mathlib.Core.Path.{_≡_, sym, _∙_, refl, ap}
 use lib.Dec.{eqb}
 use Rattle.table.proofs.Keeps.Changed.{pick}
 use Rattle.table.proofs.Keeps.MemberEnds.{member-gone}
-use Rattle.table.proofs.Laws.Cases.{choose}
 use Rattle.table.proofs.Laws.Facts.{Facts, seen-taken}
 use Rattle.table.proofs.Laws.Slots.{init-seen, children-of}
+use Rattle.table.proofs.Laws.Tests.{choose}
 use Rattle.table.proofs.Sameness.Anchor.{name-no-slot}
 use Rattle.table.proofs.Sameness.Readers.{twin-eqb, child-twins}
 use Rattle.table.proofs.Sameness.Remain.{Remain, Lit, same-remain, pid-in-remain, name-remain, everyone}

@@ -5,8 +5,8 @@ use mathlib.Core.Bool.{Bool, true, false, So, false≢true}
 use mathlib.Core.Path.{_≡_, refl, sym, _∙_, ap, subst}
 use Rattle.table.proofs.Laws.Below.{below-level, below-trans}
 use Rattle.table.proofs.Laws.Facts.{Facts, lives-taken}
-use Rattle.table.proofs.Laws.Quant.{both}
 use Rattle.table.proofs.Laws.Slots.{below-same, below-parent, init-seen, alive-not-unborn}
+use Rattle.table.proofs.Laws.Tests.{both}
 use Rattle.table.proofs.Sameness.Anchor.{anchor, anchor-self, anchor-alive, anchor-below, anchor-least, is-by-init, is-unborn-name, name-pid, name-taken, name-alive, name-anchor}
 use Rattle.table.proofs.Sameness.Readers.{parent-seen, parent-twin, seen-above}
 use Rattle.table.proofs.Sameness.Twins.{Pair, Twin, Twins, bool-ext, pid-in-seen, below-twins, seen-twins, twins-up, twins-level}

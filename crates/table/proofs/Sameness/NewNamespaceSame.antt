@@ -12,20 +12,18 @@ use Rattle.table.proofs.Keeps.Changed.{process-count, namespace-count}
 use Rattle.table.proofs.Keeps.Changes.{namespace-sane, unshare-sane}
 use Rattle.table.proofs.Keeps.Premises.{free-slot-is}
 use Rattle.table.proofs.Laws.Below.{below-trans}
-use Rattle.table.proofs.Laws.Cases.{isnt-so}
 use Rattle.table.proofs.Laws.Facts.{Facts, facts, Sane, sane, seen-taken}
-use Rattle.table.proofs.Laws.Quant.{isnt, or-right, or-false-left, or-false-right}
 use Rattle.table.proofs.Laws.Slots.{own-taken, up-taken, alive-taken, children-of}
+use Rattle.table.proofs.Laws.Tests.{isnt-so, isnt, or-right, or-false-left, or-false-right}
 use Rattle.table.proofs.Sameness.Anchor.{up-below, name-no-slot}
-use Rattle.table.proofs.Sameness.BirthPids.{Cradles}
 use Rattle.table.proofs.Sameness.BirthSame.{birth-same}
+use Rattle.table.proofs.Sameness.Born.{Cradles, next-twins}
 use Rattle.table.proofs.Sameness.Calls.{shown, both-refuse, owns-twins, own-lives, same-put}
 use Rattle.table.proofs.Sameness.CloneSame.{no-room-left, no-room-right, one-up}
 use Rattle.table.proofs.Sameness.ExitSame.{runs-living}
 use Rattle.table.proofs.Sameness.Find.{lowest-cases}
 use Rattle.table.proofs.Sameness.Freeing.{freed-alike}
 use Rattle.table.proofs.Sameness.Inside.{Kept, Ready, MadeSame, stands-same}
-use Rattle.table.proofs.Sameness.NextPid.{next-twins}
 use Rattle.table.proofs.Sameness.Remain.{Remain, Lit, same-remain, standing, pid-in-remain, name-remain, seen-remain, pid-remain, everyone}
 use Rattle.table.proofs.Sameness.Same.{Same}
 use Rattle.table.proofs.Sameness.Twins.{Pair, Twin, Twins, twin-rows, twins-level, owns}

@@ -6,8 +6,8 @@ use lib.Dec.{eqb}
 use lib.IntN.{ℤ}
 use Rattle.table.proofs.Keeps.Changes.{make-sound}
 use Rattle.table.proofs.Laws.Facts.{facts}
-use Rattle.table.proofs.Laws.Quant.{left, isnt}
 use Rattle.table.proofs.Laws.Steps.{step-made, step-refused}
+use Rattle.table.proofs.Laws.Tests.{left, isnt}
 use Rattle.table.proofs.Sameness.Glue.{follow-self}
 use Rattle.table.proofs.Sameness.Same.{Same, sheets-of-same}
 use Rattle.table.proofs.Sameness.Still.{same-still, near, put-still}

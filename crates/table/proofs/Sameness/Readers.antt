@@ -8,8 +8,8 @@ use borrow.Author.Tests.{eq-eqb, ne-eqb, eqb-true}
 use lib.Dec.{eqb}
 use Rattle.table.proofs.Laws.Below.{below-level, below-trans}
 use Rattle.table.proofs.Laws.Facts.{Facts, seen-taken, seen-below}
-use Rattle.table.proofs.Laws.Quant.{left, right, both}
 use Rattle.table.proofs.Laws.Slots.{pid-pos, alive-taken, pid-unique}
+use Rattle.table.proofs.Laws.Tests.{left, right, both}
 use Rattle.table.proofs.Sameness.Find.{Found, find-cases}
 use Rattle.table.proofs.Sameness.Twins.{Pair, Twin, Twins, flip-pair, flip-twin, bool-ext, pid-in-seen, twin-rows, twin-there, twin-unique, seen-twins, pid-twins, inits-twin, owns}
 use Rattle.table.specs.Limits.{process-slots}

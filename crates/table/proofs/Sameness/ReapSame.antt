@@ -8,10 +8,9 @@ use mathlib.Core.Path.{_≡_, refl, sym, _∙_, ap, subst}
 use borrow.Author.Tests.{eqb-true, eqb-false, ne-eqb, ltb-true, ltb-false}
 use lib.Dec.{eqb, ltb}
 use Rattle.table.proofs.Keeps.Reap.{without}
-use Rattle.table.proofs.Laws.Cases.{no-so, zero-or}
 use Rattle.table.proofs.Laws.Facts.{Facts, seen-taken}
-use Rattle.table.proofs.Laws.Quant.{right, isnt, and-false, true-and, true-or, false-or-true, false-or-false, true-and-false, isnt-not}
 use Rattle.table.proofs.Laws.Slots.{children-of, init-living, parent-living}
+use Rattle.table.proofs.Laws.Tests.{no-so, zero-or, right, isnt, and-false, true-and, true-or, false-or-true, false-or-false, true-and-false, isnt-not}
 use Rattle.table.proofs.Sameness.Anchor.{name-no-slot}
 use Rattle.table.proofs.Sameness.Readers.{twin-eqb}
 use Rattle.table.proofs.Sameness.Remain.{Remain, Lit, same-remain, pid-in-remain, name-remain, everyone}

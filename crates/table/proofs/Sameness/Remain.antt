@@ -5,8 +5,8 @@ use mathlib.Core.Path.{_≡_, refl, sym, _∙_, ap, ap₂, subst, fun-ext}
 use lib.Dec.{eqb}
 use Rattle.table.proofs.Laws.Below.{up-level}
 use Rattle.table.proofs.Laws.Facts.{Facts, seen-taken}
-use Rattle.table.proofs.Laws.Quant.{and-false}
 use Rattle.table.proofs.Laws.Slots.{own-taken}
+use Rattle.table.proofs.Laws.Tests.{and-false}
 use Rattle.table.proofs.Sameness.Anchor.{anchor, anchor-alive}
 use Rattle.table.proofs.Sameness.Same.{Same}
 use Rattle.table.proofs.Sameness.Twins.{Pair, Twin, twin-rows, twin-there, flip-pair, flip-twin}

@@ -10,8 +10,8 @@ use lib.IntN.{ℤ, pos, negsuc}
 use Rattle.table.proofs.Keeps.Changes.{setns-sane}
 use Rattle.table.proofs.Keeps.Premises.{named-seen}
 use Rattle.table.proofs.Laws.Facts.{facts}
-use Rattle.table.proofs.Laws.Quant.{or-false-left}
 use Rattle.table.proofs.Laws.Steps.{runs-lives}
+use Rattle.table.proofs.Laws.Tests.{or-false-left}
 use Rattle.table.proofs.Sameness.Calls.{shown, both-refuse, owns-twins, lt-t, lt-u, same-put}
 use Rattle.table.proofs.Sameness.Freeing.{freed-alike, freed-leaves}
 use Rattle.table.proofs.Sameness.Inside.{Kept, Ready, MadeSame}

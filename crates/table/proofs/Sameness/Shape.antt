@@ -8,8 +8,8 @@ use borrow.Author.Tests.{ne-eqb}
 use lib.Dec.{eqb}
 use Rattle.table.proofs.Laws.Below.{up-level, below-level, below-trans}
 use Rattle.table.proofs.Laws.Facts.{Facts}
-use Rattle.table.proofs.Laws.Quant.{and-false}
 use Rattle.table.proofs.Laws.Slots.{below-parent, below-same, alive-up}
+use Rattle.table.proofs.Laws.Tests.{and-false}
 use Rattle.table.proofs.Sameness.Anchor.{anchor, anchor-alive, anchor-below, up-below}
 use Rattle.table.proofs.Sameness.Same.{Same}
 use Rattle.table.proofs.Sameness.Twins.{Pair, Twin, twin-there, flip-pair, flip-twin, bool-ext}

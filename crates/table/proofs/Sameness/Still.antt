@@ -8,8 +8,8 @@ use mathlib.Core.Path.{_≡_, refl, sym, _∙_, ap, ap₂, subst, fun-ext}
 use lib.Dec.{eqb}
 use Rattle.table.proofs.Laws.Below.{up-level, below-level, below-trans}
 use Rattle.table.proofs.Laws.Facts.{Facts, seen-taken, seen-below}
-use Rattle.table.proofs.Laws.Quant.{both, cases, or-left, or-right}
 use Rattle.table.proofs.Laws.Slots.{below-parent, below-same}
+use Rattle.table.proofs.Laws.Tests.{both, cases, or-left, or-right}
 use Rattle.table.proofs.Laws.Tree.{below-refl}
 use Rattle.table.proofs.Sameness.Anchor.{anchor, up-below, name-no-slot}
 use Rattle.table.proofs.Sameness.Light.{Placed, put-other, light-remain, put-light}

@@ -7,8 +7,8 @@ use mathlib.Core.Path.{_≡_, refl, sym, _∙_, ap, subst, subst₂}
 use lib.ListN.{getD}
 use Rattle.table.proofs.Laws.Below.{level-deepest, below-level, up-level, not-root, below-trans}
 use Rattle.table.proofs.Laws.Facts.{Facts, seen-taken, seen-below, lives-taken}
-use Rattle.table.proofs.Laws.Quant.{right, both}
 use Rattle.table.proofs.Laws.Slots.{pid-unique, own-taken, own-not-unborn, pid-pos, pid-zero, below-parent, below-up-by, up-by-below, alive-taken, alive-up, init-seen, init-own, init-parent, init-taken, parent-living}
+use Rattle.table.proofs.Laws.Tests.{right, both}
 use Rattle.table.proofs.Sameness.Anchor.{anchor, anchor-self, anchor-alive, anchor-below, anchor-least, is-by-init, name-pid, name-alive, name-anchor}
 use Rattle.table.proofs.Sameness.Find.{row-pid}
 use Rattle.table.proofs.Sameness.Same.{Same, getD-values, level-lt}

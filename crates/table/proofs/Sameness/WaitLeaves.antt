@@ -7,13 +7,12 @@ use mathlib.Core.Path.{_≡_, refl, sym, _∙_, ap, subst}
 use borrow.Author.Tests.{eq-eqb, ne-eqb}
 use lib.Dec.{eqb}
 use lib.ListN.{List·getD-eq-default}
-use Rattle.table.proofs.Keeps.FreedKeeps.{freed-view}
+use Rattle.table.proofs.Keeps.Freed.{freed-view}
 use Rattle.table.proofs.Keeps.PutKeeps.{reaped-sane, reaped-view}
 use Rattle.table.proofs.Keeps.Reap.{without}
-use Rattle.table.proofs.Laws.Cases.{no-so, isnt-so}
 use Rattle.table.proofs.Laws.Facts.{Facts, facts, sane}
-use Rattle.table.proofs.Laws.Quant.{left, right, both, isnt, any-intro, isnt-not}
 use Rattle.table.proofs.Laws.Steps.{step-made}
+use Rattle.table.proofs.Laws.Tests.{no-so, isnt-so, left, right, both, isnt, any-intro, isnt-not}
 use Rattle.table.proofs.Sameness.Calls.{processes-length}
 use Rattle.table.proofs.Sameness.Freeing.{freed-leaves}
 use Rattle.table.proofs.Sameness.Outside.{MadeLeaves, as-it-was}

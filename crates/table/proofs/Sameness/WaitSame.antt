@@ -8,8 +8,8 @@ use borrow.Author.Tests.{eqb-true}
 use lib.ListN.{List·getD-eq-default}
 use Rattle.table.proofs.Keeps.PutKeeps.{reaped-sane, reaped-view}
 use Rattle.table.proofs.Laws.Facts.{Facts, facts, sane, seen-taken}
-use Rattle.table.proofs.Laws.Quant.{left, right, both, any-elim, any-intro}
 use Rattle.table.proofs.Laws.Slots.{child-seen}
+use Rattle.table.proofs.Laws.Tests.{left, right, both, any-elim, any-intro}
 use Rattle.table.proofs.Laws.Tree.{below-refl}
 use Rattle.table.proofs.Sameness.Calls.{shown, processes-length, both-refuse, both-tell, owns-twins}
 use Rattle.table.proofs.Sameness.Freeing.{freed-alike}
