@@ -22,7 +22,7 @@ use Rattle.table.proofs.Laws.Lists.{In, some-of-in, in-some-of, only-in
 use Rattle.table.proofs.Laws.Slots.{pid-pos}
 use Rattle.table.proofs.Laws.Steps.{made-or-refused}
 use Rattle.table.proofs.Laws.Tests.{isnt-so, zero-or, choose, left, right, both, isnt-not}
-use Rattle.table.proofs.Sameness.Find.{find-cases}
+use Rattle.table.proofs.Sameness.Same.{find-cases}
 use Rattle.table.specs.Answers.{answers, granted, refused}
 use Rattle.table.specs.Calls.{kill, names-group, natural, targets, within, named, others, pid-to}
 use Rattle.table.specs.Claims.{SignalFinds, meant}

@@ -1,4 +1,4 @@
--- clone and clone new by an outsider, the child being born outside S.
+-- clone, clone new and unshare by an outsider: the child is born outside S.
 use Prim.Native.Nat.{ℕ, _<_, _≤_}
 use native.Mathlib.Decide.{ℕ-discrete}
 use native.Mathlib.Omega.{arith}
@@ -10,37 +10,41 @@ use lib.Dec.{eqb}
 use lib.Seq.{getD-set-other}
 use Rattle.table.proofs.Keeps.Birth.{with-born}
 use Rattle.table.proofs.Keeps.BirthKeeps.{birth-view}
-use Rattle.table.proofs.Keeps.Changes.{namespace-sane}
+use Rattle.table.proofs.Keeps.Changes.{namespace-sane, unshare-sane}
 use Rattle.table.proofs.Keeps.Premises.{free-slot-is}
 use Rattle.table.proofs.Laws.Below.{below-level, below-trans}
 use Rattle.table.proofs.Laws.Facts.{Facts, facts, Sane, sane, seen-taken, seen-below, lives-taken}
 use Rattle.table.proofs.Laws.Slots.{children-of, own-taken, below-same, below-parent}
+use Rattle.table.proofs.Laws.Steps.{runs-lives}
 use Rattle.table.proofs.Laws.Tests.{no-so, isnt-so, left, right, both, cases, or-false-left, or-false-right}
 use Rattle.table.proofs.Laws.Tree.{below-refl}
 use Rattle.table.proofs.Sameness.Born.{below-grown, seen-grown, life-born, life-other, bottom, old}
 use Rattle.table.proofs.Sameness.ExitSame.{runs-living}
-use Rattle.table.proofs.Sameness.Namespaces.{children-taken}
+use Rattle.table.proofs.Sameness.Freeing.{freed-leaves}
 use Rattle.table.proofs.Sameness.NewNamespaceSame.{namespace-remain, the-namespace, taken-other, x-taken, K}
-use Rattle.table.proofs.Sameness.Outside.{MadeLeaves, as-it-was, outsider, stands-leaves}
+use Rattle.table.proofs.Sameness.Outside.{MadeLeaves, as-it-was, outsider, stands-leaves, untouched-made}
+use Rattle.table.proofs.Sameness.Readers.{children-taken}
 use Rattle.table.proofs.Sameness.Remain.{Remain, seen-remain, below-remain, everyone}
 use Rattle.table.proofs.Sameness.Same.{Same, same-trans}
-use Rattle.table.proofs.Sameness.Still.{Still, same-still, stands-still, near, near-here, near-up, near-own, near-children}
+use Rattle.table.proofs.Sameness.Still.{Still, same-still, stands-still, near, near-here, near-up, near-own, near-children, put-still}
 use Rattle.table.proofs.Sameness.Twins.{bool-ext}
-use Rattle.table.proofs.Sameness.WaitLeaves.{untouched-made}
-use Rattle.table.specs.Answers.{is-refused, refused}
+use Rattle.table.specs.Answers.{is-refused, refused, answers, granted}
 use Rattle.table.specs.Births.{birth}
-use Rattle.table.specs.Calls.{born, clone, clone-new, new-namespace, own-level}
+use Rattle.table.specs.Calls.{born, clone, clone-new, new-namespace, own-level, set-children, unshare}
 use Rattle.table.specs.Events.{at, follow, namespace-inside, sheet-of}
 use Rattle.table.specs.Limits.{deepest, namespace-slots, process-slots}
 use Rattle.table.specs.Pids.{free-namespace-slot, free-slot, next-pid}
-use Rattle.table.specs.Read.{View, below, dead, living, namespace-taken, no-namespace, seen, taken, unborn, view}
+use Rattle.table.specs.Read.{View, below, dead, living, namespace-taken, no-namespace, seen, taken, unborn, view, process}
+use Rattle.table.specs.Records.{with-children}
 use Rattle.table.specs.Sheet.{sheet}
 use Rattle.table.specs.Sound.{SoundTable}
 use Rattle.table.specs.Step.{make}
 use Rattle.table.specs.Tests.{_or_, if_then_else_}
 use Rattle.table.specs.Touches.{touched, clones-into}
-use Rattle.table.specs.declared.Call.the-variants.{Clone, CloneNew}
+use Rattle.table.specs.declared.Call.the-variants.{Clone, CloneNew, Unshare}
 use Rattle.table.specs.declared.Table.{Table}
+
+-- ---- clone and clone new by an outsider, the child being born outside S
 
 -- a birth in a namespace that is not of S
 module _ (v : View) (f : Facts v) (c n k : ℕ) (new : taken v k ≡ false) (tn : So (namespace-taken v n)) (s : ℕ) (o : below v n s ≡ false) where
@@ -224,3 +228,29 @@ clone-new-leaves t s i h hs k a g = go (eqb (own-level (view t) i) deepest) refl
 
         o : below (view t₁) x s ≡ false
         o = new-outside t h i room s hs (lives-taken (view t) i li) f₁ (outsider t s i CloneNew a)
+
+-- ---- unshare by an outsider
+
+pub unshare-leaves : MadeLeaves Unshare
+unfolding MadeLeaves make unshare set-children answers granted refused namespace-taken
+unshare-leaves t s i h hs k a g = go (process t i .unshared) refl (eqb (own-level (view t) i) deepest) refl (eqb (free-namespace-slot (view t)) namespace-slots) refl
+  where
+    go : (m : Bool) → process t i .unshared ≡ m → (x : Bool) → eqb (own-level (view t) i) deepest ≡ x → (b : Bool) → eqb (free-namespace-slot (view t)) namespace-slots ≡ b → sheet-of (unshare t i .table) (follow t (unshare t i .table) (at s)) ≡ sheet (view t) s
+    go true em x ea b eb = rw (em, unshare) (as-it-was t s hs)
+    go false em true ea b eb = rw (em, ea, unshare) (as-it-was t s hs)
+    go false em false ea true eb = rw (em, ea, eb, unshare) (as-it-was t s hs)
+    go false em false ea false eb =
+        rw (em, ea, eb, unshare)
+        (freed-leaves t _ s h (unshare-sane t h i k (eqb-false _ _ ea) room) hs (new-stands t h i room s hs)
+        (same-trans _ (view t₁) (view t) s s s
+        (same-still (view t₁) _ s (near (view t₁) s) f₁ (put-still t₁ f₁ i (with-children (process t₁ i) (free-namespace-slot (view t)) true) (record { owns = refl; parents = refl; pids = refl }) s (new-seen t h i room s hs i ∙ outsider t s i Unshare a)))
+        (new-same t h i room s hs)))
+      where
+        room : free-namespace-slot (view t) ≡ namespace-slots → ⊥
+        room = eqb-false _ _ eb
+
+        t₁ : Table
+        t₁ = new-namespace t i
+
+        f₁ : Facts (view t₁)
+        f₁ = namespace-sane t (sane t h) i (runs-lives t i k) (eqb-false _ _ ea) room .facts

@@ -17,8 +17,7 @@ use Rattle.table.proofs.Laws.Tree.{below-refl}
 use Rattle.table.proofs.Sameness.Anchor.{is-unborn-name, name-taken, up-below, name-no-slot}
 use Rattle.table.proofs.Sameness.Born.{seen-grown, pid-in-grown, life-born, life-new, name-born, name-other, name-new, old, child-seen, Cradles, cradle-next, next-unborn, next-twins, last-twins}
 use Rattle.table.proofs.Sameness.ExitSame
-use Rattle.table.proofs.Sameness.Namespaces.{name-unborn}
-use Rattle.table.proofs.Sameness.Readers.{is-init-twins}
+use Rattle.table.proofs.Sameness.Readers.{is-init-twins, name-unborn}
 use Rattle.table.proofs.Sameness.Same.{Same, row-by}
 use Rattle.table.proofs.Sameness.Twins.{Pair, Twin, Twins, bool-ext, flip-pair, flip-twin, pid-in-seen, twin-rows, twin-there, twins-level, owns, own-alive, below-twins}
 use Rattle.table.specs.Limits.{levels, no-slot, process-slots}

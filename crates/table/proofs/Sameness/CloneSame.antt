@@ -17,8 +17,7 @@ use Rattle.table.proofs.Sameness.Born.{Cradles, next-twins}
 use Rattle.table.proofs.Sameness.Calls.{both-refuse, owns-twins, taken-s, taken-r, the-rows}
 use Rattle.table.proofs.Sameness.ExitSame.{runs-living}
 use Rattle.table.proofs.Sameness.Inside.{Kept, Ready, MadeSame, stands-same}
-use Rattle.table.proofs.Sameness.Namespaces.{children-taken, children-below, name-unborn, anchors-of}
-use Rattle.table.proofs.Sameness.Readers.{twin-eqb}
+use Rattle.table.proofs.Sameness.Readers.{twin-eqb, children-taken, children-below, name-unborn, anchors-of}
 use Rattle.table.proofs.Sameness.Same.{Same}
 use Rattle.table.proofs.Sameness.Twins.{Twin, Twins, bool-ext}
 use Rattle.table.specs.Answers.{is-no-room, refused, number-of, refusal-number}

@@ -1,5 +1,5 @@
 -- Demand 3, and that an outside call that makes no touch leaves the sheet.
-use Rattle.table.proofs.Sameness.BirthLeaves.{clone-leaves, clone-new-leaves}
+use Rattle.table.proofs.Sameness.BirthLeaves.{clone-leaves, clone-new-leaves, unshare-leaves}
 use Rattle.table.proofs.Sameness.Calls.{getpid-same, getppid-same, handle-same, poll-same}
 use Rattle.table.proofs.Sameness.CloneSame.{clone-same}
 use Rattle.table.proofs.Sameness.EndLeaves.{exit-leaves}
@@ -11,9 +11,7 @@ use Rattle.table.proofs.Sameness.KillLeaves.{kill-leaves}
 use Rattle.table.proofs.Sameness.NewNamespaceSame.{clone-new-same, unshare-same}
 use Rattle.table.proofs.Sameness.Outside.{MadeLeaves, outside-leaves, getpid-leaves, getppid-leaves, handle-leaves, poll-leaves}
 use Rattle.table.proofs.Sameness.Setns.{setns-same, setns-leaves}
-use Rattle.table.proofs.Sameness.UnshareLeaves.{unshare-leaves}
-use Rattle.table.proofs.Sameness.WaitLeaves.{wait-leaves}
-use Rattle.table.proofs.Sameness.WaitSame.{wait-same}
+use Rattle.table.proofs.Sameness.Wait.{wait-leaves, wait-same}
 use Rattle.table.specs.Claims.{OutsideLeaves, Sameness}
 use Rattle.table.specs.declared.Call.the-variants.{Clone, CloneNew, Unshare, Setns, Kill, Exit, Wait, Getpid, Getppid, Handle, Poll}
 use Rattle.table.specs.declared.Call.{Call}

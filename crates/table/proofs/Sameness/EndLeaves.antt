@@ -21,11 +21,10 @@ use Rattle.table.proofs.Sameness.ExitSame.{runs-living}
 use Rattle.table.proofs.Sameness.Freeing.{freed-leaves}
 use Rattle.table.proofs.Sameness.InitEnd.{stays, not-seen-stays, fallen-shape}
 use Rattle.table.proofs.Sameness.MemberEnd.{member-of}
-use Rattle.table.proofs.Sameness.Outside.{MadeLeaves, as-it-was, outsider}
+use Rattle.table.proofs.Sameness.Outside.{MadeLeaves, as-it-was, outsider, untouched-made}
 use Rattle.table.proofs.Sameness.Readers.{pid-in-unseen}
 use Rattle.table.proofs.Sameness.Shape.{seen-shape, seen-gone}
 use Rattle.table.proofs.Sameness.Still.{Still, same-still, stands-still, near, near-here, near-up, near-own, near-children}
-use Rattle.table.proofs.Sameness.WaitLeaves.{untouched-made}
 use Rattle.table.specs.Answers.{answers, granted, is-refused, refused}
 use Rattle.table.specs.Calls.{exit, status}
 use Rattle.table.specs.Ends.{end}

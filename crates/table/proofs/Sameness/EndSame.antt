@@ -2,30 +2,51 @@
 use Prim.Native.Nat.{ℕ, _<_, _≤_}
 use native.Mathlib.Omega.{arith}
 use mathlib.Core.Bool.{So, Bool, false, true, not, false≢true}
-use mathlib.Core.Logic.{inr, inl}
+use mathlib.Core.Logic.{inr, inl, _⊎_}
 use mathlib.Core.Path.{fun-ext, sym, _≡_, ap, _∙_, refl, subst, subst₂}
 use borrow.Author.Tests.{eq-eqb}
 use lib.Dec.{eqb}
 use Rattle.table.proofs.Keeps.End.{ended-view, end-view, end-sane}
 use Rattle.table.proofs.Keeps.InitEnds.{subtree-gone, gone}
 use Rattle.table.proofs.Laws.Below.{below-level}
-use Rattle.table.proofs.Laws.Facts.{Facts, seen-below, lives-taken}
+use Rattle.table.proofs.Laws.Facts.{Facts, seen-below, lives-taken, Sane}
 use Rattle.table.proofs.Laws.Slots.{living-own-alive, below-same}
 use Rattle.table.proofs.Laws.Tests.{false-and, no-so, isnt-so, and-not, choose}
-use Rattle.table.proofs.Sameness.DeliverSame.{EndSame, pair-of, Target}
 use Rattle.table.proofs.Sameness.InitEnd.{fallen-shape, both-stay, init-same, stays, init-stays}
 use Rattle.table.proofs.Sameness.MemberEnd.{member-remain, member-same, member-of}
-use Rattle.table.proofs.Sameness.Namespaces.{above-pid}
-use Rattle.table.proofs.Sameness.Readers.{living-twins, is-init-twins}
+use Rattle.table.proofs.Sameness.Readers.{living-twins, is-init-twins, above-pid}
 use Rattle.table.proofs.Sameness.Remain.{Remain, everyone}
 use Rattle.table.proofs.Sameness.Same.{Same}
 use Rattle.table.proofs.Sameness.Shape.{Shape, below-shape, pid-shape, twin-shape, seen-shape}
 use Rattle.table.proofs.Sameness.Twins.{Pair, Twins, Twin, owns, twins-level}
 use Rattle.table.specs.Ends.{end}
 use Rattle.table.specs.Read.{View, living, is-init, taken, alive, view, init, is-alive, seen, pid-seen, init-of, below}
+use Rattle.table.specs.Sound.{kept-end}
 use Rattle.table.specs.Tests.{if_then_else_, _and_}
 use Rattle.table.specs.declared.End.{End}
 use Rattle.table.specs.declared.Life.the-variants.{Dead}
+use Rattle.table.specs.declared.State.the-variants.{Ended}
+use Rattle.table.specs.declared.Table.{Table}
+
+-- two tables in the middle of a call by twin callers, whose own namespaces are f and g
+pub record Midway (t u : Table) (s r f g : ℕ) : Type 0 where
+  pub fits-t : Sane t
+  pub fits-u : Sane u
+  pub alive-s : So (alive (view t) s)
+  pub alive-r : So (alive (view u) r)
+  pub same : Same (view t) (view u) s r
+  pub from : Twins (view t) (view u) s r f g
+
+pub pair-of : (t u : Table) (s r f g : ℕ) → Midway t u s r f g → Pair (view t) (view u) s r
+pair-of t u s r f g w = record { facts-v = w .fits-t .facts; facts-u = w .fits-u .facts; alive-v = w .alive-s; alive-u = w .alive-r; same = w .same }
+
+-- a target on each: twins that the callers see, or nobody that lives
+abbrev pub Target : View → View → ℕ → ℕ → ℕ → ℕ → ℕ → Type 0
+Target v u s r f x y = (Twin v u s r x y × So (seen v f x)) ⊎ ((living v x ≡ false) × (living u y ≡ false))
+
+-- what a step makes of the two tables and of the targets to come
+abbrev pub Onward : Table → Table → ℕ → ℕ → ℕ → ℕ → Table → Table → Type 0
+Onward t u s r f g t′ u′ = Midway t′ u′ s r f g × ((a b : ℕ) → Target (view t) (view u) s r f a b → Target (view t′) (view u′) s r f a b)
 
 -- what two views are after, to S and to callers whose own namespaces are f and g
 abbrev After : View → View → ℕ → ℕ → ℕ → ℕ → View → View → Type 0
@@ -157,8 +178,8 @@ zero-init : (v : View) (f : Facts v) (x : ℕ) → x ≡ 0 → So (is-init v x) 
 unfolding is-init
 zero-init v f x z = let e = ap (v .own) z ∙ f .root-own in (eq-eqb (init v (v .own x)) x (ap (init v) e ∙ f .root-init ∙ sym z), ap (v .level) e ∙ f .root-level)
 
-pub end-same : EndSame
-unfolding EndSame
+-- an end of two twins that live, none of them the init of the callers' own namespace
+pub end-same : (t u : Table) (s r f g x y : ℕ) (e : End) → Midway t u s r f g → Twin (view t) (view u) s r x y → So (seen (view t) f x) → So (living (view t) x) → So (kept-end (Ended e)) → (So (is-init (view t) x) → view t .own x ≡ f → ⊥) → Onward t u s r f g (end t x e) (end u y e)
 end-same t u s r f g x y e w k sx lx ok other =
     let (alive, (same, (from, targets))) = subst₂ (After (view t) (view u) s r f g) (sym ev) (sym eu) (end-after (view t) (view u) s r f g x y e pr (w .from) k sx lx (ended-end (view t) x e) (ended-end (view u) y e) both-init other) in
     (record { fits-t = end-sane t (w .fits-t) x e lx x-other ok; fits-u = end-sane u (w .fits-u) y e ly y-other ok; alive-s = alive .0; alive-r = alive .1; same = same; from = from }, targets)

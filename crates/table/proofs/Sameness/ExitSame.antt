@@ -17,8 +17,7 @@ use Rattle.table.proofs.Laws.Steps.{remainder}
 use Rattle.table.proofs.Laws.Tests.{left, right, both}
 use Rattle.table.proofs.Laws.Tree.{below-refl}
 use Rattle.table.proofs.Sameness.Calls.{both-refuse, owns-twins, own-lives, taken-s, taken-r}
-use Rattle.table.proofs.Sameness.DeliverSame.{Held, pair-of, EndSame}
-use Rattle.table.proofs.Sameness.EndSame.{end-same}
+use Rattle.table.proofs.Sameness.EndSame.{end-same, pair-of, Midway}
 use Rattle.table.proofs.Sameness.Freeing.{freed-alike, freed-sheets}
 use Rattle.table.proofs.Sameness.InitEnd.{init-same}
 use Rattle.table.proofs.Sameness.Inside.{Kept, Ready, MadeSame}
@@ -108,7 +107,7 @@ unfolding namespace-taken
 stands-as v u n e h = ap (λ x. eqb n 0 or not (eqb x 0)) e ∙ h
 
 module _ (t u : Table) (s r c d : ℕ) (w : Ready t u s r c d) (e : End) (ok : So (kept-end (Ended e))) where
-  held : Held t u s r s r
+  held : Midway t u s r s r
   held =
       record {
         fits-t = sane t (w .sound-t);
@@ -121,7 +120,7 @@ module _ (t u : Table) (s r c d : ℕ) (w : Ready t u s r c d) (e : End) (ok : S
 
   -- S lives on
   lives-on : (So (is-init (view t) c) → view t .own c ≡ s → ⊥) → SoundTable (freed (end t c e)) → SoundTable (freed (end u d e)) → Kept t u s r (answers (freed (end t c e)) 0) (answers (freed (end u d e)) 0)
-  unfolding EndSame answers granted
+  unfolding answers granted
   lives-on other h g =
       let (x, move) = end-same t u s r s r c d e held (w .twin) (w .twin .seen-v) (runs-living t c (w .runs-t)) ok other in
       inr (refl, freed-alike t u _ _ (x .fits-t) (x .fits-u) s r (pair-of (end t c e) (end u d e) s r s r x))

@@ -12,7 +12,7 @@ use Rattle.table.proofs.Laws.Facts.{facts}
 use Rattle.table.proofs.Laws.Lists.{heads-equal, tails-equal, not-empty}
 use Rattle.table.proofs.Laws.Slots.{alive-taken}
 use Rattle.table.proofs.Laws.Tests.{left, right}
-use Rattle.table.proofs.Sameness.Find.{Callers, find-same, find-none}
+use Rattle.table.proofs.Sameness.Same.{Callers, find-same, find-none}
 use Rattle.table.specs.Answers.{is-no-room}
 use Rattle.table.specs.Claims.{Agree, KeepsSound, Observed, OutsideLeaves, Sameness, observations, observe, lacks-room}
 use Rattle.table.specs.Events.{Event, Place, answer-of, at, follow, gone, happens, inside, inside-calls, next-place, next-table, outside, sheet-of, slot-of, table-after}

@@ -11,8 +11,7 @@ use Rattle.table.proofs.Laws.Facts.{Facts, seen-taken, seen-below}
 use Rattle.table.proofs.Laws.Slots.{own-taken, init-own, child-seen}
 use Rattle.table.proofs.Laws.Tests.{isnt-so, no-so, false-and, right, both, isnt, isnt-not}
 use Rattle.table.proofs.Sameness.Anchor.{anchor, is-unborn-name, name-no-slot}
-use Rattle.table.proofs.Sameness.Namespaces.{children-taken, children-below, name-unborn, unborn-outside, anchors-of, below-named, level-named, parent-in-twins}
-use Rattle.table.proofs.Sameness.Readers.{twin-eqb, ended-twins}
+use Rattle.table.proofs.Sameness.Readers.{twin-eqb, ended-twins, children-taken, children-below, name-unborn, unborn-outside, anchors-of, below-named, level-named, parent-in-twins}
 use Rattle.table.proofs.Sameness.Same.{Same, row-by}
 use Rattle.table.proofs.Sameness.Shape.{Shape, same-shape, pid-in-shape, name-in, name-out}
 use Rattle.table.proofs.Sameness.Twins.{Pair, Twin, Twins, bool-ext, twin-rows, seen-twins, own-levels, owns, twins-level}

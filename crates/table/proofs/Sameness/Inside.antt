@@ -9,9 +9,8 @@ use Rattle.table.proofs.Laws.Slots.{living-own-alive, alive-above}
 use Rattle.table.proofs.Laws.Slots.{pid-unique}
 use Rattle.table.proofs.Laws.Steps.{step-made, step-refused}
 use Rattle.table.proofs.Laws.Tests.{left, right, both}
-use Rattle.table.proofs.Sameness.Find.{row-pid}
 use Rattle.table.proofs.Sameness.Glue.{InsideSame, follow-self}
-use Rattle.table.proofs.Sameness.Same.{Same, same-of-sheets, sheets-of-same, level-lt}
+use Rattle.table.proofs.Sameness.Same.{Same, same-of-sheets, sheets-of-same, level-lt, row-pid}
 use Rattle.table.proofs.Sameness.Twins.{Pair, Twin}
 use Rattle.table.specs.Answers.{is-no-room, refused}
 use Rattle.table.specs.Events.{at, follow, sheet-of}

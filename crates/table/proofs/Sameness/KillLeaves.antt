@@ -13,15 +13,14 @@ use Rattle.table.proofs.Laws.Facts.{Facts, facts, Sane, sane, lives-tak
 use Rattle.table.proofs.Laws.Lists.{some-of-false}
 use Rattle.table.proofs.Laws.Slots.{own-taken, living-own-alive}
 use Rattle.table.proofs.Laws.Tests.{isnt-so, both, or-false-left, or-false-right}
-use Rattle.table.proofs.Sameness.DeliverSame.{not-living-put, resumed-placed, action-none}
 use Rattle.table.proofs.Sameness.EndLeaves.{end-still, end-dies, end-back, freed-back, lives-on, not-own}
 use Rattle.table.proofs.Sameness.EndSame.{ended-end}
 use Rattle.table.proofs.Sameness.Freeing.{freed-leaves}
+use Rattle.table.proofs.Sameness.Kill.{not-living-put, resumed-placed, action-none}
 use Rattle.table.proofs.Sameness.Light.{Placed}
-use Rattle.table.proofs.Sameness.Outside.{MadeLeaves, as-it-was}
+use Rattle.table.proofs.Sameness.Outside.{MadeLeaves, as-it-was, untouched-made}
 use Rattle.table.proofs.Sameness.Same.{Same, same-trans}
 use Rattle.table.proofs.Sameness.Still.{Still, same-still, stands-still, below-still, near, near-here, put-still}
-use Rattle.table.proofs.Sameness.WaitLeaves.{untouched-made}
 use Rattle.table.specs.Answers.{answers, granted, is-refused, refused}
 use Rattle.table.specs.Calls.{kill, names-group, natural, targets, within}
 use Rattle.table.specs.Delivery.{act, action-on, deliver, deliver-all, with-pending}

@@ -1,17 +1,17 @@
 -- Calls by an outsider that leave who is where: the sheet stays.
 use Prim.Native.Nat.{ℕ}
-use mathlib.Core.Bool.{Bool, true, false, not, So}
-use mathlib.Core.Path.{_≡_, refl}
+use mathlib.Core.Bool.{Bool, true, false, not, So, false≢true}
+use mathlib.Core.Path.{_≡_, refl, sym, subst, _∙_}
 use lib.Dec.{eqb}
 use lib.IntN.{ℤ}
 use Rattle.table.proofs.Keeps.Changes.{make-sound}
 use Rattle.table.proofs.Laws.Facts.{facts}
 use Rattle.table.proofs.Laws.Steps.{step-made, step-refused}
-use Rattle.table.proofs.Laws.Tests.{left, isnt}
+use Rattle.table.proofs.Laws.Tests.{left, isnt, right}
 use Rattle.table.proofs.Sameness.Glue.{follow-self}
 use Rattle.table.proofs.Sameness.Same.{Same, sheets-of-same}
 use Rattle.table.proofs.Sameness.Still.{same-still, near, put-still}
-use Rattle.table.specs.Answers.{answers, granted, refused}
+use Rattle.table.specs.Answers.{answers, granted, refused, is-refused}
 use Rattle.table.specs.Calls.{getpid, getppid, handle, handle-off, handle-on, natural, poll, within}
 use Rattle.table.specs.Claims.{OutsideLeaves}
 use Rattle.table.specs.Events.{at, follow, happens, is-inside, outside, sheet-of, table-after}
@@ -22,10 +22,11 @@ use Rattle.table.specs.Sheet.{sheet}
 use Rattle.table.specs.SignalSets.{lowest-signal}
 use Rattle.table.specs.Sound.{SoundTable}
 use Rattle.table.specs.Step.{make, runs, step}
-use Rattle.table.specs.Tests.{_or_}
-use Rattle.table.specs.Touches.{allowed}
+use Rattle.table.specs.Tests.{_or_, _and_}
+use Rattle.table.specs.Touches.{allowed, touches, touched}
 use Rattle.table.specs.declared.Call.the-variants.{Getpid, Getppid, Handle, Poll}
 use Rattle.table.specs.declared.Call.{Call}
+use Rattle.table.specs.declared.Outcome.{Outcome}
 use Rattle.table.specs.declared.Table.{Table}
 
 -- what is to prove of a call made by a running outsider
@@ -51,6 +52,18 @@ outside-leaves made t s i c h hs a = go (runs (view t) i) refl
 pub outsider : (t : Table) (s i : ℕ) (c : Call) → So (allowed t (at s) (outside i c)) → seen (view t) s i ≡ false
 unfolding allowed is-inside
 outsider t s i c a = isnt _ (left _ _ a)
+
+-- a granted call that is allowed makes no touch
+granted-not : (r b : Bool) → r ≡ false → So (not (not r and b)) → b ≡ false
+unfolding _and_
+granted-not true b e h = absurd (false≢true (sym e))
+granted-not false b e h = isnt b h
+
+pub untouched-made : (t : Table) (s i : ℕ) (c : Call) → SoundTable t → So (runs (view t) i) → So (allowed t (at s) (outside i c)) → (o : Outcome) → make t i c ≡ o → is-refused (o .reply .answer) ≡ false → touched t (o .table) (at s) i c ≡ false
+unfolding allowed touches
+untouched-made t s i c h k a o q e =
+    granted-not (is-refused (o .reply .answer)) (touched t (o .table) (at s) i c) e
+    (subst (λ (y : Outcome). So (not (not (is-refused (y .reply .answer)) and touched t (y .table) (at s) i c))) (step-made t i c h k ∙ q) (right _ _ a))
 
 -- S stands, and each row that was there is there, and no other
 pub stands-leaves : (t t′ : Table) (s : ℕ) → SoundTable t → SoundTable t′ → So (namespace-taken (view t) s) → So (namespace-taken (view t′) s) → Same (view t′) (view t) s s → sheet-of t′ (follow t t′ (at s)) ≡ sheet (view t) s

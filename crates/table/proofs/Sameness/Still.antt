@@ -13,7 +13,7 @@ use Rattle.table.proofs.Laws.Tests.{both, cases, or-left, or-right}
 use Rattle.table.proofs.Laws.Tree.{below-refl}
 use Rattle.table.proofs.Sameness.Anchor.{anchor, up-below, name-no-slot}
 use Rattle.table.proofs.Sameness.Light.{Placed, put-other, light-remain, put-light}
-use Rattle.table.proofs.Sameness.Namespaces.{children-below}
+use Rattle.table.proofs.Sameness.Readers.{children-below}
 use Rattle.table.proofs.Sameness.Remain.{seen-remain, everyone}
 use Rattle.table.proofs.Sameness.Same.{Same}
 use Rattle.table.specs.Limits.{levels, no-slot}

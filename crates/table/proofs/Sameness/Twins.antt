@@ -10,8 +10,7 @@ use Rattle.table.proofs.Laws.Facts.{Facts, seen-taken, seen-below, live
 use Rattle.table.proofs.Laws.Slots.{pid-unique, own-taken, own-not-unborn, pid-pos, pid-zero, below-parent, below-up-by, up-by-below, alive-taken, alive-up, init-seen, init-own, init-parent, init-taken, parent-living}
 use Rattle.table.proofs.Laws.Tests.{right, both}
 use Rattle.table.proofs.Sameness.Anchor.{anchor, anchor-self, anchor-alive, anchor-below, anchor-least, is-by-init, name-pid, name-alive, name-anchor}
-use Rattle.table.proofs.Sameness.Find.{row-pid}
-use Rattle.table.proofs.Sameness.Same.{Same, getD-values, level-lt}
+use Rattle.table.proofs.Sameness.Same.{Same, getD-values, level-lt, row-pid}
 use Rattle.table.specs.Limits.{levels}
 use Rattle.table.specs.Read.{View, alive, below, init, pid-in, pid-seen, seen, taken, up-by}
 use Rattle.table.specs.Sheet.{Row, row}
