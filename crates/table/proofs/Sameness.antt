@@ -1,7 +1,6 @@
 pub mod Same
 pub mod Anchor
 pub mod Twins
-pub mod Glue
 pub mod Inside
 pub mod Light
 pub mod Readers

@@ -19,7 +19,6 @@ use Rattle.table.proofs.Laws.Steps.{runs-lives}
 use Rattle.table.proofs.Laws.Tests.{no-so, isnt-so, left, right, both, cases, or-false-left, or-false-right}
 use Rattle.table.proofs.Laws.Tree.{below-refl}
 use Rattle.table.proofs.Sameness.Born.{below-grown, seen-grown, life-born, life-other, bottom, old}
-use Rattle.table.proofs.Sameness.ExitSame.{runs-living}
 use Rattle.table.proofs.Sameness.Freeing.{freed-leaves}
 use Rattle.table.proofs.Sameness.NewNamespaceSame.{namespace-remain, the-namespace, taken-other, x-taken, K}
 use Rattle.table.proofs.Sameness.Outside.{MadeLeaves, as-it-was, outsider, stands-leaves, untouched-made}
@@ -118,7 +117,7 @@ clone-leaves t s i h hs k a g = go (dead (view t) (view t .children i)) refl (eq
         n = view t .children i
 
         tn : So (namespace-taken (view t) n)
-        tn = children-taken (view t) (facts t h) i (runs-living t i k)
+        tn = children-taken (view t) (facts t h) i (runs-lives t i k)
 
         o : below (view t) n s ≡ false
         o = untouched-made t s i Clone h k a (born t i (birth t i n)) (rw (ea, eb, clone) refl) refl
@@ -215,7 +214,7 @@ clone-new-leaves t s i h hs k a g = go (eqb (own-level (view t) i) deepest) refl
         room = eqb-false _ _ (or-false-right _ _ eb)
 
         li : So (living (view t) i)
-        li = runs-living t i k
+        li = runs-lives t i k
 
         f₁ : Sane t₁
         f₁ = (namespace-sane t (sane t h) i li (eqb-false _ _ ea) room)

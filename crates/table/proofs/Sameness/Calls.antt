@@ -12,8 +12,7 @@ use lib.ListN.{length}
 use Rattle.table.proofs.Laws.Facts.{facts, seen-taken}
 use Rattle.table.proofs.Laws.Slots.{living-own-alive, alive-taken}
 use Rattle.table.proofs.Laws.Tests.{left, right, both}
-use Rattle.table.proofs.Sameness.Glue.{follow-self}
-use Rattle.table.proofs.Sameness.Inside.{Kept, Ready, MadeSame, refused-same, stands-same}
+use Rattle.table.proofs.Sameness.Inside.{Kept, Ready, MadeSame, refused-same, stands-same, follow-self}
 use Rattle.table.proofs.Sameness.Light.{Lights, same-light, Placed, put-light, put-same, put-other}
 use Rattle.table.proofs.Sameness.Readers.{parent-pid}
 use Rattle.table.proofs.Sameness.Same.{Same, sheets-of-same}

@@ -10,12 +10,12 @@ use Rattle.table.proofs.Keeps.Premises.{free-slot-is}
 use Rattle.table.proofs.Laws.Below.{up-level, below-trans}
 use Rattle.table.proofs.Laws.Facts.{Facts, facts, Sane, sane, seen-taken, seen-below}
 use Rattle.table.proofs.Laws.Slots.{alive-otherwise, root-only, alive-not-unborn}
+use Rattle.table.proofs.Laws.Steps.{runs-lives}
 use Rattle.table.proofs.Laws.Tests.{isnt-so, or-true}
 use Rattle.table.proofs.Sameness.Anchor.{anchor-self, root-alive, is-unborn-name, is-dead-name, name-taken}
 use Rattle.table.proofs.Sameness.BirthSame.{birth-same}
 use Rattle.table.proofs.Sameness.Born.{Cradles, next-twins}
 use Rattle.table.proofs.Sameness.Calls.{both-refuse, owns-twins, taken-s, taken-r, the-rows}
-use Rattle.table.proofs.Sameness.ExitSame.{runs-living}
 use Rattle.table.proofs.Sameness.Inside.{Kept, Ready, MadeSame, stands-same}
 use Rattle.table.proofs.Sameness.Readers.{twin-eqb, children-taken, children-below, name-unborn, anchors-of}
 use Rattle.table.proofs.Sameness.Same.{Same}
@@ -60,10 +60,10 @@ module _ (t u : Table) (s r c d : ℕ) (w : Ready t u s r c d) where
   fu = facts u (w .sound-u)
 
   lc : So (living (view t) c)
-  lc = runs-living t c (w .runs-t)
+  lc = runs-lives t c (w .runs-t)
 
   ld : So (living (view u) d)
-  ld = runs-living u d (w .runs-u)
+  ld = runs-lives u d (w .runs-u)
 
   hn : So (namespace-taken (view t) (view t .children c))
   hn = children-taken (view t) ft c lc

@@ -14,10 +14,9 @@ use Rattle.table.proofs.Keeps.InitEnds.{gone, subtree-gone}
 use Rattle.table.proofs.Laws.Below.{up-level, below-level, below-trans}
 use Rattle.table.proofs.Laws.Facts.{Facts, facts, Sane, sane, seen-below, lives-taken}
 use Rattle.table.proofs.Laws.Slots.{own-taken, below-same, below-parent, init-own, living-own-alive}
-use Rattle.table.proofs.Laws.Steps.{remainder}
+use Rattle.table.proofs.Laws.Steps.{remainder, runs-lives}
 use Rattle.table.proofs.Laws.Tests.{no-so, isnt-so, choose, right, both, cases, any-intro, isnt}
 use Rattle.table.proofs.Laws.Tree.{below-refl}
-use Rattle.table.proofs.Sameness.ExitSame.{runs-living}
 use Rattle.table.proofs.Sameness.Freeing.{freed-leaves}
 use Rattle.table.proofs.Sameness.InitEnd.{stays, not-seen-stays, fallen-shape}
 use Rattle.table.proofs.Sameness.MemberEnd.{member-of}
@@ -192,7 +191,7 @@ exit-leaves z t s i h hs k a g = go (eqb i 0) refl g
         t₁ = end t i e
 
         li : So (living (view t) i)
-        li = runs-living t i k
+        li = runs-lives t i k
 
         o : seen (view t) s i ≡ false
         o = outsider t s i (Exit z) a

@@ -13,8 +13,8 @@ use Rattle.table.proofs.Keeps.InitEnds.{subtree-gone}
 use Rattle.table.proofs.Laws.Below.{below-level, up-level}
 use Rattle.table.proofs.Laws.Facts.{Facts, Sane, sane, seen-taken, seen-below}
 use Rattle.table.proofs.Laws.Slots.{alive-taken, init-pid, init-own, root-only, pid-unique, alive-up, init-seen}
-use Rattle.table.proofs.Laws.Steps.{remainder}
-use Rattle.table.proofs.Laws.Tests.{left, right, both}
+use Rattle.table.proofs.Laws.Steps.{remainder, runs-lives}
+use Rattle.table.proofs.Laws.Tests.{right}
 use Rattle.table.proofs.Laws.Tree.{below-refl}
 use Rattle.table.proofs.Sameness.Calls.{both-refuse, owns-twins, own-lives, taken-s, taken-r}
 use Rattle.table.proofs.Sameness.EndSame.{end-same, pair-of, Midway}
@@ -30,16 +30,15 @@ use Rattle.table.specs.Calls.{exit, status}
 use Rattle.table.specs.Ends.{end}
 use Rattle.table.specs.Events.{at}
 use Rattle.table.specs.Freeing.{freed}
-use Rattle.table.specs.Read.{View, alive, init, is-ended, is-init, is-running, living, namespace-taken, pid-in, pid-seen, seen, view, taken}
+use Rattle.table.specs.Read.{View, alive, init, is-init, namespace-taken, pid-in, pid-seen, seen, view, taken}
 use Rattle.table.specs.Sound.{SoundTable, kept-end}
-use Rattle.table.specs.Step.{make, runs}
+use Rattle.table.specs.Step.{make}
 use Rattle.table.specs.Tests.{_or_, if_then_else_}
 use Rattle.table.specs.declared.Call.the-variants.{Exit}
 use Rattle.table.specs.declared.End.the-variants.{Exited}
 use Rattle.table.specs.declared.End.{End}
 use Rattle.table.specs.declared.Refusal.the-variants.{Ebusy}
-use Rattle.table.specs.declared.State.the-variants.{Running, Stopped, Ended}
-use Rattle.table.specs.declared.State.{State}
+use Rattle.table.specs.declared.State.the-variants.{Ended}
 use Rattle.table.specs.declared.Table.{Table}
 
 -- S and S
@@ -47,19 +46,7 @@ pub tops : (v u : View) (s r : ℕ) (w : Pair v u s r) → Twins v u s r s r
 tops v u s r w =
     record { lives-v = w .alive-v; lives-u = w .alive-u; below-v = below-refl v s; below-u = below-refl u r; inits = init-pid v (w .facts-v) s (w .alive-v) ∙ sym (init-pid u (w .facts-u) r (w .alive-u)) }
 
-pub runs-living : (t : Table) (i : ℕ) → So (runs (view t) i) → So (living (view t) i)
-unfolding runs living
-runs-living t i h = both _ _ (left _ _ h) (ap not (go (view t .state i) (right _ _ h)))
-  where
-    go : (x : State) → So (is-running x) → is-ended x ≡ false
-    go Running a = refl
-    go Stopped a = absurd (false≢true a)
-    go (Ended y) a = absurd (false≢true a)
-
 -- the root init calls inside S only if S is the root
-root-pid : (v : View) (f : Facts v) → v .pid 0 0 ≡ 1
-root-pid v f = f .root-pid
-
 zero-there : (v u : View) (s r : ℕ) (w : Pair v u s r) (i j : ℕ) → Twin v u s r i j → i ≡ 0 → j ≡ 0
 unfolding pid-seen
 zero-there v u s r w i j k z =
@@ -72,10 +59,10 @@ zero-there v u s r w i j k z =
     r-root = root-only u (w .facts-u) r (alive-taken u (w .facts-u) r (w .alive-u)) (omega (arith, w .same .levels, level-s))
 
     one : v .pid i (v .level s) ≡ 1
-    one = ap₂ (λ x y. v .pid x y) z level-s ∙ root-pid v (w .facts-v)
+    one = ap₂ (λ x y. v .pid x y) z level-s ∙ w .facts-v .root-pid
 
     one′ : u .pid 0 (u .level r) ≡ 1
-    one′ = ap (λ x. u .pid 0 x) (ap (u .level) r-root ∙ w .facts-u .root-level) ∙ root-pid u (w .facts-u)
+    one′ = ap (λ x. u .pid 0 x) (ap (u .level) r-root ∙ w .facts-u .root-level) ∙ w .facts-u .root-pid
 
     zero-seen : So (seen u r 0)
     zero-seen = subst₂ (λ x y. So (seen u x y)) (sym r-root) (w .facts-u .root-init) (init-seen u (w .facts-u) 0 0 (subst (λ x. So (alive u x)) r-root (w .alive-u)) (below-refl u 0))
@@ -122,7 +109,7 @@ module _ (t u : Table) (s r c d : ℕ) (w : Ready t u s r c d) (e : End) (ok : S
   lives-on : (So (is-init (view t) c) → view t .own c ≡ s → ⊥) → SoundTable (freed (end t c e)) → SoundTable (freed (end u d e)) → Kept t u s r (answers (freed (end t c e)) 0) (answers (freed (end u d e)) 0)
   unfolding answers granted
   lives-on other h g =
-      let (x, move) = end-same t u s r s r c d e held (w .twin) (w .twin .seen-v) (runs-living t c (w .runs-t)) ok other in
+      let (x, move) = end-same t u s r s r c d e held (w .twin) (w .twin .seen-v) (runs-lives t c (w .runs-t)) ok other in
       inr (refl, freed-alike t u _ _ (x .fits-t) (x .fits-u) s r (pair-of (end t c e) (end u d e) s r s r x))
 
   -- S's init ends
@@ -140,10 +127,10 @@ module _ (t u : Table) (s r c d : ℕ) (w : Ready t u s r c d) (e : End) (ok : S
       td = seen-taken (view u) r d (w .twin .seen-u)
 
       ft : Sane (end t c e)
-      ft = end-sane t (held .fits-t) c e (runs-living t c (w .runs-t)) nc ok
+      ft = end-sane t (held .fits-t) c e (runs-lives t c (w .runs-t)) nc ok
 
       fu : Sane (end u d e)
-      fu = end-sane u (held .fits-u) d e (runs-living u d (w .runs-u)) nd ok
+      fu = end-sane u (held .fits-u) d e (runs-lives u d (w .runs-u)) nd ok
 
       stands : (z : Table) (f : Sane z) (x n : ℕ) → So (taken (view z) x) → So (namespace-taken (view z) n) → So (namespace-taken (view (end z x e)) n)
       stands z f x n tx k = stands-as (view z) (view (end z x e)) n (ap (λ (l : ℕ → ℕ). l n) (end-tree z f x e tx .1)) k

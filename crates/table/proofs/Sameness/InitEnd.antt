@@ -18,7 +18,6 @@ use Rattle.table.proofs.Sameness.Twins.{Pair, Twin, Twins, bool-ext, tw
 use Rattle.table.specs.Limits.{levels, no-slot, sigkill}
 use Rattle.table.specs.Read.{View, alive, below, init, init-of, is-init, living, namespace-taken, pid-in, seen, taken, unborn}
 use Rattle.table.specs.Sheet.{Row, dead-at, name, row}
-use Rattle.table.specs.Sound as S
 use Rattle.table.specs.Tests.{_and_, if_then_else_, values}
 use Rattle.table.specs.declared.End.the-variants.{Signaled}
 use Rattle.table.specs.declared.End.{End}

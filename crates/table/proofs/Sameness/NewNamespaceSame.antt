@@ -14,13 +14,13 @@ use Rattle.table.proofs.Keeps.Premises.{free-slot-is}
 use Rattle.table.proofs.Laws.Below.{below-trans}
 use Rattle.table.proofs.Laws.Facts.{Facts, facts, Sane, sane, seen-taken}
 use Rattle.table.proofs.Laws.Slots.{own-taken, up-taken, alive-taken, children-of}
+use Rattle.table.proofs.Laws.Steps.{runs-lives}
 use Rattle.table.proofs.Laws.Tests.{isnt-so, isnt, or-right, or-false-left, or-false-right}
 use Rattle.table.proofs.Sameness.Anchor.{up-below, name-no-slot}
 use Rattle.table.proofs.Sameness.BirthSame.{birth-same}
 use Rattle.table.proofs.Sameness.Born.{Cradles, next-twins}
 use Rattle.table.proofs.Sameness.Calls.{shown, both-refuse, owns-twins, own-lives, same-put}
 use Rattle.table.proofs.Sameness.CloneSame.{no-room-left, no-room-right, one-up}
-use Rattle.table.proofs.Sameness.ExitSame.{runs-living}
 use Rattle.table.proofs.Sameness.Freeing.{freed-alike}
 use Rattle.table.proofs.Sameness.Inside.{Kept, Ready, MadeSame, stands-same}
 use Rattle.table.proofs.Sameness.Remain.{Remain, Lit, same-remain, standing, pid-in-remain, name-remain, seen-remain, pid-remain, everyone}
@@ -143,10 +143,10 @@ module _ (t u : Table) (s r c d : ℕ) (w : Ready t u s r c d) (ot : own-level (
   un = new-namespace u d
 
   gt : Sane tn
-  gt = (namespace-sane t (ft) c (runs-living t c (w .runs-t)) ot rt)
+  gt = (namespace-sane t (ft) c (runs-lives t c (w .runs-t)) ot rt)
 
   gu : Sane un
-  gu = (namespace-sane u (fu) d (runs-living u d (w .runs-u)) ou ru)
+  gu = (namespace-sane u (fu) d (runs-lives u d (w .runs-u)) ou ru)
 
   new-lit : (i j : ℕ) → Twin (view t) (view u) s r i j → Lit (view t) (view u) (view tn) (view un) s r i j
   unfolding row

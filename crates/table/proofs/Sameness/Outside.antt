@@ -4,24 +4,22 @@ use mathlib.Core.Bool.{Bool, true, false, not, So, false≢true}
 use mathlib.Core.Path.{_≡_, refl, sym, subst, _∙_}
 use lib.Dec.{eqb}
 use lib.IntN.{ℤ}
-use Rattle.table.proofs.Keeps.Changes.{make-sound}
 use Rattle.table.proofs.Laws.Facts.{facts}
-use Rattle.table.proofs.Laws.Steps.{step-made, step-refused}
+use Rattle.table.proofs.Laws.Steps.{step-made}
 use Rattle.table.proofs.Laws.Tests.{left, isnt, right}
-use Rattle.table.proofs.Sameness.Glue.{follow-self}
+use Rattle.table.proofs.Sameness.Inside.{follow-self}
 use Rattle.table.proofs.Sameness.Same.{Same, sheets-of-same}
 use Rattle.table.proofs.Sameness.Still.{same-still, near, put-still}
 use Rattle.table.specs.Answers.{answers, granted, refused, is-refused}
 use Rattle.table.specs.Calls.{getpid, getppid, handle, handle-off, handle-on, natural, poll, within}
-use Rattle.table.specs.Claims.{OutsideLeaves}
-use Rattle.table.specs.Events.{at, follow, happens, is-inside, outside, sheet-of, table-after}
+use Rattle.table.specs.Events.{at, follow, is-inside, outside, sheet-of}
 use Rattle.table.specs.Limits.{signals, sigkill, sigstop}
 use Rattle.table.specs.Read.{namespace-taken, process, seen, view}
 use Rattle.table.specs.Records.{put, with-signals}
 use Rattle.table.specs.Sheet.{sheet}
 use Rattle.table.specs.SignalSets.{lowest-signal}
 use Rattle.table.specs.Sound.{SoundTable}
-use Rattle.table.specs.Step.{make, runs, step}
+use Rattle.table.specs.Step.{make, runs}
 use Rattle.table.specs.Tests.{_or_, _and_}
 use Rattle.table.specs.Touches.{allowed, touches, touched}
 use Rattle.table.specs.declared.Call.the-variants.{Getpid, Getppid, Handle, Poll}
@@ -39,14 +37,6 @@ MadeLeaves c =
 pub as-it-was : (t : Table) (s : ℕ) → So (namespace-taken (view t) s) → sheet-of t (follow t t (at s)) ≡ sheet (view t) s
 unfolding sheet-of
 as-it-was t s h = rw (follow-self t (at s) h)
-
-pub outside-leaves : ((c : Call) → MadeLeaves c) → OutsideLeaves
-unfolding OutsideLeaves MadeLeaves happens table-after refused
-outside-leaves made t s i c h hs a = go (runs (view t) i) refl
-  where
-    go : (b : Bool) → runs (view t) i ≡ b → sheet-of (step t i c .table) (follow t (step t i c .table) (at s)) ≡ sheet (view t) s
-    go true k = rw (step-made t i c h k) (made c t s i h hs k a (make-sound t i c h k))
-    go false k = rw (step-refused t i c h k) (as-it-was t s hs)
 
 -- the caller is not of the subtree
 pub outsider : (t : Table) (s i : ℕ) (c : Call) → So (allowed t (at s) (outside i c)) → seen (view t) s i ≡ false

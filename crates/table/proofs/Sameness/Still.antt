@@ -20,7 +20,6 @@ use Rattle.table.specs.Limits.{levels, no-slot}
 use Rattle.table.specs.Read.{View, below, climb, init, init-of, is-alive, is-init, living, namespace-taken, pid-in, pid-seen, seen, taken, view, process, pid-at}
 use Rattle.table.specs.Records.{put}
 use Rattle.table.specs.Sheet.{by-init, dead-at, name, name-by, nearest, no-name, row}
-use Rattle.table.specs.Sound as S
 use Rattle.table.specs.Tests.{_or_, if_then_else_, values}
 use Rattle.table.specs.declared.Life.the-variants.{Unborn, Alive, Dead}
 use Rattle.table.specs.declared.Life.{Life}
