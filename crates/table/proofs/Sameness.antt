@@ -6,6 +6,7 @@ pub mod Light
 pub mod Readers
 pub mod Calls
 pub mod Outside
+pub mod Stays
 pub mod Remain
 pub mod Freeing
 pub mod Setns

@@ -1,27 +1,27 @@
 -- A change that leaves all that the sheet of S rests on.
-use Prim.Native.Nat.{ℕ, zero, suc, _-_, _<_, _≤_}
+use Prim.Native.Nat.{ℕ, suc, _-_, _<_, _≤_}
 use native.Mathlib.Decide.{ℕ-discrete}
 use native.Mathlib.Omega.{arith}
 use mathlib.Core.Bool.{Bool, true, false, not, So, false≢true}
 use mathlib.Core.Logic.{_⊎_, inl, inr, ⊎-elim}
 use mathlib.Core.Path.{_≡_, refl, sym, _∙_, ap, ap₂, subst, fun-ext}
 use lib.Dec.{eqb}
-use Rattle.table.proofs.Laws.Below.{up-level, below-level, below-trans}
+use Rattle.table.proofs.Laws.Below.{below-level, below-trans}
 use Rattle.table.proofs.Laws.Facts.{Facts, seen-taken, seen-below}
-use Rattle.table.proofs.Laws.Slots.{below-parent, below-same}
+use Rattle.table.proofs.Laws.Slots.{below-parent, below-same, children-of, own-taken}
 use Rattle.table.proofs.Laws.Tests.{both, cases, or-left, or-right}
 use Rattle.table.proofs.Laws.Tree.{below-refl}
-use Rattle.table.proofs.Sameness.Anchor.{anchor, up-below, name-no-slot}
+use Rattle.table.proofs.Sameness.Anchor.{up-below, name-no-slot}
 use Rattle.table.proofs.Sameness.Light.{Placed, put-other, light-remain, put-light}
 use Rattle.table.proofs.Sameness.Readers.{children-below}
 use Rattle.table.proofs.Sameness.Remain.{seen-remain, everyone}
 use Rattle.table.proofs.Sameness.Same.{Same}
+use Rattle.table.proofs.Sameness.Stays.{Stays, name-stays, below-stays}
 use Rattle.table.specs.Limits.{levels, no-slot}
-use Rattle.table.specs.Read.{View, below, climb, init, init-of, is-alive, is-init, living, namespace-taken, pid-in, pid-seen, seen, taken, view, process, pid-at}
+use Rattle.table.specs.Read.{View, below, init, init-of, is-init, living, namespace-taken, pid-in, pid-seen, seen, taken, view, process, pid-at}
 use Rattle.table.specs.Records.{put}
-use Rattle.table.specs.Sheet.{by-init, dead-at, name, name-by, nearest, no-name, row}
+use Rattle.table.specs.Sheet.{name, row}
 use Rattle.table.specs.Tests.{_or_, if_then_else_, values}
-use Rattle.table.specs.declared.Life.the-variants.{Unborn, Alive, Dead}
 use Rattle.table.specs.declared.Life.{Life}
 use Rattle.table.specs.declared.Process.{Process}
 use Rattle.table.specs.declared.Table.{Table}
@@ -55,36 +55,17 @@ module _ (v v′ : View) (s : ℕ) (K : ℕ → Bool) (f : Facts v) (w : Still v
       go true k = ap₂ (λ (b : Bool) (x : ℕ). if b then x else 0) (w .seens i) (ap (v′ .pid i) (w .levels s (w .here)) ∙ w .pids i (v .level s) k)
       go false k = ap (λ (b : Bool). if b then v′ .pid i (v′ .level s) else 0) (w .seens i ∙ k) ∙ sym (ap (λ (b : Bool). if b then v .pid i (v .level s) else 0) k)
 
-  near-still : (k n : ℕ) → So (K n) → v .level n ≡ k → nearest (v′ .life) (v′ .up) k n ≡ nearest (v .life) (v .up) k n
-  unfolding nearest
-  near-still zero n h e = refl
-  near-still (suc k) n h e =
-      ap₂ (λ (b : Bool) (x : ℕ). elim b [ true ↦ n | false ↦ x ]) (ap is-alive (w .lives n h))
-      (ap (λ x. nearest (v′ .life) (v′ .up) k x) (w .ups n h) ∙ near-still k (v .up n) (w .up-kept n k h e) (up-level v f n k e))
+  stays : Stays v v′ K
+  stays = record { ups = w .ups; levels = w .levels; lives = w .lives; up-kept = w .up-kept }
 
-  near-kept : (k n : ℕ) → So (K n) → v .level n ≡ k → So (K (nearest (v .life) (v .up) k n))
-  unfolding nearest
-  near-kept zero n h e = h
-  near-kept (suc k) n h e = go (is-alive (v .life n)) (near-kept k (v .up n) (w .up-kept n k h e) (up-level v f n k e))
+  name-still : (n : ℕ) → So (K n) → So (namespace-taken v n) → name v′ s n ≡ name v s n
+  name-still = name-stays v v′ K f stays s (λ m k a. pid-in-still (init v m))
+
+  child : (i : ℕ) → So (seen v s i) → name v′ s (v .children i) ≡ name v s (v .children i)
+  child i q = ⊎-elim none (λ t. ⊎-elim (λ h. name-still (v .children i) h t) none (w .children-kept i q)) (⊎-elim inr inl (children-of v f i (seen-taken v s i q)))
     where
-      go : (b : Bool) → So (K (nearest (v .life) (v .up) k (v .up n))) → So (K (elim b [ true ↦ n | false ↦ nearest (v .life) (v .up) k (v .up n) ]))
-      go true r = h
-      go false r = r
-
-  anchor-still : (n : ℕ) → So (K n) → anchor v′ n ≡ anchor v n
-  anchor-still n h = ap (λ k. nearest (v′ .life) (v′ .up) k n) (w .levels n h) ∙ near-still (v .level n) n h refl
-
-  by-still : (n : ℕ) → So (K n) → (l : Life) → name-by v′ s n l ≡ name-by v s n l
-  unfolding name-by
-  by-still n h Unborn = refl
-  by-still n h (Alive i) = ap by-init (pid-in-still (i .0))
-  by-still n h Dead =
-      ap₂ dead-at (w .levels n h)
-      (ap (pid-in v′ s) (ap init-of (ap (v′ .life) (anchor-still n h) ∙ w .lives (anchor v n) (near-kept (v .level n) n h refl))) ∙ pid-in-still (init v (anchor v n)))
-
-  pub name-still : (n : ℕ) → So (K n) → name v′ s n ≡ name v s n
-  unfolding name
-  name-still n h = ap (λ y. if eqb n no-slot then no-name else y) (ap (name-by v′ s n) (w .lives n h) ∙ by-still n h (v .life n))
+      none : v .children i ≡ no-slot → name v′ s (v .children i) ≡ name v s (v .children i)
+      none e = name-no-slot v′ s _ e ∙ sym (name-no-slot v s _ e)
 
   row-still : (i : ℕ) → So (seen v s i) → row v′ s i ≡ row v s i
   unfolding row is-init
@@ -96,8 +77,8 @@ module _ (v v′ : View) (s : ℕ) (K : ℕ → Bool) (f : Facts v) (w : Still v
         pending = w .pendings i q k;
         unshared = w .marks i q k;
         parent = (pid-in-still (v′ .parent i) ∙ w .parents i q) k;
-        own = (ap (name v′ s) (w .owns i q) ∙ name-still (v .own i) (w .own-kept i q)) k;
-        children = (ap (name v′ s) (w .childrens i q) ∙ ⊎-elim (λ h. name-still (v .children i) h) (λ e. name-no-slot v′ s _ e ∙ sym (name-no-slot v s _ e)) (w .children-kept i q)) k;
+        own = (ap (name v′ s) (w .owns i q) ∙ name-still (v .own i) (w .own-kept i q) (own-taken v f i (seen-taken v s i q))) k;
+        children = (ap (name v′ s) (w .childrens i q) ∙ child i q) k;
         last = (ap (λ (n : ℕ). if eqb (init v′ n) i then v′ .last n else 0) (w .owns i q) ∙ ap₂ (λ (x : Life) (z : ℕ). if eqb (init-of x) i then z else 0) (w .lives (v .own i) (w .own-kept i q)) (w .lasts i q)) k;
       }
 
@@ -109,16 +90,8 @@ module _ (v v′ : View) (s : ℕ) (K : ℕ → Bool) (f : Facts v) (w : Still v
         back = λ i k. (i, w .seens i ∙ k, row-still i k);
       }
 
-  climb-still : (k a b : ℕ) → So (K a) → v .level a ≡ k → climb (v′ .up) k a b ≡ climb (v .up) k a b
-  unfolding climb
-  climb-still zero a b h e = refl
-  climb-still (suc k) a b h e =
-      ap (λ (x : Bool). elim (eqb a b) [ true ↦ true | false ↦ x ])
-      (ap (λ x. climb (v′ .up) k x b) (w .ups a h) ∙ climb-still k (v .up a) b (w .up-kept a k h e) (up-level v f a k e))
-
   pub below-still : (a b : ℕ) → So (K a) → below v′ a b ≡ below v a b
-  unfolding below
-  below-still a b h = ap (λ k. climb (v′ .up) k a b) (w .levels a h) ∙ climb-still (v .level a) a b h refl
+  below-still = below-stays v v′ K f stays
 
   pub stands-still : So (namespace-taken v s) → So (namespace-taken v′ s)
   unfolding namespace-taken
