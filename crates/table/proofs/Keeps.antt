@@ -1,6 +1,5 @@
 pub mod Freed
 pub mod Changed
-pub mod FreedKeeps
 pub mod MemberEnds
 pub mod InitEnds
 pub mod End

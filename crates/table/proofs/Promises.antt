@@ -29,8 +29,8 @@ subtree-falls = Falls.subtree-falls
 
 -- An outside call that makes no touch leaves the sheet as it was.
 pub outside-leaves : OutsideLeaves
-outside-leaves = Demand3.outside-calls
+outside-leaves = Demand3.outside-leaves
 
 -- Demand 3: what inside calls answer and leave is the same on two tables whose sheets are equal.
 pub sameness : Sameness
-sameness = Demand3.demand3
+sameness = Demand3.sameness

@@ -1,24 +1,23 @@
 -- A birth keeps a table sound.
 use Prim.Native.Nat.{ℕ, zero, suc, _<_, _≤_}
 use native.Mathlib.Omega.{arith}
-use mathlib.Core.Bool.{true, false, So, false≢true}
+use mathlib.Core.Bool.{true, false, So, false≢true, Bool}
 use mathlib.Core.Logic.{_⊎_, inl, inr, ⊎-elim}
 use mathlib.Core.Path.{_≡_, refl, sym, _∙_, ap, subst}
 use borrow.Author.Tests.{eq-eqb, ne-eqb, eqb-true, le-leb, leb-true}
 use lib.Dec.{eqb, leb}
+use Rattle.table.proofs.Keeps.Changed.{pick}
 use Rattle.table.proofs.Keeps.MemberEnds.{reaches}
 use Rattle.table.proofs.Keeps.NewPid.{Fresh, next-fresh, next-first, nobody, free-is}
-use Rattle.table.proofs.Laws.Below.{last-step, above-namespace, above-is, above-same, below-level, root-above}
-use Rattle.table.proofs.Laws.Cases.{yes-or-no, no-so, isnt-so, zero-or, same-or, life-cases, alive-unborn, dead-unborn}
+use Rattle.table.proofs.Laws.Below.{last-step, below-taken, above-is, above-same, below-level, root-above}
 use Rattle.table.proofs.Laws.Facts.{Holder, root, member, for-children, child, Facts, Held, Taken, Stands, Lives, Below, Seen, Other, lives-taken, is-seen}
-use Rattle.table.proofs.Laws.Iff.{not-iff}
-use Rattle.table.proofs.Laws.Quant.{left, right, both}
 use Rattle.table.proofs.Laws.Reach.{reach-bounded, reach-zero, reach-step, reach-cases}
-use Rattle.table.proofs.Laws.SignalSets.{no-signals}
+use Rattle.table.proofs.Laws.Signals.{no-signals}
+use Rattle.table.proofs.Laws.Tests.{yes-or-no, no-so, isnt-so, zero-or, same-or, life-cases, alive-unborn, dead-unborn, not-iff, left, right, both}
 use Rattle.table.proofs.Laws.Tree.{below-refl}
 use Rattle.table.specs.Limits.{greatest-pid, namespace-slots, process-slots}
 use Rattle.table.specs.Pids.{next-pid}
-use Rattle.table.specs.Read.{View, above-at, alive, below, dead, init, init-of, is-alive, is-dead, living, namespace-taken, pid-seen, seen, taken, unborn}
+use Rattle.table.specs.Read.{View, above-at, alive, below, dead, init, init-of, is-alive, is-dead, living, namespace-taken, pid-seen, seen, taken, unborn, is-ended}
 use Rattle.table.specs.Sound.{reaches-root, zero-namespace, zero-process}
 use Rattle.table.specs.Tests.{_and_, if_then_else_}
 use Rattle.table.specs.declared.Life.the-variants.{Alive}
@@ -60,7 +59,7 @@ module _ (v : View) (f : Facts v) (c n k : ℕ) (c-lives : Lives v c) (here : St
   born-pid m b = let l : v .level m ≤ v .level n = below-level v f n m b in let e = le-leb (v .level m) (v .level n) l in rw (self, e) (ap (next-pid v) (above-same v f n m b))
 
   fresh : (m : ℕ) → Below v n m → Fresh v m (next-pid v m)
-  fresh m b = next-fresh v f m (above-namespace v f n m here b)
+  fresh m b = next-fresh v f m (below-taken v f n m here b)
 
   k-taken : Taken w k
   unfolding taken
@@ -74,7 +73,7 @@ module _ (v : View) (f : Facts v) (c n k : ℕ) (c-lives : Lives v c) (here : St
 
   -- above n, only n may be unborn
   unborn-above : (m : ℕ) → Below v n m → So (unborn v m) → n ≡ m
-  unborn-above m b u = ⊎-elim (λ x. x) (λ (a, s, o, e, d). absurd (f .unborn-leaf m (above-namespace v f n m here b) u a s o e)) (last-step v f n m here b)
+  unborn-above m b u = ⊎-elim (λ x. x) (λ (a, s, o, e, d). absurd (f .unborn-leaf m (below-taken v f n m here b) u a s o e)) (last-step v f n m here b)
 
   life-w : (m : ℕ) → (Below v n m × So (unborn v m) × (w .life m ≡ Alive (record { 0 = k }))) ⊎ (w .life m ≡ v .life m)
   life-w m =
@@ -133,7 +132,7 @@ module _ (v : View) (f : Facts v) (c n k : ℕ) (c-lives : Lives v c) (here : St
   -- the init of a living namespace above n has 1 there
   not-first : (m : ℕ) → Below v n m → So (alive v m) → next-pid v m ≡ 1 → ⊥
   not-first m b a e =
-      let s = above-namespace v f n m here b in
+      let s = below-taken v f n m here b in
       let (l, o) = f .inits m s a in
       let h : Seen v m (init v m) = is-seen v m _ (lives-taken v _ l) (subst (λ x. Below v x m) (sym o) (below-refl v m)) in
       clash m (init v m) b h (f .first m s a (init v m) h .1 refl ∙ sym e)
@@ -166,7 +165,7 @@ module _ (v : View) (f : Facts v) (c n k : ℕ) (c-lives : Lives v c) (here : St
 
   empty-namespace-w : (m : ℕ) → (Stands v m → ⊥) → So (zero-namespace w m)
   unfolding zero-namespace
-  empty-namespace-w m o = rw (isnt-so (λ b. o (above-namespace v f n m here b))) (f .empty-namespace m o)
+  empty-namespace-w m o = rw (isnt-so (λ b. o (below-taken v f n m here b))) (f .empty-namespace m o)
 
   last-w : (m : ℕ) → m < namespace-slots → w .last m ≤ greatest-pid
   last-w m l = ⊎-elim (λ (b : Below v n m). rw b (fresh m b .within)) (λ (b : below v n m ≡ false). rw b (f .last-pids m l)) (yes-or-no (below v n m))
@@ -203,6 +202,7 @@ module _ (v : View) (f : Facts v) (c n k : ℕ) (c-lives : Lives v c) (here : St
   unfolding namespace-taken below
   born-pre =
       record {
+        ended-is = λ i. ap (λ (b : Bool). if eqb i k then false else b) (f .ended-is i) ∙ sym (pick is-ended (eqb i k) Running (v .state i));
         in-range = range-w;
         in-namespace = f .in-namespace;
         root-init = ap init-of root-life ∙ f .root-init;

@@ -8,10 +8,9 @@ use lib.Dec.{eqb, leb}
 use lib.ListN.{replicate}
 use Rattle.table.proofs.Keeps.Birth.{with-born}
 use Rattle.table.proofs.Keeps.Changed.{getD-replicate, view-changed, shaped-changed, process-shaped, view-put, shaped-put, pick, changed-at, length-changed}
-use Rattle.table.proofs.Laws.Below.{above-namespace, low-level}
-use Rattle.table.proofs.Laws.Cases.{isnt-so}
+use Rattle.table.proofs.Laws.Below.{below-taken, level-deepest}
 use Rattle.table.proofs.Laws.Facts.{Facts, Stands}
-use Rattle.table.proofs.Laws.Quant.{both}
+use Rattle.table.proofs.Laws.Tests.{isnt-so, both}
 use Rattle.table.specs.Births.{birth, joined, new-pids, newborn}
 use Rattle.table.specs.Limits.{levels, namespace-slots, process-slots}
 use Rattle.table.specs.Pids.{free-slot, next-pid}
@@ -38,7 +37,7 @@ module _ (t : Table) (g : So (shaped t)) (f : Facts (view t)) (c n : ℕ) (here 
   mid = put t k x
 
   no-pids : (l : ℕ) → levels ≤ l → leb l (v .level n) ≡ false
-  no-pids l h = lt-leb l (v .level n) (omega (arith, low-level v f n here))
+  no-pids l h = lt-leb l (v .level n) (omega (arith, level-deepest v f n here))
 
   -- the number at a level
   pids-are : (l : ℕ) → pid-at x l ≡ (if leb l (v .level n) then next-pid v (above-at v n l) else 0)
@@ -56,7 +55,7 @@ module _ (t : Table) (g : So (shaped t)) (f : Facts (view t)) (c n : ℕ) (here 
   mid-shaped = shaped-put t g k x low x-shaped
 
   out : (m : ℕ) → namespace-slots ≤ m → below v n m ≡ false
-  out m l = isnt-so (λ b. omega (arith, f .in-namespace m (above-namespace v f n m here b)))
+  out m l = isnt-so (λ b. omega (arith, f .in-namespace m (below-taken v f n m here b)))
 
   kept-of : {B : Type 0} (r : Namespace → B) (b : Bool) (y s : Namespace) → r y ≡ r s → r (if b then y else s) ≡ r s
   kept-of r true y s h = h

@@ -9,7 +9,7 @@ use borrow.Author.Tests.{eq-eqb, ne-eqb, eqb-true}
 use lib.Dec.{eqb, ltb}
 use lib.ListN.{getD, set, replicate, length, length-set, List·getD-eq-default}
 use lib.Seq.{getD-set-same, getD-set-other}
-use Rattle.table.proofs.Laws.Quant.{left, right, both, all-elim, all-intro}
+use Rattle.table.proofs.Laws.Tests.{left, right, both, all-elim, all-intro}
 use Rattle.table.specs.Limits.{levels, namespace-slots, process-slots, signals}
 use Rattle.table.specs.Read.{View, is-ended, namespace, no-namespace, no-process, pid-at, process, view}
 use Rattle.table.specs.Records.{changed, put, put-namespace}

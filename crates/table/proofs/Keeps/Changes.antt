@@ -11,17 +11,15 @@ use lib.ListN.{length}
 use Rattle.table.proofs.Keeps.Changed.{shape-at}
 use Rattle.table.proofs.Keeps.Deliver.{Safe, Good, action-good, pend-ok, deliver-sane}
 use Rattle.table.proofs.Keeps.End.{end-sane}
-use Rattle.table.proofs.Keeps.FreedKeeps.{freed-keeps}
+use Rattle.table.proofs.Keeps.Freed.{freed-keeps}
 use Rattle.table.proofs.Keeps.NewNamespace.{namespace-pre}
 use Rattle.table.proofs.Keeps.Premises as K
 use Rattle.table.proofs.Keeps.PutKeeps.{with-all, signalled-sane, set-children-sane, reaped-sane, new-namespace-view, new-namespace-shape}
-use Rattle.table.proofs.Laws.Below.{low-level}
-use Rattle.table.proofs.Laws.Cases.{isnt-so, no-so, choose}
+use Rattle.table.proofs.Laws.Below.{level-deepest}
 use Rattle.table.proofs.Laws.Facts.{Facts, Holder, Taken, Stands, Lives, Below, Seen, Other, SignalsOk, lives-taken, not-ended, seen-taken, seen-below, facts, held-in, Sane, sane}
-use Rattle.table.proofs.Laws.Quant.{left, right, both, isnt-not, or-false-left, or-false-right}
-use Rattle.table.proofs.Laws.SignalBits.{with-signal-lt, without-signal-le}
-use Rattle.table.proofs.Laws.SignalSets.{poll-ok, on-ok, off-ok}
+use Rattle.table.proofs.Laws.Signals.{with-signal-lt, without-signal-le, poll-ok, on-ok, off-ok}
 use Rattle.table.proofs.Laws.Steps.{made-or-refused, runs-lives, remainder}
+use Rattle.table.proofs.Laws.Tests.{isnt-so, no-so, choose, left, right, both, isnt-not, or-false-left, or-false-right}
 use Rattle.table.specs.Answers.{answers, granted, refused}
 use Rattle.table.specs.Births.{birth}
 use Rattle.table.specs.Calls.{clone, clone-new, exit, first-ended, getpid, getppid, handle, handle-off, handle-on, kill, named, names-group, natural, new-namespace, own-level, poll, reap, set-children, setns, status, targets, unshare, wait, within}
@@ -62,7 +60,7 @@ namespace-sane t s c l a b =
     let f = s .facts in
     let m = f .members c (lives-taken (view t) c l) in
     let (low, free) = K.free-namespace-is (view t) b in
-    let d : view t .level (view t .own c) < deepest = omega (arith, low-level (view t) f (view t .own c) (m .0 .0)) in
+    let d : view t .level (view t .own c) < deepest = omega (arith, level-deepest (view t) f (view t .own c) (m .0 .0)) in
     record {
       shape-of = new-namespace-shape t (s .shape-of) c low;
       facts = subst Facts (sym (new-namespace-view t (s .shape-of) c low)) (namespace-pre (view t) f (view t .own c) _ (m .0 .0) d (λ x. not-ended (view t) c l (m .0 .1 x)) (m .1) low free);
@@ -222,6 +220,17 @@ module _ (t : Table) (c : ℕ) (h : SoundTable t) (r : So (runs (view t) c)) whe
       choose (Gives t) (eqb (lowest-signal (process t c .pending)) signals) (λ a. nothing-done) (λ a.
       let (x, y, k) = sets t (sane t h) c lives in
       signalled c lives (v .handled c) (without-signal (v .pending c) (lowest-signal (process t c .pending))) (poll-ok _ _ _ k) x (omega (arith, without-signal-le (v .pending c) (lowest-signal (process t c .pending)), y)))
+
+-- the tables of setns and unshare before namespaces are freed
+pub setns-sane : (t : Table) → SoundTable t → (c i : ℕ) (mark : Bool) → Lives (view t) c → Seen (view t) (view t .own c) i → Sane (put t c (with-children (process t c) (view t .own i) mark))
+setns-sane t h c i mark l s =
+    let m = facts t h .members i (seen-taken (view t) (view t .own c) i s) in
+    set-children-sane t (sane t h) c (view t .own i) mark l (m .0 .0) (seen-below (view t) (view t .own c) i s) (λ u. absurd (m .1 u))
+
+pub unshare-sane : (t : Table) (h : SoundTable t) (c : ℕ) (r : So (runs (view t) c)) → (own-level (view t) c ≡ deepest → ⊥) → (free-namespace-slot (view t) ≡ namespace-slots → ⊥) → Sane (put (new-namespace t c) c (with-children (process (new-namespace t c) c) (free-namespace-slot (view t)) true))
+unshare-sane t h c r deep room =
+    let q = K.ready-next t c h r deep room in
+    set-children-sane (new-namespace t c) (namespace-sane t (sane t h) c (lives t c h r) deep room) c (free-namespace-slot (view t)) true (q .lives) (q .namespace) (q .below) (λ u. (q .up-own u, q .alone))
 
 -- a call by a running caller leaves a sound table sound
 pub make-sound : (t : Table) (c : ℕ) (call : Call) → SoundTable t → So (runs (view t) c) → SoundTable (make t c call .table)

@@ -10,10 +10,9 @@ use lib.Dec.{eqb}
 use Rattle.table.proofs.Keeps.Changed.{shape-at}
 use Rattle.table.proofs.Keeps.End.{end-sane}
 use Rattle.table.proofs.Keeps.PutKeeps.{signalled-sane}
-use Rattle.table.proofs.Laws.Cases.{no-so, isnt-so, choose}
 use Rattle.table.proofs.Laws.Facts.{Facts, Taken, Lives, Other, SignalsOk, lives-taken, not-ended, Sane}
-use Rattle.table.proofs.Laws.Quant.{left, right, both, isnt-not, or-false-left, or-false-right}
-use Rattle.table.proofs.Laws.SignalBits.{has-with-other, with-signal-lt}
+use Rattle.table.proofs.Laws.Signals.{has-with-other, with-signal-lt}
+use Rattle.table.proofs.Laws.Tests.{no-so, isnt-so, choose, left, right, both, isnt-not, or-false-left, or-false-right}
 use Rattle.table.specs.Delivery.{act, action-on, default-action, deliver, deliver-all, resumed, with-pending}
 use Rattle.table.specs.Limits.{process-slots, signals, sigkill, sigcont, sigstop}
 use Rattle.table.specs.Read.{View, init, is-init, living, view}

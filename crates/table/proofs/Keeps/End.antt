@@ -9,9 +9,8 @@ use Rattle.table.proofs.Keeps.Changed.{getD-replicate, view-changed, sh
 use Rattle.table.proofs.Keeps.InitEnds.{gone, subtree-gone, subtree-pre}
 use Rattle.table.proofs.Keeps.MemberEnds.{member-gone, member-pre}
 use Rattle.table.proofs.Laws.Below.{shallow-below, no-level}
-use Rattle.table.proofs.Laws.Cases.{false-and, isnt-so, choose}
 use Rattle.table.proofs.Laws.Facts.{Facts, Lives, Other, lives-taken, seen-taken, facts, Sane, Taken}
-use Rattle.table.proofs.Laws.Quant.{left, both}
+use Rattle.table.proofs.Laws.Tests.{false-and, isnt-so, choose, left, both}
 use Rattle.table.specs.Ends.{end, init-ends, namespace-dies, member-ends}
 use Rattle.table.specs.Fresh.{empty-process}
 use Rattle.table.specs.Limits.{levels, namespace-slots, no-slot, process-slots}
@@ -66,8 +65,8 @@ module _ (e : End) (q : Process) where
   shaped-cased true false false false h = both _ _ (both _ _ (left _ _ (left _ _ h)) refl) refl
 
 -- the view once the process at p has ended
-abbrev pub end-of : View → ℕ → End → View
-end-of v p e = if is-init v p then subtree-gone v (v .own p) p e else member-gone v p (init v (v .own p)) e
+abbrev pub ended-view : View → ℕ → End → View
+ended-view v p e = if is-init v p then subtree-gone v (v .own p) p e else member-gone v p (init v (v .own p)) e
 
 module _ (t : Table) (s : Sane t) (p : ℕ) (e : End) (here : Taken (view t) p) where
   abbrev v : View
@@ -193,13 +192,19 @@ module _ (t : Table) (s : Sane t) (p : ℕ) (e : End) (here : Taken (view t) p) 
 
   -- ---- either
 
-  pub end-view : view (end t p e) ≡ end-of v p e
+  pub end-view : view (end t p e) ≡ ended-view v p e
   unfolding end
   end-view = pick view (is-init v p) after-init after-member ∙ ap₂ (λ (x y : View). if is-init v p then x else y) subtree-view member-view
 
   end-shape : So (shaped (end t p e))
   unfolding end
   end-shape = choose (λ u. So (shaped u)) (is-init v p) (λ i. subtree-shape) (λ i. member-shape)
+
+-- an end leaves the tree of namespaces
+pub end-tree : (t : Table) (s : Sane t) (p : ℕ) (e : End) → Taken (view t) p → (view (end t p e) .up ≡ view t .up) × (view (end t p e) .level ≡ view t .level)
+end-tree t s p e here =
+    subst (λ (u : View). (u .up ≡ view t .up) × (u .level ≡ view t .level)) (sym (end-view t s p e here))
+    (choose (λ (u : View). (u .up ≡ view t .up) × (u .level ≡ view t .level)) (is-init (view t) p) (λ i. (refl, refl)) (λ i. (refl, refl)))
 
 pub end-sane : (t : Table) → Sane t → (p : ℕ) (e : End) → Lives (view t) p → Other p → So (kept-end (Ended e)) → Sane (end t p e)
 end-sane t s p e lives other ok =

@@ -12,18 +12,17 @@ use lib.ListN.{length}
 use Rattle.table.proofs.Keeps.Changed.{changed-at, stored, process-count}
 use Rattle.table.proofs.Keeps.Changes.{start, act-run}
 use Rattle.table.proofs.Keeps.Deliver.{Each, Safe, Good, action-good, deliver-sane, deliver-all-sane}
-use Rattle.table.proofs.Keeps.End.{end-view}
+use Rattle.table.proofs.Keeps.End.{end-tree}
 use Rattle.table.proofs.Keeps.Fixed.{Shrinks, shrinks-trans, run-shrinks}
 use Rattle.table.proofs.Keeps.NewPid.{found, free-is}
 use Rattle.table.proofs.Keeps.Premises as K
 use Rattle.table.proofs.Laws.Below.{below-trans, below-level}
-use Rattle.table.proofs.Laws.Cases.{isnt-so, zero-or, choose}
-use Rattle.table.proofs.Laws.Facts.{Facts, Taken, Stands, Lives, Below, Seen, lives-taken, seen-taken, seen-below, is-seen, facts, Sane, sane}
+use Rattle.table.proofs.Laws.Facts.{Facts, Taken, Stands, Below, Seen, lives-taken, seen-taken, seen-below, is-seen, facts, Sane, sane}
 use Rattle.table.proofs.Laws.Lists.{In, some-of-in, in-some-of, only-in, in-only, in-ascending, ascending-in}
-use Rattle.table.proofs.Laws.Quant.{left, right, both, isnt-not}
 use Rattle.table.proofs.Laws.Slots.{pid-pos}
 use Rattle.table.proofs.Laws.Steps.{made-or-refused}
-use Rattle.table.proofs.Sameness.Find.{find-cases}
+use Rattle.table.proofs.Laws.Tests.{isnt-so, zero-or, choose, left, right, both, isnt-not}
+use Rattle.table.proofs.Sameness.Same.{find-cases}
 use Rattle.table.specs.Answers.{answers, granted, refused}
 use Rattle.table.specs.Calls.{kill, names-group, natural, targets, within, named, others, pid-to}
 use Rattle.table.specs.Claims.{SignalFinds, meant}
@@ -178,17 +177,12 @@ seen-still v u s n i h t = is-seen u n i t (below-same v u s (u .own i) n ∙ su
 same-trans : (a b c : View) → Same a b → Same b c → Same a c
 same-trans a b c x y = record { shrinks = shrinks-trans a b c (x .shrinks) (y .shrinks); ups = y .ups ∙ x .ups; levels = y .levels ∙ x .levels }
 
-end-same : (t : Table) (s : Sane t) (p : ℕ) (e : End) → Lives (view t) p → (view (end t p e) .up ≡ view t .up) × (view (end t p e) .level ≡ view t .level)
-end-same t s p e l =
-    subst (λ (u : View). (u .up ≡ view t .up) × (u .level ≡ view t .level)) (sym (end-view t s p e (lives-taken (view t) p l)))
-    (choose (λ (u : View). (u .up ≡ view t .up) × (u .level ≡ view t .level)) (is-init (view t) p) (λ i. (refl, refl)) (λ i. (refl, refl)))
-
 action-same : (t : Table) (s : Sane t) (i k : ℕ) → k < signals → (e : Action) → Good (view t) i k e → (view (act t i k e) .up ≡ view t .up) × (view (act t i k e) .level ≡ view t .level)
 unfolding act
 action-same t s i k l Nothing g = (refl, refl)
 action-same t s i k l Resume g = (refl, refl)
 action-same t s i k l Stop g = (refl, refl)
-action-same t s i k l Finish g = end-same t s i (Signaled k) (g .0)
+action-same t s i k l Finish g = end-tree t s i (Signaled k) (lives-taken (view t) i (g .0))
 action-same t s i k l Pend g = (refl, refl)
 
 apply-same : (t : Table) (s : Sane t) (i k : ℕ) → k < signals → (e : Action) → Good (view t) i k e → Same (view t) (view (act t i k e))

@@ -8,14 +8,14 @@ use Rattle.table.proofs.Keeps.Birth.{with-born}
 use Rattle.table.proofs.Keeps.BirthKeeps.{birth-view}
 use Rattle.table.proofs.Keeps.Changes.{Change, ends, signals-of, turns, reaps, makes-namespace, change-sane, Run, start, more, run-sane, MayBear, Made, nothing-done, freed-after, signalled, born, born-in-new, call-made}
 use Rattle.table.proofs.Keeps.End.{end-view}
-use Rattle.table.proofs.Keeps.FreedKeeps.{freed-view}
+use Rattle.table.proofs.Keeps.Freed.{freed-view}
 use Rattle.table.proofs.Keeps.InitEnds.{gone, subtree-gone}
 use Rattle.table.proofs.Keeps.Premises as K
 use Rattle.table.proofs.Keeps.PutKeeps.{signalled-view, set-children-view, reaped-view, new-namespace-view}
 use Rattle.table.proofs.Keeps.Reap.{without}
-use Rattle.table.proofs.Laws.Cases.{yes-or-no, same-or, isnt-so, choose}
 use Rattle.table.proofs.Laws.Facts.{Taken, Lives, Other, lives-taken, not-ended, facts, Sane, sane}
 use Rattle.table.proofs.Laws.Steps.{made-or-refused}
+use Rattle.table.proofs.Laws.Tests.{yes-or-no, same-or, isnt-so, choose}
 use Rattle.table.specs.Births.{birth}
 use Rattle.table.specs.Calls.{new-namespace}
 use Rattle.table.specs.Claims.{NamespaceFixed}

@@ -6,18 +6,22 @@ use mathlib.Core.Logic.{_⊎_, inl, inr, ⊎-elim}
 use mathlib.Core.Path.{_≡_, refl, sym, _∙_, ap, subst}
 use borrow.Author.Tests.{eq-eqb, eqb-true}
 use lib.Dec.{eqb, leb}
-use Rattle.table.proofs.Laws.Below.{below-trans, below-up, last-step, below-child, stepwise, deep-other, deep-namespace}
-use Rattle.table.proofs.Laws.Cases.{alive-unborn}
-use Rattle.table.proofs.Laws.Facts.{Holder, root, member, for-children, child, Facts, Held, Taken, Stands, Lives, Below, Seen, Other}
-use Rattle.table.proofs.Laws.Iff.{not-iff, or-iff}
-use Rattle.table.proofs.Laws.Quant.{left, right, both, cases, or-left, any-elim, any-intro}
+use Rattle.table.proofs.Keeps.Changed.{view-changed, shaped-changed}
+use Rattle.table.proofs.Laws.Below.{below-trans, below-up, last-step, below-child, up-level, not-root, deep-namespace}
+use Rattle.table.proofs.Laws.Facts.{Holder, root, member, for-children, child, Facts, Held, Taken, Stands, Lives, Below, Seen, Other, sound-from}
+use Rattle.table.proofs.Laws.Tests.{alive-unborn, not-iff, or-iff, left, right, both, cases, or-left, any-elim, any-intro}
 use Rattle.table.proofs.Laws.Tree.{below-refl}
-use Rattle.table.specs.Freeing.{kept}
+use Rattle.table.specs.Freeing.{kept, freed}
+use Rattle.table.specs.Fresh.{empty-namespace}
 use Rattle.table.specs.Limits.{greatest-pid}
-use Rattle.table.specs.Read.{View, alive, below, climb, init-of, is-alive, is-dead, is-unborn, living, namespace-taken, pid-seen, seen, taken, unborn}
-use Rattle.table.specs.Sound.{zero-namespace, zero-process}
+use Rattle.table.specs.Read.{View, alive, below, climb, init-of, is-alive, is-dead, is-unborn, living, namespace-taken, pid-seen, seen, taken, unborn, namespace, no-namespace, view}
+use Rattle.table.specs.Sound.{zero-namespace, zero-process, SoundTable, shaped}
 use Rattle.table.specs.Tests.{_and_, _or_, if_then_else_}
 use Rattle.table.specs.declared.Life.the-variants.{Unborn}
+use Rattle.table.specs.declared.Namespace.{Namespace}
+use Rattle.table.specs.declared.Table.{Table}
+
+-- ---- freeing namespaces restores soundness
 
 -- ---- who is kept
 
@@ -112,9 +116,9 @@ module _ (v : View) (p : Facts v) where
   climb-at zero a b e h = refl
   climb-at (suc k) a b e h =
       let s = deep-namespace v a k e in
-      let o = deep-other v p a k e in
+      let o = not-root v p a k e in
       ap (λ x. elim (eqb a b) as (λ z. Bool) [ true ↦ true | false ↦ climb (w .up) k x b ]) (up-at a h)
-      ∙ ap (λ x. elim (eqb a b) as (λ z. Bool) [ true ↦ true | false ↦ x ]) (climb-at k (v .up a) b (stepwise v p a k e) (kept-up v p a s o h))
+      ∙ ap (λ x. elim (eqb a b) as (λ z. Bool) [ true ↦ true | false ↦ x ]) (climb-at k (v .up a) b (up-level v p a k e) (kept-up v p a s o h))
 
   below-at : (a b : ℕ) → So (kept v a) → below w a b ≡ below v a b
   unfolding below
@@ -138,6 +142,7 @@ module _ (v : View) (p : Facts v) where
   unfolding taken living zero-process pid-seen
   freed-pre =
       record {
+        ended-is = p .ended-is;
         in-range = p .in-range;
         in-namespace = λ n s. p .in-namespace n (stayed n s .1);
         root-init = ap init-of (life-at 0 top) ∙ p .root-init;
@@ -207,3 +212,39 @@ module _ (v : View) (p : Facts v) where
             (λ c. ⊎-elim (for-children i x) (λ (m, y, o, e, d). child-stays n m i _ x (inr refl) y o e d) (last-step v p _ n (below-child v p i n x t c) c)) b)
             (kept-cases v p n k);
       }
+
+-- ---- a table that is sound up to freeing is sound once freed
+
+pub freed-view : (t : Table) → So (shaped t) → view (freed t) ≡ restrict (kept (view t)) (view t)
+unfolding freed
+freed-view t h =
+    view-changed t (λ i p. p) (λ n s. if kept (view t) n then s else empty-namespace) h (λ i l. refl) (λ n l. same (kept (view t) n))
+    ∙ (λ i. record {
+      own = view t .own;
+      children = view t .children;
+      parent = view t .parent;
+      state = view t .state;
+      ended = view t .ended;
+      handled = view t .handled;
+      pending = view t .pending;
+      unshared = view t .unshared;
+      pid = view t .pid;
+      up = λ n. read (λ s. s .parent .0) (kept (view t) n) (namespace t n) i;
+      level = λ n. read (λ s. s .level) (kept (view t) n) (namespace t n) i;
+      last = λ n. read (λ s. s .last .0) (kept (view t) n) (namespace t n) i;
+      life = λ n. read (λ s. s .life) (kept (view t) n) (namespace t n) i;
+    })
+  where
+    same : (b : Bool) → (if b then no-namespace else empty-namespace) ≡ no-namespace
+    same true = refl
+    same false = refl
+
+    read : {B : Type 0} (g : Namespace → B) (b : Bool) (s : Namespace) → g (if b then s else empty-namespace) ≡ (if b then g s else g empty-namespace)
+    read g true s = refl
+    read g false s = refl
+
+pub freed-keeps : (t : Table) → So (shaped t) → Facts (view t) → SoundTable (freed t)
+unfolding freed
+freed-keeps t h p =
+    sound-from (freed t) (shaped-changed t (λ i p. p) (λ n s. if kept (view t) n then s else empty-namespace) h (λ i q k. k))
+    (subst Facts (sym (freed-view t h)) (freed-pre (view t) p)) (subst Held (sym (freed-view t h)) (freed-held (view t) p))

@@ -7,13 +7,12 @@ use mathlib.Core.Path.{_≡_, refl, sym, _∙_, ap, subst}
 use borrow.Author.Tests.{eqb-true}
 use lib.Dec.{eqb}
 use Rattle.table.proofs.Laws.Below.{below-trans, below-up, shallow-below, no-level}
-use Rattle.table.proofs.Laws.Cases.{yes-or-no, no-so, isnt-so, false-and, zero-or}
 use Rattle.table.proofs.Laws.Facts.{Facts, Taken, Stands, Lives, Below, Seen, Other, SignalsOk, lives-taken, is-seen, seen-taken, seen-below}
-use Rattle.table.proofs.Laws.Quant.{left, right, both, all-intro}
 use Rattle.table.proofs.Laws.Reach.{reach-zero, reach-step, reach-cases}
-use Rattle.table.proofs.Laws.SignalSets.{no-signals}
+use Rattle.table.proofs.Laws.Signals.{no-signals}
+use Rattle.table.proofs.Laws.Tests.{yes-or-no, no-so, isnt-so, false-and, zero-or, left, right, both, all-intro}
 use Rattle.table.specs.Limits.{levels, no-slot, process-slots}
-use Rattle.table.specs.Read.{View, alive, below, dead, init, init-of, is-alive, is-init, living, namespace-taken, pid-seen, seen, taken, unborn}
+use Rattle.table.specs.Read.{View, alive, below, dead, init, init-of, is-alive, is-init, living, namespace-taken, pid-seen, seen, taken, unborn, is-ended}
 use Rattle.table.specs.Sound.{kept-end, reaches-root, zero-namespace, zero-process}
 use Rattle.table.specs.Tests.{_and_, if_then_else_}
 use Rattle.table.specs.declared.End.the-variants.{Signaled}
@@ -169,10 +168,18 @@ module _ (v : View) (f : Facts v) (p : ℕ) (e : End) (lives : Lives v p) (its-i
   bare-w : (i : ℕ) → Taken v i → So (if seen v n i then true else v .ended i) → ((((if seen v n i then no-slot else v .children i) ≡ no-slot) × ((if seen v n i then 0 else v .handled i) ≡ 0)) × ((if seen v n i then 0 else v .pending i) ≡ 0)) × (So (if seen v n i then false else v .unshared i) → ⊥)
   bare-w i t = ⊎-elim (λ s. rw s (λ h. (((refl, refl), refl), λ z. false≢true z))) (λ o. rw o (f .ended-bare i t)) (yes-or-no (seen v n i))
 
+  ended-as : (a b c : Bool) (i : ℕ) (d : Bool) → v .ended i ≡ d → (if a then false else (if b then true else v .ended i)) ≡ is-ended (if a then Running else (if b then (if c then Ended e else (if d then v .state i else Ended (Signaled 9))) else v .state i))
+  ended-as true b c i d h = refl
+  ended-as false false c i d h = f .ended-is i
+  ended-as false true true i d h = refl
+  ended-as false true false i true h = sym h ∙ f .ended-is i
+  ended-as false true false i false h = refl
+
   pub subtree-pre : Facts w
   unfolding namespace-taken below pid-seen
   subtree-pre =
       record {
+        ended-is = λ i. ended-as (gone v n i) (seen v n i) (eqb i p) i (v .ended i) refl;
         in-range = λ i t. f .in-range i (stays i t .1);
         in-namespace = f .in-namespace;
         root-init = ap init-of root-life ∙ f .root-init;

@@ -2,20 +2,20 @@
 use Prim.Native.Nat.{ℕ, zero, suc}
 use native.Mathlib.Decide.{ℕ-discrete}
 use native.Mathlib.Omega.{arith}
-use mathlib.Core.Bool.{true, false, So, false≢true}
+use mathlib.Core.Bool.{true, false, So, false≢true, Bool}
 use mathlib.Core.Logic.{_⊎_, inl, inr, ⊎-elim}
 use mathlib.Core.Path.{_≡_, refl, sym, _∙_, ap, subst}
 use borrow.Author.Tests.{eq-eqb, ne-eqb}
 use lib.Dec.{eqb}
+use Rattle.table.proofs.Keeps.Changed.{pick}
 use Rattle.table.proofs.Laws.Below.{below-trans, up-not-below}
-use Rattle.table.proofs.Laws.Cases.{and-false, false-and, zero-or, life-cases}
 use Rattle.table.proofs.Laws.Facts.{Facts, Taken, Stands, Lives, Below, Other, lives-taken, not-ended, root-namespace, is-seen}
-use Rattle.table.proofs.Laws.Quant.{left, right, both}
 use Rattle.table.proofs.Laws.Reach.{reach-bounded, reach-zero, reach-step, reach-cases, no-self}
-use Rattle.table.proofs.Laws.SignalSets.{no-signals}
+use Rattle.table.proofs.Laws.Signals.{no-signals}
+use Rattle.table.proofs.Laws.Tests.{and-not, false-and, zero-or, life-cases, left, right, both}
 use Rattle.table.proofs.Laws.Tree.{below-refl}
 use Rattle.table.specs.Limits.{no-slot, process-slots}
-use Rattle.table.specs.Read.{View, alive, below, child-of, init, is-init, living, namespace-taken, pid-seen, seen, taken}
+use Rattle.table.specs.Read.{View, alive, below, child-of, init, is-init, living, namespace-taken, pid-seen, seen, taken, is-ended}
 use Rattle.table.specs.Sound.{kept-end, reaches-root, zero-namespace, zero-process}
 use Rattle.table.specs.Tests.{if_then_else_}
 use Rattle.table.specs.declared.End.{End}
@@ -103,7 +103,7 @@ module _ (v : View) (f : Facts v) (p : ℕ) (e : End) (lives : Lives v p) (no-in
     where
       go : (i ≡ p → ⊥) → Dec (v .parent i ≡ p) → ((w .parent i ≡ v .parent i) × (v .parent i ≡ p → ⊥)) ⊎ ((w .parent i ≡ q) × (v .parent i ≡ p))
       go o (yes x) = inr (rw (ne-eqb i p o, both _ _ t (eq-eqb _ p x)), x)
-      go o (no x) = inl (rw (ne-eqb i p o, and-false (taken v i) (ne-eqb _ p x)), x)
+      go o (no x) = inl (rw (ne-eqb i p o, and-not (taken v i) (ne-eqb _ p x)), x)
 
   -- ---- following parents still reaches slot 0
 
@@ -168,6 +168,7 @@ module _ (v : View) (f : Facts v) (p : ℕ) (e : End) (lives : Lives v p) (no-in
   unfolding taken living namespace-taken below seen pid-seen zero-namespace
   member-pre =
       record {
+        ended-is = λ i. ap (λ (b : Bool). if eqb i p then true else b) (f .ended-is i) ∙ sym (pick is-ended (eqb i p) (Ended e) (v .state i));
         in-range = f .in-range;
         in-namespace = f .in-namespace;
         root-init = f .root-init;

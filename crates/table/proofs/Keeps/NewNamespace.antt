@@ -6,10 +6,9 @@ use mathlib.Core.Logic.{_⊎_, inl, inr, ⊎-elim}
 use mathlib.Core.Path.{_≡_, refl, sym, _∙_, ap, subst}
 use borrow.Author.Tests.{eq-eqb, ne-eqb}
 use lib.Dec.{eqb}
-use Rattle.table.proofs.Laws.Below.{above-namespace, deep-namespace, deep-other, stepwise, below-up}
-use Rattle.table.proofs.Laws.Cases.{same-or}
+use Rattle.table.proofs.Laws.Below.{below-taken, deep-namespace, not-root, up-level, below-up}
 use Rattle.table.proofs.Laws.Facts.{Holder, root, member, for-children, child, Facts, Held, Taken, Stands, Lives, Below, Seen, Other, child-namespace, seen-taken, seen-below, root-namespace}
-use Rattle.table.proofs.Laws.Quant.{left, right, both}
+use Rattle.table.proofs.Laws.Tests.{same-or, left, right, both}
 use Rattle.table.proofs.Laws.Tree.{below-refl}
 use Rattle.table.specs.Limits.{deepest, namespace-slots}
 use Rattle.table.specs.Pids.{free-slot}
@@ -72,7 +71,7 @@ module _ (v : View) (f : Facts v) (a j : ℕ) (a-namespace : Stands v a) (low : 
   climb-old zero m b e s = refl
   climb-old (suc k) m b e s =
       ap (λ x. elim (eqb m b) as (λ z. Bool) [ true ↦ true | false ↦ climb (w .up) k x b ]) (rw (old m s))
-      ∙ ap (λ x. elim (eqb m b) as (λ z. Bool) [ true ↦ true | false ↦ x ]) (climb-old k (v .up m) b (stepwise v f m k e) (f .tree m s (deep-other v f m k e) .0 .0))
+      ∙ ap (λ x. elim (eqb m b) as (λ z. Bool) [ true ↦ true | false ↦ x ]) (climb-old k (v .up m) b (up-level v f m k e) (f .tree m s (not-root v f m k e) .0 .0))
 
   pub below-old : (m b : ℕ) → Stands v m → below w m b ≡ below v m b
   unfolding below
@@ -89,7 +88,7 @@ module _ (v : View) (f : Facts v) (a j : ℕ) (a-namespace : Stands v a) (low : 
   not-j m s x = j-free (subst (Stands v) x s)
 
   none-seen : (m i : ℕ) → m ≡ j → Seen w m i → ⊥
-  none-seen m i x h = not-j m (above-namespace v f _ m (own-namespace i (seen-taken v m i (was-seen m i h))) (seen-below v m i (was-seen m i h))) x
+  none-seen m i x h = not-j m (below-taken v f _ m (own-namespace i (seen-taken v m i (was-seen m i h))) (seen-below v m i (was-seen m i h))) x
 
   none-held : (m i : ℕ) → m ≡ j → Taken v i → v .children i ≡ m → ⊥
   none-held m i x t e = let y : v .children i < namespace-slots = omega arith in not-j _ (child-namespace v f i t y) (e ∙ x)
@@ -111,6 +110,7 @@ module _ (v : View) (f : Facts v) (a j : ℕ) (a-namespace : Stands v a) (low : 
   unfolding taken living zero-process
   namespace-pre =
       record {
+        ended-is = f .ended-is;
         in-range = f .in-range;
         in-namespace = λ m s. ⊎-elim (λ x. omega arith) (λ (y, z). f .in-namespace m z) (namespace-w m s);
         root-init = rw root (f .root-init);

@@ -9,10 +9,9 @@ use borrow.Author.Tests.{eqb-true, leb-true}
 use lib.Dec.{eqb, leb}
 use Rattle.table.proofs.Laws.Below.{last-step}
 use Rattle.table.proofs.Laws.Facts.{Facts, Stands, Seen, seen-taken, seen-below}
-use Rattle.table.proofs.Laws.Iff.{tests}
 use Rattle.table.proofs.Laws.Lowest.{Lowest, lowest-is}
-use Rattle.table.proofs.Laws.Pigeon.{pigeon}
-use Rattle.table.proofs.Laws.Quant.{left, right, any-elim, isnt-not}
+use Rattle.table.proofs.Laws.Reach.{pigeon}
+use Rattle.table.proofs.Laws.Tests.{tests, left, right, any-elim, isnt-not}
 use Rattle.table.specs.Limits.{greatest-pid, process-slots, restart-pid}
 use Rattle.table.specs.Pids.{free-pid, next-pid}
 use Rattle.table.specs.Read.{View, find, pid-seen, seen, unborn}

@@ -14,12 +14,11 @@ use Rattle.table.proofs.Keeps.Deliver.{Each, Safe}
 use Rattle.table.proofs.Keeps.NewNamespace.{Ready, ready, with-namespace}
 use Rattle.table.proofs.Keeps.PutKeeps.{signalled-sane, signalled-view, new-namespace-view}
 use Rattle.table.proofs.Keeps.Signal.{signalled-held}
-use Rattle.table.proofs.Laws.Below.{shallow-below, low-level}
-use Rattle.table.proofs.Laws.Cases.{no-so, isnt-so}
+use Rattle.table.proofs.Laws.Below.{shallow-below, level-deepest}
 use Rattle.table.proofs.Laws.Facts.{Holder, Facts, Held, Taken, Stands, Lives, Below, Seen, SignalsOk, lives-taken, not-ended, seen-below, facts, held-in, sound-from, sane}
 use Rattle.table.proofs.Laws.Lowest.{lowest-is}
-use Rattle.table.proofs.Laws.Quant.{left, right}
 use Rattle.table.proofs.Laws.Steps.{runs-lives}
+use Rattle.table.proofs.Laws.Tests.{no-so, isnt-so, left, right}
 use Rattle.table.specs.Births.{birth}
 use Rattle.table.specs.Calls.{named, natural, new-namespace, others, targets, within}
 use Rattle.table.specs.Limits.{deepest, namespace-slots, process-slots, signals}
@@ -120,7 +119,7 @@ signalled-sound t c h lives a b la lb ok =
     let o = isnt-so (not-ended (view t) c lives) in
     let k = facts t h .ends-kept c (lives-taken (view t) c lives) in
     let s = signalled-sane t (sane t h) c lives (view t .state c) o a b k ok la lb in
-    sound-from _ (s .shape-of) (s .facts) (subst Held (sym (signalled-view t (sane t h) c lives (view t .state c) o a b)) (signalled-held (view t) (facts t h) c (view t .state c) a b lives k ok (held-in t h)))
+    sound-from _ (s .shape-of) (s .facts) (subst Held (sym (signalled-view t (sane t h) c lives (view t .state c) o a b)) (signalled-held (view t) (facts t h) c (view t .state c) a b lives o k ok (held-in t h)))
 
 module _ (t : Table) (c : ℕ) (h : SoundTable t) (r : So (runs (view t) c)) where
   abbrev v : View
@@ -157,7 +156,7 @@ module _ (t : Table) (c : ℕ) (h : SoundTable t) (r : So (runs (view t) c)) whe
     j-free = free-namespace-is v room .1
 
     low : v .level a < deepest
-    low = omega (arith, low-level v f a a-namespace)
+    low = omega (arith, level-deepest v f a a-namespace)
 
     not-dead : So (dead v a) → ⊥
     not-dead d = not-ended v c lives (f .members c here .0 .1 d)

@@ -12,9 +12,8 @@ use Rattle.table.proofs.Keeps.NewNamespace.{with-namespace}
 use Rattle.table.proofs.Keeps.Reap.{without, reaped-pre}
 use Rattle.table.proofs.Keeps.SetChildren.{with-other-children, set-children-pre}
 use Rattle.table.proofs.Keeps.Signal.{with-signalled, signalled-pre}
-use Rattle.table.proofs.Laws.Cases.{isnt-so}
 use Rattle.table.proofs.Laws.Facts.{Facts, Taken, Stands, Lives, Below, SignalsOk, lives-taken, not-ended, Sane}
-use Rattle.table.proofs.Laws.Quant.{left, both}
+use Rattle.table.proofs.Laws.Tests.{isnt-so, left, both}
 use Rattle.table.specs.Calls.{new-namespace}
 use Rattle.table.specs.Fresh.{empty-process}
 use Rattle.table.specs.Limits.{levels, namespace-slots, process-slots, signals}
@@ -95,7 +94,7 @@ module _ (t : Table) (sane : Sane t) (c : ℕ) (c-lives : Lives (view t) c) (s :
   signalled-sane a b d e =
       record {
         shape-of = shaped-put t (sane .shape-of) c y low-c (both _ _ (both _ _ (left _ _ (left _ _ (shape-at t (sane .shape-of) c low-c))) (lt-ltb h (2 ^ signals) d)) (lt-ltb q (2 ^ signals) e));
-        facts = subst Facts (sym signalled-view) (signalled-pre (view t) (sane .facts) c s h q c-lives a b);
+        facts = subst Facts (sym signalled-view) (signalled-pre (view t) (sane .facts) c s h q c-lives alive a b);
       }
 
 -- ---- removal

@@ -1,16 +1,16 @@
 -- The removal of an ended process keeps a table sound up to freeing.
 use Prim.Native.Nat.{ℕ, zero, suc}
-use mathlib.Core.Bool.{false, So, false≢true}
+use mathlib.Core.Bool.{false, So, false≢true, Bool}
 use mathlib.Core.Logic.{⊎-elim}
-use mathlib.Core.Path.{_≡_, refl, sym, _∙_, subst}
+use mathlib.Core.Path.{_≡_, refl, sym, _∙_, subst, ap}
 use borrow.Author.Tests.{eq-eqb, ne-eqb}
 use lib.Dec.{eqb}
-use Rattle.table.proofs.Laws.Cases.{zero-or, same-or}
+use Rattle.table.proofs.Keeps.Changed.{pick}
 use Rattle.table.proofs.Laws.Facts.{Facts, Taken, Lives, Below, Seen, Other, lives-taken, not-ended}
-use Rattle.table.proofs.Laws.Quant.{left, right, both, all-intro}
 use Rattle.table.proofs.Laws.Reach.{reach-zero, reach-step, reach-cases}
+use Rattle.table.proofs.Laws.Tests.{zero-or, same-or, left, right, both, all-intro}
 use Rattle.table.specs.Limits.{levels, process-slots}
-use Rattle.table.specs.Read.{View, below, living, namespace-taken, pid-seen, seen, taken}
+use Rattle.table.specs.Read.{View, below, living, namespace-taken, pid-seen, seen, taken, is-ended}
 use Rattle.table.specs.Sound.{reaches-root, zero-namespace, zero-process}
 use Rattle.table.specs.Tests.{if_then_else_}
 use Rattle.table.specs.declared.State.the-variants.{Running}
@@ -87,6 +87,7 @@ module _ (v : View) (f : Facts v) (d : ℕ) (over : So (v .ended d)) where
   unfolding namespace-taken below zero-namespace
   reaped-pre =
       record {
+        ended-is = λ i. ap (λ (b : Bool). if eqb i d then false else b) (f .ended-is i) ∙ sym (pick is-ended (eqb i d) Running (v .state i));
         in-range = λ i t. f .in-range i (stays i t .1);
         in-namespace = f .in-namespace;
         root-init = f .root-init;

@@ -4,7 +4,7 @@ use mathlib.Core.Bool.{false, not, false≢true}
 use mathlib.Core.Path.{_≡_, refl, sym, _∙_, ap}
 use lib.Dec.{eqb}
 use lib.ListN.{length}
-use Rattle.table.proofs.Laws.Cases.{choose}
+use Rattle.table.proofs.Laws.Tests.{choose}
 use Rattle.table.specs.Answers.{refused, granted, answers, is-refused}
 use Rattle.table.specs.Calls.{clone, clone-new, unshare, setns, getpid, getppid, exit, reap, wait, handle, poll, kill, processes-full, namespaces-full, own-level, named, natural, within, first-ended, targets, names-group}
 use Rattle.table.specs.Claims.{RefusalLeaves}

@@ -5,8 +5,8 @@ use mathlib.Core.Logic.{_⊎_, inl, inr, ⊎-elim}
 use mathlib.Core.Path.{_≡_, sym, _∙_, ap, subst}
 use borrow.Author.Tests.{eq-eqb, ne-eqb}
 use lib.Dec.{eqb}
-use Rattle.table.proofs.Laws.Cases.{same-or}
 use Rattle.table.proofs.Laws.Facts.{Facts, Taken, Stands, Lives, Below, lives-taken, not-ended}
+use Rattle.table.proofs.Laws.Tests.{same-or}
 use Rattle.table.specs.Read.{View, below, living, namespace-taken, pid-seen, seen, taken, unborn}
 use Rattle.table.specs.Sound.{zero-namespace, zero-process}
 use Rattle.table.specs.Tests.{if_then_else_}
@@ -48,6 +48,7 @@ module _ (v : View) (f : Facts v) (c m : ℕ) (mark : Bool) (c-lives : Lives v c
   unfolding taken living namespace-taken below seen pid-seen zero-namespace
   set-children-pre =
       record {
+        ended-is = f .ended-is;
         in-range = f .in-range;
         in-namespace = f .in-namespace;
         root-init = f .root-init;

@@ -1,13 +1,13 @@
 -- Another state, not ended, and other signals keep a table sound.
 use Prim.Native.Nat.{ℕ}
-use mathlib.Core.Bool.{So}
+use mathlib.Core.Bool.{So, false}
 use mathlib.Core.Logic.{⊎-elim}
-use mathlib.Core.Path.{sym, subst}
+use mathlib.Core.Path.{sym, subst, _≡_, ap, _∙_}
 use borrow.Author.Tests.{eq-eqb, ne-eqb}
 use lib.Dec.{eqb}
-use Rattle.table.proofs.Laws.Cases.{same-or}
 use Rattle.table.proofs.Laws.Facts.{Holder, root, member, for-children, child, Facts, Held, Taken, Lives, SignalsOk, lives-taken, not-ended}
-use Rattle.table.specs.Read.{View, below, living, namespace-taken, pid-seen, seen, taken}
+use Rattle.table.proofs.Laws.Tests.{same-or, isnt-so}
+use Rattle.table.specs.Read.{View, below, living, namespace-taken, pid-seen, seen, taken, is-ended}
 use Rattle.table.specs.Sound.{kept-end, zero-namespace, zero-process}
 use Rattle.table.specs.Tests.{if_then_else_}
 use Rattle.table.specs.declared.State.{State}
@@ -30,7 +30,7 @@ with-signalled v c s h q =
       life = v .life;
     }
 
-module _ (v : View) (f : Facts v) (c : ℕ) (s : State) (h q : ℕ) (c-lives : Lives v c) (ok : So (kept-end s)) (fine : SignalsOk h q) where
+module _ (v : View) (f : Facts v) (c : ℕ) (s : State) (h q : ℕ) (c-lives : Lives v c) (runs : is-ended s ≡ false) (ok : So (kept-end s)) (fine : SignalsOk h q) where
   abbrev w : View
   w = with-signalled v c s h q
 
@@ -42,6 +42,7 @@ module _ (v : View) (f : Facts v) (c : ℕ) (s : State) (h q : ℕ) (c-lives : L
   unfolding taken living namespace-taken below seen pid-seen zero-namespace
   signalled-pre =
       record {
+        ended-is = λ i. ⊎-elim (λ x. rw (eq-eqb i c x) (ap (v .ended) x ∙ isnt-so (not-ended v c c-lives) ∙ sym runs)) (λ y. rw y (f .ended-is i)) (same-or i c);
         in-range = f .in-range;
         in-namespace = f .in-namespace;
         root-init = f .root-init;

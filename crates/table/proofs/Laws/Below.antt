@@ -8,7 +8,7 @@ use mathlib.Core.Path.{_≡_, refl, sym, ap, subst}
 use borrow.Author.Tests.{eq-eqb, ne-eqb, eqb-true}
 use lib.Dec.{eqb}
 use Rattle.table.proofs.Laws.Facts.{Facts, Taken, Stands, Below, Other, lives-or-ended}
-use Rattle.table.proofs.Laws.Quant.{or-true}
+use Rattle.table.proofs.Laws.Tests.{or-true}
 use Rattle.table.proofs.Laws.Tree as Tree
 use Rattle.table.proofs.Laws.Tree.{Stepwise, climb-step, climb-cases}
 use Rattle.table.specs.Limits.{deepest, no-slot}
@@ -25,14 +25,14 @@ unfolding below climb
 shallow-below v a n e h = eqb-true a n (subst (λ k. So (climb (v .up) k a n)) e h)
 
 module _ (v : View) (p : Facts v) where
-  pub deep-other : (n k : ℕ) → v .level n ≡ suc k → Other n
-  deep-other n k e z = omega (arith, sym (ap (v .level) z), p .root-level)
+  pub not-root : (n k : ℕ) → v .level n ≡ suc k → Other n
+  not-root n k e z = omega (arith, sym (ap (v .level) z), p .root-level)
 
-  pub stepwise : Stepwise v
-  stepwise a k e = omega (arith, p .tree a (deep-namespace v a k e) (deep-other a k e) .0 .1)
+  pub up-level : Stepwise v
+  up-level a k e = omega (arith, p .tree a (deep-namespace v a k e) (not-root a k e) .0 .1)
 
   pub below-trans : (a b c : ℕ) → Below v a b → Below v b c → Below v a c
-  below-trans = Tree.below-trans v stepwise
+  below-trans = Tree.below-trans v up-level
 
   -- from a namespace to its parent
   pub below-up : (n : ℕ) → Stands v n → Other n → (m : ℕ) → Below v (v .up n) m → Below v n m
@@ -49,9 +49,9 @@ module _ (v : View) (p : Facts v) where
       go (suc k) a e s h =
           ⊎-elim (λ q. inl q)
           (λ r. ⊎-elim
-          (λ q. inr (a, s, deep-other a k e, q, Tree.below-refl v a))
-          (λ (m, x, o, u, b). inr (m, x, o, u, below-up a s (deep-other a k e) m b))
-          (go k (v .up a) (stepwise a k e) (p .tree a s (deep-other a k e) .0 .0) r))
+          (λ q. inr (a, s, not-root a k e, q, Tree.below-refl v a))
+          (λ (m, x, o, u, b). inr (m, x, o, u, below-up a s (not-root a k e) m b))
+          (go k (v .up a) (up-level a k e) (p .tree a s (not-root a k e) .0 .0) r))
           (climb-cases (v .up) k a n h)
 
   pub no-level : (n : ℕ) → (Stands v n → ⊥) → v .level n ≡ 0
@@ -75,19 +75,19 @@ module _ (v : View) (p : Facts v) where
     where
       go : (k a : ℕ) → v .level a ≡ k → So (climb (v .up) k a n) → v .level n ≤ v .level a
       go zero a e h = omega (arith, ap (v .level) (eqb-true a n h))
-      go (suc k) a e h = ⊎-elim (λ q. omega (arith, ap (v .level) q)) (λ r. omega (arith, go k (v .up a) (stepwise a k e) r, stepwise a k e)) (climb-cases (v .up) k a n h)
+      go (suc k) a e h = ⊎-elim (λ q. omega (arith, ap (v .level) q)) (λ r. omega (arith, go k (v .up a) (up-level a k e) r, up-level a k e)) (climb-cases (v .up) k a n h)
 
   pub up-not-below : (n : ℕ) → Stands v n → Other n → Below v (v .up n) n → ⊥
   up-not-below n s o h = omega (arith, below-level (v .up n) n h, p .tree n s o .0 .1)
 
   -- what is above a namespace is one
-  pub above-namespace : (a n : ℕ) → Stands v a → Below v a n → Stands v n
+  pub below-taken : (a n : ℕ) → Stands v a → Below v a n → Stands v n
   unfolding below climb
-  above-namespace a n s h = go (v .level a) a refl s h
+  below-taken a n s h = go (v .level a) a refl s h
     where
       go : (k a : ℕ) → v .level a ≡ k → Stands v a → So (climb (v .up) k a n) → Stands v n
       go zero a e s h = subst (Stands v) (eqb-true a n h) s
-      go (suc k) a e s h = ⊎-elim (λ q. subst (Stands v) q s) (λ r. go k (v .up a) (stepwise a k e) (p .tree a s (deep-other a k e) .0 .0) r) (climb-cases (v .up) k a n h)
+      go (suc k) a e s h = ⊎-elim (λ q. subst (Stands v) q s) (λ r. go k (v .up a) (up-level a k e) (p .tree a s (not-root a k e) .0 .0) r) (climb-cases (v .up) k a n h)
 
   -- the namespace above n at a level is one of that level
   pub above-is : (n l : ℕ) → Stands v n → l ≤ v .level n → Stands v (above-at v n l) × Below v n (above-at v n l) × (v .level (above-at v n l) ≡ l)
@@ -98,8 +98,8 @@ module _ (v : View) (p : Facts v) where
       go zero n s e = (s, Tree.below-refl v n, omega arith)
       go (suc d) n s e =
           let k : v .level n ≡ suc (Prim.Native.Nat._+_ l d) = omega arith in
-          let (x, b, q) = go d (v .up n) (p .tree n s (deep-other n _ k) .0 .0) (stepwise n _ k) in
-          (x, below-up n s (deep-other n _ k) _ b, q)
+          let (x, b, q) = go d (v .up n) (p .tree n s (not-root n _ k) .0 .0) (up-level n _ k) in
+          (x, below-up n s (not-root n _ k) _ b, q)
 
   -- and the only one
   pub above-same : (n m : ℕ) → Below v n m → above-at v n (v .level m) ≡ m
@@ -111,7 +111,7 @@ module _ (v : View) (p : Facts v) where
       go (suc k) n e h =
           ⊎-elim
           (λ q. let z : suc k - v .level m ≡ 0 = omega (arith, ap (v .level) q) in subst (λ d. up-by (v .up) d n ≡ m) (sym z) q)
-          (λ r. let z : suc k - v .level m ≡ suc (k - v .level m) = omega (arith, below-level' (v .up n) k (stepwise n k e) r) in subst (λ d. up-by (v .up) d n ≡ m) (sym z) (go k (v .up n) (stepwise n k e) r))
+          (λ r. let z : suc k - v .level m ≡ suc (k - v .level m) = omega (arith, below-level' (v .up n) k (up-level n k e) r) in subst (λ d. up-by (v .up) d n ≡ m) (sym z) (go k (v .up n) (up-level n k e) r))
           (climb-cases (v .up) k n m h)
         where
           below-level' : (a k : ℕ) → v .level a ≡ k → So (climb (v .up) k a m) → v .level m ≤ k
@@ -128,10 +128,10 @@ module _ (v : View) (p : Facts v) where
 
       go : (k n : ℕ) → v .level n ≡ k → Stands v n → So (climb (v .up) k n 0)
       go zero n e s = eq-eqb n 0 (zero-level n s e (ℕ-discrete n 0))
-      go (suc k) n e s = climb-step (v .up) k n 0 (go k (v .up n) (stepwise n k e) (p .tree n s (deep-other n k e) .0 .0))
+      go (suc k) n e s = climb-step (v .up) k n 0 (go k (v .up n) (up-level n k e) (p .tree n s (not-root n k e) .0 .0))
 
-  pub low-level : (n : ℕ) → Stands v n → v .level n ≤ deepest
-  low-level n s = go (ℕ-discrete n 0)
+  pub level-deepest : (n : ℕ) → Stands v n → v .level n ≤ deepest
+  level-deepest n s = go (ℕ-discrete n 0)
     where
       go : Dec (n ≡ 0) → v .level n ≤ deepest
       go (yes z) = omega (arith, ap (v .level) z, p .root-level)

@@ -1,6 +1,6 @@
 -- The sentences of a sound table, by name.
 use mathlib.Core.Bool.{So}
-use Rattle.table.proofs.Laws.Quant.{left, right, both}
+use Rattle.table.proofs.Laws.Tests.{left, right, both}
 use Rattle.table.specs.Read.{View}
 use Rattle.table.specs.Sound as S
 use Rattle.table.specs.Sound.{sound-view}

@@ -9,10 +9,9 @@ use borrow.Author.Tests.{eq-eqb, eqb-true}
 use lib.Dec.{eqb, leb}
 use lib.ListN.{length, List·getD-eq-default}
 use Rattle.table.proofs.Laws.Clauses.{Sound, sound-is, is-sound}
-use Rattle.table.proofs.Laws.Iff.{tests, not-iff, or-iff}
-use Rattle.table.proofs.Laws.Quant.{left, right, both, cases, or-left, all-intro, all-elim, any-elim, any-intro}
+use Rattle.table.proofs.Laws.Tests.{tests, not-iff, or-iff, left, right, both, cases, or-left, all-intro, all-elim, any-elim, any-intro}
 use Rattle.table.specs.Limits.{deepest, greatest-pid, levels, namespace-slots, no-slot, process-slots, signals}
-use Rattle.table.specs.Read.{View, view, no-process, no-namespace, taken, namespace-taken, living, alive, dead, unborn, init, below, seen, pid-seen, is-running, is-unborn, pid-at}
+use Rattle.table.specs.Read.{View, view, no-process, no-namespace, taken, namespace-taken, living, alive, dead, unborn, init, below, seen, pid-seen, is-running, is-unborn, pid-at, is-ended}
 use Rattle.table.specs.SignalSets.{has}
 use Rattle.table.specs.Sound as S
 use Rattle.table.specs.Sound.{SoundTable, held, holds, kept-end, reaches-root, shaped, zero-namespace, zero-process}
@@ -47,6 +46,7 @@ abbrev pub SignalsOk : ℕ → ℕ → Type 0
 SignalsOk h q = (((So (has h 0) → ⊥) × (So (has h 9) → ⊥)) × (So (has h 19) → ⊥)) × ((s : ℕ) → s < signals → So (has q s) → So (has h s))
 
 pub record Facts (v : View) : Type 0 where
+  pub ended-is : (i : ℕ) → v .ended i ≡ is-ended (v .state i)
   pub in-range : (i : ℕ) → Taken v i → i < process-slots
   pub in-namespace : (n : ℕ) → Stands v n → n < namespace-slots
   pub root-init : init v 0 ≡ 0
@@ -191,8 +191,9 @@ module _ (v : View) (p : Facts v) where
         namespaces-held = simp tests (λ n l. (λ s. is-held v p n (h .held-by n s), λ x. held-namespace n l (holder-of v n x)));
       }
 
--- Past the last slot all is zero.
+-- What a table's view has of itself: who has ended is read of the state, and past the last slot all is zero.
 pub record Past (v : View) : Type 0 where
+  pub ended-is : (i : ℕ) → v .ended i ≡ is-ended (v .state i)
   pub past : (i : ℕ) → process-slots ≤ i → So (zero-process v i)
   pub past-namespaces : (n : ℕ) → namespace-slots ≤ n → So (zero-namespace v n)
 
@@ -200,6 +201,7 @@ pub past-of : (t : Table) → So (shaped t) → Past (view t)
 unfolding shaped zero-process zero-namespace
 past-of t h =
     record {
+      ended-is = λ i. refl;
       past = λ i o.
           subst (λ (p : Process). So (eqb (p .own .0) 0 and eqb (p .children .0) 0 and eqb (p .parent .0) 0 and is-running (p .state) and eqb (p .handled) 0 and eqb (p .pending) 0 and not (p .unshared) and all levels (λ l. eqb (pid-at p l) 0)))
           (sym (List·getD-eq-default (t .processes) no-process (omega (arith, eqb-true (length (t .processes)) process-slots (left _ _ (left _ _ h))))))
@@ -238,6 +240,7 @@ module _ (v : View) (r : Past v) (s : Sound v) where
   unfolding S.root-process S.have-parents S.root-namespace S.inits S.empty-slots S.namespace-tree S.below-dead S.holds S.unborn-namespace S.unborn-namespaces S.last-pids S.pid-range S.pids-differ S.first-pids S.dead-members S.unborn-members S.parents S.first-parents S.children-namespaces S.handled-signals S.pending-signals S.ended-bare S.ends-kept S.namespaces-held one
   facts-of =
       record {
+        ended-is = r .ended-is;
         in-range = range;
         in-namespace = namespace-range;
         root-init = root .0 .0 .0 .0;

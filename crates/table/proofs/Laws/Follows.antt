@@ -3,9 +3,8 @@ use Prim.Native.Nat.{ℕ, _<_}
 use native.Mathlib.Omega.{arith}
 use mathlib.Core.Bool.{So}
 use mathlib.Core.Path.{_≡_, refl, sym, _∙_, ap, subst}
-use Rattle.table.proofs.Laws.Cases.{dead-otherwise}
 use Rattle.table.proofs.Laws.Facts.{Stands, Taken, Other, Past, in-range, in-namespace, is-seen}
-use Rattle.table.proofs.Laws.Iff.{tests}
+use Rattle.table.proofs.Laws.Tests.{dead-otherwise, tests}
 use Rattle.table.proofs.Laws.Tree.{below-refl}
 use Rattle.table.specs.Limits.{namespace-slots, no-slot}
 use Rattle.table.specs.Read.{View, living, pid-seen, dead, unborn, alive, init, below}

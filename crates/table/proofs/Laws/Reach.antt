@@ -1,15 +1,58 @@
 -- What is reached at all, among fewer than n, is reached in n steps.
 use Prim.Native.Nat.{ℕ, zero, suc, _<_, _≤_, _+_, _-_}
+use native.Mathlib.Decide.{ℕ-discrete}
 use native.Mathlib.Omega.{arith}
 use mathlib.Core.Bool.{Bool, true, false, So, false≢true}
 use mathlib.Core.Logic.{_⊎_, inl, inr, ⊎-elim}
-use mathlib.Core.Path.{_≡_, refl, sym, _∙_, ap, subst}
+use mathlib.Core.Path.{_≡_, sym, _∙_, refl, ap, subst}
 use borrow.Author.Tests.{eq-eqb, eqb-true}
 use lib.Dec.{eqb}
-use Rattle.table.proofs.Laws.Pigeon.{pigeon}
 use Rattle.table.specs.Read.{up-by}
 use Rattle.table.specs.Sound.{reaches-root}
 use Rattle.table.specs.Tests.{if_then_else_}
+
+-- ---- of n + 1 numbers below n two are equal
+
+look : (f : ℕ → ℕ) (x n : ℕ) → ((i : ℕ) × (i < n) × (f i ≡ x)) ⊎ ((i : ℕ) → i < n → f i ≡ x → ⊥)
+look f x zero = inr (λ i l e. omega arith)
+look f x (suc n) = go (ℕ-discrete (f n) x) (look f x n)
+  where
+    last : (f n ≡ x → ⊥) → ((i : ℕ) → i < n → f i ≡ x → ⊥) → (i : ℕ) → i < suc n → f i ≡ x → Dec (i ≡ n) → ⊥
+    last o h i l e (yes q) = o (rw (← q) e)
+    last o h i l e (no q) = h i (omega arith) e
+
+    go : Dec (f n ≡ x) → ((i : ℕ) × (i < n) × (f i ≡ x)) ⊎ ((i : ℕ) → i < n → f i ≡ x → ⊥) → ((i : ℕ) × (i < suc n) × (f i ≡ x)) ⊎ ((i : ℕ) → i < suc n → f i ≡ x → ⊥)
+    go (yes e) r = inl (n, omega arith, e)
+    go (no o) (inl r) = inl (r .0, omega (arith, r .1), r .2)
+    go (no o) (inr h) = inr (λ i l e. last o h i l e (ℕ-discrete i n))
+
+-- f, with what it gives to the last of its arguments in the place of m
+swap : (m x y : ℕ) → Dec (y ≡ m) → ℕ
+swap m x y (yes e) = x
+swap m x y (no o) = y
+
+swap-low : (m x y : ℕ) (d : Dec (y ≡ m)) → x < suc m → y < suc m → (y ≡ x → ⊥) → swap m x y d < m
+unfolding swap
+swap-low m x y (yes e) a b o = omega arith
+swap-low m x y (no q) a b o = omega arith
+
+swap-same : (m x y z : ℕ) (d : Dec (y ≡ m)) (e : Dec (z ≡ m)) → (y ≡ x → ⊥) → (z ≡ x → ⊥) → swap m x y d ≡ swap m x z e → y ≡ z
+unfolding swap
+swap-same m x y z (yes a) (yes b) o p e = a ∙ sym b
+swap-same m x y z (yes a) (no b) o p e = absurd (p (sym e))
+swap-same m x y z (no a) (yes b) o p e = absurd (o e)
+swap-same m x y z (no a) (no b) o p e = e
+
+pub pigeon : (n : ℕ) (f : ℕ → ℕ) → ((i : ℕ) → i ≤ n → f i < n) → (i : ℕ) × (j : ℕ) × (i < j) × (j ≤ n) × (f i ≡ f j)
+pigeon zero f h = absurd (omega (arith, h 0 (omega arith)))
+pigeon (suc m) f h =
+    ⊎-elim
+    (λ (i, l, e). (i, suc m, l, omega arith, e))
+    (λ o. let (i, j, a, b, e) = pigeon m (λ i. swap m (f (suc m)) (f i) (ℕ-discrete (f i) m)) (λ i l. swap-low m _ (f i) (ℕ-discrete (f i) m) (h (suc m) (omega arith)) (h i (omega arith)) (o i (omega arith))) in
+    (i, j, a, omega arith, swap-same m _ (f i) (f j) (ℕ-discrete (f i) m) (ℕ-discrete (f j) m) (o i (omega arith)) (o j (omega arith)) e))
+    (look f (f (suc m)) (suc m))
+
+-- ---- what is reached at all, among fewer than n, is reached in n steps
 
 up-by-add : (g : ℕ → ℕ) (a b i : ℕ) → up-by g (a + b) i ≡ up-by g b (up-by g a i)
 unfolding up-by

@@ -2,18 +2,17 @@
 use Prim.Native.Nat.{ℕ, zero, suc, pred, _-_, _<_, _≤_}
 use native.Mathlib.Decide.{ℕ-discrete}
 use native.Mathlib.Omega.{arith}
-use mathlib.Core.Bool.{Bool, true, false, not, So, false≢true}
+use mathlib.Core.Bool.{Bool, true, false, So, false≢true}
 use mathlib.Core.Logic.{_⊎_, inl, inr, ⊎-elim}
 use mathlib.Core.Path.{_≡_, refl, sym, _∙_, ap, subst}
-use borrow.Author.Tests.{eq-eqb, ne-eqb, eqb-true, eqb-false, leb-true, le-leb, lt-leb}
+use borrow.Author.Tests.{eq-eqb, eqb-true, eqb-false, leb-true, le-leb, lt-leb}
 use lib.Dec.{eqb}
-use Rattle.table.proofs.Laws.Below.{no-level}
-use Rattle.table.proofs.Laws.Cases.{isnt-so, no-so}
-use Rattle.table.proofs.Laws.Facts.{Facts, lives-or-ended}
-use Rattle.table.proofs.Laws.Quant.{left, right, cases, isnt, both, or-left, or-right}
+use Rattle.table.proofs.Laws.Below.{deep-namespace, up-level, not-root, level-deepest, below-trans}
+use Rattle.table.proofs.Laws.Facts.{Facts, lives-or-ended, lives-taken}
+use Rattle.table.proofs.Laws.Tests.{isnt-so, no-so, left, right, cases, isnt, both}
 use Rattle.table.proofs.Laws.Tree as Tree
 use Rattle.table.proofs.Laws.Tree.{below-refl}
-use Rattle.table.specs.Limits.{deepest, levels, namespace-slots, no-slot, process-slots}
+use Rattle.table.specs.Limits.{levels, no-slot}
 use Rattle.table.specs.Read.{View, alive, below, climb, dead, init, is-alive, is-dead, is-unborn, living, namespace-taken, pid-seen, seen, taken, unborn, up-by}
 use Rattle.table.specs.Sound.{zero-namespace}
 use Rattle.table.specs.Tests.{_and_}
@@ -38,26 +37,9 @@ alive-otherwise (Alive i) h k = refl
 alive-otherwise Dead h k = sym h
 
 module _ (v : View) (f : Facts v) where
-  pub slot-lt : (i : ℕ) → So (taken v i) → i < process-slots
-  slot-lt = f .in-range
-
-  pub namespace-lt : (n : ℕ) → So (namespace-taken v n) → n < namespace-slots
-  namespace-lt = f .in-namespace
-
-  pub seen-taken : (n i : ℕ) → So (seen v n i) → So (taken v i)
-  unfolding seen
-  seen-taken n i h = left _ _ h
-
-  pub seen-below : (n i : ℕ) → So (seen v n i) → So (below v (v .own i) n)
-  unfolding seen
-  seen-below n i h = right _ _ h
-
   -- no two processes share a number in the same namespace
   pub pid-unique : (n i j : ℕ) → So (namespace-taken v n) → So (seen v n i) → So (seen v n j) → pid-seen v n i ≡ pid-seen v n j → i ≡ j
   pid-unique n i j k = f .differ n k i j
-
-  pub root-own : v .own 0 ≡ 0
-  root-own = f .root-own
 
   -- ---- namespaces
 
@@ -69,44 +51,16 @@ module _ (v : View) (f : Facts v) where
       go true e = refl
       go false e = absurd (false≢true (sym (alive-not-unborn (v .life n) a) ∙ right _ _ (f .empty-namespace n (no-so e))))
 
-  pub level-of-root : v .level 0 ≡ 0
-  level-of-root = f .root-level
-
-  pub not-root : (n k : ℕ) → v .level n ≡ suc k → n ≡ 0 → ⊥
-  not-root n k e z = omega (arith, ap (v .level) z, level-of-root)
-
-  pub level-taken : (n k : ℕ) → v .level n ≡ suc k → So (namespace-taken v n)
-  unfolding namespace-taken
-  level-taken n k e = or-right _ _ (ap not (ne-eqb (v .level n) 0 (λ z. omega arith)))
-
   pub root-only : (n : ℕ) → So (namespace-taken v n) → v .level n ≡ 0 → n ≡ 0
   unfolding namespace-taken
   root-only n h e = ⊎-elim (λ z. eqb-true n 0 z) (λ k. absurd (eqb-false _ _ (isnt _ k) e)) (cases _ _ h)
 
-  pub root-taken : So (namespace-taken v 0)
-  unfolding namespace-taken
-  root-taken = or-left _ _ (eq-eqb 0 0 refl)
-
   pub up-taken : (n k : ℕ) → v .level n ≡ suc k → So (namespace-taken v (v .up n))
-  up-taken n k e = f .tree n (level-taken n k e) (not-root n k e) .0 .0
-
-  pub up-level : (n k : ℕ) → v .level n ≡ suc k → v .level (v .up n) ≡ k
-  up-level n k e = omega (arith, f .tree n (level-taken n k e) (not-root n k e) .0 .1)
-
-  pub level-deepest : (n : ℕ) → So (namespace-taken v n) → v .level n ≤ deepest
-  level-deepest n h = go (ℕ-discrete n 0)
-    where
-      go : Dec (n ≡ 0) → v .level n ≤ deepest
-      go (yes z) = omega (arith, ap (v .level) z, level-of-root)
-      go (no z) = f .tree n h z .1
-
-  -- past the last slot there is no level
-  pub past-level : (n : ℕ) → namespace-slots ≤ n → v .level n ≡ 0
-  past-level n o = no-level v f n (λ s. omega (arith, f .in-namespace n s))
+  up-taken n k e = f .tree n (deep-namespace v n k e) (not-root v f n k e) .0 .0
 
   -- an unborn namespace has none below it
   pub no-heirs : (n m k : ℕ) → So (unborn v n) → v .level m ≡ suc k → v .up m ≡ n → ⊥
-  no-heirs n m k h e q = f .unborn-leaf n (subst (λ y. So (namespace-taken v y)) q (up-taken m k e)) h m (level-taken m k e) (not-root m k e) q
+  no-heirs n m k h e q = f .unborn-leaf n (subst (λ y. So (namespace-taken v y)) q (up-taken m k e)) h m (deep-namespace v m k e) (not-root v f m k e) q
 
   -- ---- parents of namespaces, many at once
 
@@ -115,14 +69,14 @@ module _ (v : View) (f : Facts v) where
   up-by-taken zero n h l = h
   up-by-taken (suc m) n h l =
       let e : v .level n ≡ suc (pred (v .level n)) = omega arith in
-      up-by-taken m (v .up n) (up-taken n (pred (v .level n)) e) (omega (arith, up-level n (pred (v .level n)) e))
+      up-by-taken m (v .up n) (up-taken n (pred (v .level n)) e) (omega (arith, up-level v f n (pred (v .level n)) e))
 
   pub up-by-level : (m n : ℕ) → m ≤ v .level n → v .level (up-by (v .up) m n) ≡ v .level n - m
   unfolding up-by
   up-by-level zero n l = omega arith
   up-by-level (suc m) n l =
       let e : v .level n ≡ suc (pred (v .level n)) = omega arith in
-      omega (arith, up-by-level m (v .up n) (omega (arith, up-level n (pred (v .level n)) e)), up-level n (pred (v .level n)) e)
+      omega (arith, up-by-level m (v .up n) (omega (arith, up-level v f n (pred (v .level n)) e)), up-level v f n (pred (v .level n)) e)
 
   climb-up-by : (k a b : ℕ) → So (climb (v .up) k a b) → (m : ℕ) × (m ≤ k) × (up-by (v .up) m a ≡ b)
   unfolding climb up-by
@@ -144,10 +98,6 @@ module _ (v : View) (f : Facts v) where
       go true h = refl
       go false h = h
 
-  pub below-level : (a b : ℕ) → So (below v a b) → v .level b ≤ v .level a
-  unfolding below
-  below-level a b h = let (m, l, e) = climb-up-by (v .level a) a b h in omega (arith, up-by-level m a l, ap (v .level) e)
-
   pub below-up-by : (a b : ℕ) → So (below v a b) → up-by (v .up) (v .level a - v .level b) a ≡ b
   unfolding below
   below-up-by a b h =
@@ -164,19 +114,13 @@ module _ (v : View) (f : Facts v) where
   up-by-end zero a = refl
   up-by-end (suc m) a = up-by-end m (v .up a)
 
-  pub below-taken : (a b : ℕ) → So (namespace-taken v a) → So (below v a b) → So (namespace-taken v b)
-  below-taken a b h k = subst (λ n. So (namespace-taken v n)) (below-up-by a b k) (up-by-taken (v .level a - v .level b) a h (omega arith))
-
-  pub below-trans : (a b c : ℕ) → So (below v a b) → So (below v b c) → So (below v a c)
-  below-trans = Tree.below-trans v up-level
-
   -- one that lies strictly below another: its parent does too
   pub below-parent : (a b : ℕ) → So (below v a b) → v .level b < v .level a → So (below v (v .up a) b)
   unfolding up-by
   below-parent a b h l =
       let e : v .level a ≡ suc (pred (v .level a)) = omega arith in
       let q : v .level a - v .level b ≡ suc (pred (v .level a) - v .level b) = omega arith in
-      up-by-below (pred (v .level a) - v .level b) (v .up a) b (omega (arith, up-level a (pred (v .level a)) e)) (ap (λ x. up-by (v .up) x a) (sym q) ∙ below-up-by a b h)
+      up-by-below (pred (v .level a) - v .level b) (v .up a) b (omega (arith, up-level v f a (pred (v .level a)) e)) (ap (λ x. up-by (v .up) x a) (sym q) ∙ below-up-by a b h)
 
   -- and at the same level it is the other
   pub below-same : (a b : ℕ) → So (below v a b) → v .level a ≡ v .level b → a ≡ b
@@ -190,7 +134,7 @@ module _ (v : View) (f : Facts v) where
     where
       not-dead : (b : Bool) → dead v (v .up n) ≡ b → b ≡ false
       not-dead true h =
-          absurd (false≢true (sym (alive-not-dead (v .life n) a) ∙ f .below-dead n (level-taken n k e) (not-root n k e) h))
+          absurd (false≢true (sym (alive-not-dead (v .life n) a) ∙ f .below-dead n (deep-namespace v n k e) (not-root v f n k e) h))
       not-dead false h = refl
 
       not-unborn : (b : Bool) → unborn v (v .up n) ≡ b → b ≡ false
@@ -202,7 +146,7 @@ module _ (v : View) (f : Facts v) where
   alive-up-by zero n a l = a
   alive-up-by (suc m) n a l =
       let e : v .level n ≡ suc (pred (v .level n)) = omega arith in
-      alive-up-by m (v .up n) (alive-up n (pred (v .level n)) a e) (omega (arith, up-level n (pred (v .level n)) e))
+      alive-up-by m (v .up n) (alive-up n (pred (v .level n)) a e) (omega (arith, up-level v f n (pred (v .level n)) e))
 
   pub alive-above : (a b : ℕ) → So (alive v a) → So (below v a b) → So (alive v b)
   alive-above a b h k = subst (λ n. So (alive v n)) (below-up-by a b k) (alive-up-by (v .level a - v .level b) a h (omega arith))
@@ -213,12 +157,8 @@ module _ (v : View) (f : Facts v) where
   pub init-own : (n : ℕ) → So (alive v n) → v .own (init v n) ≡ n
   init-own n a = f .inits n (alive-taken n a) a .1
 
-  pub living-taken : (i : ℕ) → So (living v i) → So (taken v i)
-  unfolding living
-  living-taken i h = left _ _ h
-
   pub init-taken : (n : ℕ) → So (alive v n) → So (taken v (init v n))
-  init-taken n a = living-taken _ (init-living n a)
+  init-taken n a = lives-taken v _ (init-living n a)
 
   -- a living namespace's init is seen from it and from every one above
   pub init-seen : (n m : ℕ) → So (alive v n) → So (below v n m) → So (seen v m (init v n))
@@ -236,7 +176,7 @@ module _ (v : View) (f : Facts v) where
       ∙ ap (v .up) (init-own n a)
     where
       not-zero : init v n ≡ 0 → ⊥
-      not-zero z = not-root n k e (sym (init-own n a) ∙ ap (v .own) z ∙ root-own)
+      not-zero z = not-root v f n k e (sym (init-own n a) ∙ ap (v .own) z ∙ f .root-own)
 
   pub parent-living : (i : ℕ) → So (taken v i) → (i ≡ 0 → ⊥) → So (living v (v .parent i))
   parent-living i h z = f .parents i h z .0 .0
@@ -264,7 +204,7 @@ module _ (v : View) (f : Facts v) where
       go false e = refl
 
   pub pid-pos : (i l : ℕ) → So (taken v i) → l ≤ v .level (v .own i) → 1 ≤ v .pid i l
-  pid-pos i l h k = leb-true 1 (v .pid i l) (left _ _ (rw (le-leb l (v .level (v .own i)) k) at (f .pid-range i h l (omega (arith, level-deepest _ (own-taken i h))))))
+  pid-pos i l h k = leb-true 1 (v .pid i l) (left _ _ (rw (le-leb l (v .level (v .own i)) k) at (f .pid-range i h l (omega (arith, level-deepest v f _ (own-taken i h))))))
 
   pub pid-zero : (i l : ℕ) → So (taken v i) → l < levels → v .level (v .own i) < l → v .pid i l ≡ 0
   pid-zero i l h k m = eqb-true _ _ (rw (lt-leb l (v .level (v .own i)) m) at (f .pid-range i h l k))
@@ -279,5 +219,5 @@ unfolding seen
 child-seen v f n i h k = go (ℕ-discrete i 0)
   where
     go : Dec (i ≡ 0) → So (taken v i and below v (v .own i) n)
-    go (yes z) = absurd (omega (arith, slot-lt v f (v .parent i) (left _ _ k), ap (v .parent) z, f .root-parent))
+    go (yes z) = absurd (omega (arith, f .in-range (v .parent i) (left _ _ k), ap (v .parent) z, f .root-parent))
     go (no z) = both _ _ h (below-trans v f (v .own i) (v .own (v .parent i)) n (parent-above v f i h z) (right _ _ k))

@@ -5,7 +5,7 @@ use mathlib.Core.Bool.{Bool, true, false, So, not, false≢true}
 use mathlib.Core.Path.{_≡_, refl, _∙_, ap}
 use borrow.Author.Tests.{eq-eqb, ne-eqb, lt-ltb}
 use lib.IntN.{pos, ℤ, negsuc}
-use Rattle.table.proofs.Laws.Quant.{left, right, both}
+use Rattle.table.proofs.Laws.Tests.{left, right, both}
 use Rattle.table.specs.Answers.{refused}
 use Rattle.table.specs.Calls.{clone-new, own-level, status}
 use Rattle.table.specs.Limits.{deepest, namespace-slots, process-slots, statuses}

@@ -1,83 +1,66 @@
--- clone and clone new by an outsider, the child being born outside S.
-use Prim.Native.Nat.{ℕ, suc, pred, _-_, _<_, _≤_}
+-- clone, clone new and unshare by an outsider: the child is born outside S.
+use Prim.Native.Nat.{ℕ, _<_, _≤_}
 use native.Mathlib.Decide.{ℕ-discrete}
 use native.Mathlib.Omega.{arith}
 use mathlib.Core.Bool.{Bool, true, false, not, So, false≢true}
 use mathlib.Core.Logic.{inl, inr, ⊎-elim}
 use mathlib.Core.Path.{_≡_, refl, sym, _∙_, ap, subst}
-use borrow.Author.Tests.{eqb-false, ne-eqb}
+use borrow.Author.Tests.{eqb-false, ne-eqb, eq-eqb}
 use lib.Dec.{eqb}
 use lib.Seq.{getD-set-other}
-use Rattle.table.proofs.Keeps.Changes.{namespace-sane}
-use Rattle.table.proofs.Laws.Facts.{Facts, facts, Sane, sane}
-use Rattle.table.proofs.Laws.Quant.{left, right, both, cases, or-false-left, or-false-right}
-use Rattle.table.proofs.Laws.Slots.{seen-taken, seen-below, children-of, own-taken, living-taken, below-level, below-same, below-trans, below-parent, up-by-level, up-by-end, below-up-by, no-heirs}
+use Rattle.table.proofs.Keeps.Birth.{with-born}
+use Rattle.table.proofs.Keeps.BirthKeeps.{birth-view}
+use Rattle.table.proofs.Keeps.Changes.{namespace-sane, unshare-sane}
+use Rattle.table.proofs.Keeps.Premises.{free-slot-is}
+use Rattle.table.proofs.Laws.Below.{below-level, below-trans}
+use Rattle.table.proofs.Laws.Facts.{Facts, facts, Sane, sane, seen-taken, seen-below, lives-taken}
+use Rattle.table.proofs.Laws.Slots.{children-of, own-taken, below-same, below-parent}
+use Rattle.table.proofs.Laws.Steps.{runs-lives}
+use Rattle.table.proofs.Laws.Tests.{no-so, isnt-so, left, right, both, cases, or-false-left, or-false-right}
 use Rattle.table.proofs.Laws.Tree.{below-refl}
-use Rattle.table.proofs.Sameness.BirthSame.{Lights}
-use Rattle.table.proofs.Sameness.BirthTable.{grown, lights}
-use Rattle.table.proofs.Sameness.ExitSame.{runs-living}
-use Rattle.table.proofs.Sameness.Grown.{Grown, below-grown, old, seen-grown, life-born, life-other}
-use Rattle.table.proofs.Sameness.Leaves.{stands-leaves}
-use Rattle.table.proofs.Sameness.Namespaces.{children-taken}
+use Rattle.table.proofs.Sameness.Born.{below-grown, seen-grown, life-born, life-other, bottom, old}
+use Rattle.table.proofs.Sameness.Freeing.{freed-leaves}
 use Rattle.table.proofs.Sameness.NewNamespaceSame.{namespace-remain, the-namespace, taken-other, x-taken, K}
-use Rattle.table.proofs.Sameness.Outside.{MadeLeaves, as-it-was, outsider}
-use Rattle.table.proofs.Sameness.Remain.{Remain, seen-remain, below-remain}
-use Rattle.table.proofs.Sameness.Same.{Same}
-use Rattle.table.proofs.Sameness.SetChildrenSame.{everyone}
-use Rattle.table.proofs.Sameness.Still.{Still, same-still, stands-still, near, near-here, near-up, near-own, near-children}
+use Rattle.table.proofs.Sameness.Outside.{MadeLeaves, as-it-was, outsider, stands-leaves, untouched-made}
+use Rattle.table.proofs.Sameness.Readers.{children-taken}
+use Rattle.table.proofs.Sameness.Remain.{Remain, seen-remain, below-remain, everyone}
+use Rattle.table.proofs.Sameness.Same.{Same, same-trans}
+use Rattle.table.proofs.Sameness.Still.{Still, same-still, stands-still, near, near-here, near-up, near-own, near-children, put-still}
 use Rattle.table.proofs.Sameness.Twins.{bool-ext}
-use Rattle.table.proofs.Sameness.WaitLeaves.{untouched-made}
-use Rattle.table.specs.Answers.{is-refused, refused}
+use Rattle.table.specs.Answers.{is-refused, refused, answers, granted}
 use Rattle.table.specs.Births.{birth}
-use Rattle.table.specs.Calls.{born, clone, clone-new, new-namespace, own-level}
+use Rattle.table.specs.Calls.{born, clone, clone-new, new-namespace, own-level, set-children, unshare}
 use Rattle.table.specs.Events.{at, follow, namespace-inside, sheet-of}
 use Rattle.table.specs.Limits.{deepest, namespace-slots, process-slots}
 use Rattle.table.specs.Pids.{free-namespace-slot, free-slot, next-pid}
-use Rattle.table.specs.Read.{View, below, dead, living, namespace-taken, no-namespace, pid-in, seen, taken, unborn, up-by, view}
+use Rattle.table.specs.Read.{View, below, dead, living, namespace-taken, no-namespace, seen, taken, unborn, view, process}
+use Rattle.table.specs.Records.{with-children}
 use Rattle.table.specs.Sheet.{sheet}
 use Rattle.table.specs.Sound.{SoundTable}
 use Rattle.table.specs.Step.{make}
 use Rattle.table.specs.Tests.{_or_, if_then_else_}
 use Rattle.table.specs.Touches.{touched, clones-into}
-use Rattle.table.specs.declared.Call.the-variants.{Clone, CloneNew}
+use Rattle.table.specs.declared.Call.the-variants.{Clone, CloneNew, Unshare}
 use Rattle.table.specs.declared.Table.{Table}
 
-pub same-trans : (v u x : View) (s r q : ℕ) → Same v u s r → Same u x r q → Same v x s q
-same-trans v u x s r q a b =
-    record {
-      levels = a .levels ∙ b .levels;
-      there = λ i k. let (j, m, e) = a .there i k in let (l, n, g) = b .there j m in (l, n, e ∙ g);
-      back = λ l n. let (j, m, g) = b .back l n in let (i, k, e) = a .back j m in (i, k, e ∙ g);
-    }
-
--- nothing lies below an unborn namespace but itself
-bottom : (v : View) (f : Facts v) (a m : ℕ) → So (below v a m) → So (unborn v m) → a ≡ m
-bottom v f a m b h = go (ℕ-discrete (v .level a) (v .level m))
-  where
-    go : Dec (v .level a ≡ v .level m) → a ≡ m
-    go (yes e) = below-same v f a m b e
-    go (no e) =
-        let d = pred (v .level a - v .level m) in
-        let l = below-level v f a m b in
-        let q : suc d ≡ v .level a - v .level m = omega arith in
-        absurd (no-heirs v f m (up-by (v .up) d a) (v .level m) h (omega (arith, up-by-level v f d a (omega arith))) (sym (up-by-end v f d a) ∙ ap (λ x. up-by (v .up) x a) q ∙ below-up-by v f a m b))
+-- ---- clone and clone new by an outsider, the child being born outside S
 
 -- a birth in a namespace that is not of S
-module _ (v v′ : View) (f : Facts v) (k n c : ℕ) (w : Grown v v′ k n) (p : Lights v v′ k n c) (tn : So (namespace-taken v n)) (s : ℕ) (o : below v n s ≡ false) where
+module _ (v : View) (f : Facts v) (c n k : ℕ) (new : taken v k ≡ false) (tn : So (namespace-taken v n)) (s : ℕ) (o : below v n s ≡ false) where
+  abbrev v′ : View
+  v′ = with-born v c n k
+
   apart : (i : ℕ) → So (seen v s i) → i ≡ k → ⊥
-  apart i h = old v v′ f k n w tn i (seen-taken v f s i h)
+  apart i h = old v f c n k new tn i (seen-taken v s i h)
 
   seen-either : (i : ℕ) → Dec (i ≡ k) → seen v′ s i ≡ seen v s i
   unfolding seen
-  seen-either i (no e) = seen-grown v v′ f k n w tn s i e
-  seen-either i (yes e) =
-      bool-ext _ _
-      (λ h. absurd (false≢true (sym o ∙ sym (below-grown v v′ f k n w tn n s) ∙ subst (λ x. So (below v′ x s)) (ap (v′ .own) e ∙ w .child-own) (right _ _ h))))
-      (λ h. absurd (old v v′ f k n w tn i (left _ _ h) e))
+  seen-either i (no e) = seen-grown v f c n k new tn s i e
+  seen-either i (yes e) = bool-ext _ _ (λ h. absurd (no-so o (sym (below-grown v f c n k new tn n s) ∙ subst (λ x. So (below v′ x s)) (rw (eq-eqb i k e)) (right _ _ h)))) (λ h. absurd (old v f c n k new tn i (left _ _ h) e))
 
   life-near : (m : ℕ) → So (near v s m) → (b : Bool) → unborn v m ≡ b → v′ .life m ≡ v .life m
-  life-near m h false e = life-born v v′ f k n w tn m e
-  life-near m h true e = life-other v v′ f k n w tn m e (λ q. ⊎-elim (λ b. not-here (subst (λ x. So (below v x s)) (sym q) b)) (λ b. not-here (subst (λ x. So (below v n x)) (sym (bottom v f s m b e ∙ sym q)) (below-refl v n))) (cases _ _ h))
+  life-near m h false e = life-born v f c n k new tn m e
+  life-near m h true e = life-other v f c n k new tn m e (λ q. ⊎-elim (λ b. not-here (subst (λ x. So (below v x s)) (sym q) b)) (λ b. not-here (subst (λ x. So (below v n x)) (sym (bottom v f s m b e ∙ sym q)) (below-refl v n))) (cases _ _ h))
     where
       not-here : So (below v n s) → ⊥
       not-here b = false≢true (sym o ∙ b)
@@ -89,27 +72,29 @@ module _ (v v′ : View) (f : Facts v) (k n c : ℕ) (w : Grown v v′ k n) (p :
         up-kept = near-up v f s;
         own-kept = near-own v f s;
         children-kept = near-children v f s;
-        ups = λ m h. ap (λ (up : ℕ → ℕ). up m) (w .ups);
-        levels = λ m h. ap (λ (level : ℕ → ℕ). level m) (w .levels-same);
+        ups = λ m h. refl;
+        levels = λ m h. refl;
         lives = λ m h. life-near m h (unborn v m) refl;
         seens = λ i. seen-either i (ℕ-discrete i k);
-        owns = λ i h. w .owns i (apart i h);
-        pids = λ i l h. w .pids i l (apart i h);
-        states = λ i h. p .states i (apart i h);
-        handleds = λ i h. p .handleds i (apart i h);
-        pendings = λ i h. p .pendings i (apart i h);
-        marks = λ i h. p .marks i (apart i h);
-        childrens = λ i h. p .childrens i (apart i h);
-        parents = λ i h. ap (pid-in v s) (w .parents i (apart i h));
-        lasts = λ i h. w .lasts (v .own i) ∙ ap (λ (b : Bool). if b then next-pid v (v .own i) else v .last (v .own i)) (not-above i h);
+        owns = λ i h. rw (ne-eqb i k (apart i h));
+        pids = λ i l h. rw (ne-eqb i k (apart i h));
+        states = λ i h. rw (ne-eqb i k (apart i h));
+        handleds = λ i h. rw (ne-eqb i k (apart i h));
+        pendings = λ i h. rw (ne-eqb i k (apart i h));
+        marks = λ i h. rw (ne-eqb i k (apart i h));
+        childrens = λ i h. rw (ne-eqb i k (apart i h));
+        parents = λ i h. rw (ne-eqb i k (apart i h));
+        lasts = λ i h. ap (λ (b : Bool). if b then next-pid v (v .own i) else v .last (v .own i)) (not-above i h);
       }
     where
       not-above : (i : ℕ) → So (seen v s i) → below v n (v .own i) ≡ false
-      not-above i h = bool-ext _ _ (λ b. absurd (false≢true (sym o ∙ below-trans v f n (v .own i) s b (seen-below v f s i h)))) (λ b. absurd (false≢true b))
+      not-above i h = bool-ext _ _ (λ b. absurd (false≢true (sym o ∙ below-trans v f n (v .own i) s b (seen-below v s i h)))) (λ b. absurd (false≢true b))
 
 module _ (t : Table) (w : Sane t) (c n : ℕ) (tn : So (namespace-taken (view t) n)) (room : free-slot (view t) ≡ process-slots → ⊥) (s : ℕ) (o : below (view t) n s ≡ false) where
   still : Still (view t) (view (birth t c n)) s (near (view t) s)
-  still = birth-still (view t) (view (birth t c n)) (w .facts) (free-slot (view t)) n c (grown t w c n tn room) (lights t w c n tn room) tn s o
+  still =
+      let (low, free) = free-slot-is (view t) room in
+      subst (λ u. Still (view t) u s (near (view t) s)) (sym (birth-view t (w .shape-of) (w .facts) c n tn low)) (birth-still (view t) (w .facts) c n (free-slot (view t)) (isnt-so free) tn s o)
 
   pub birth-same : Same (view (birth t c n)) (view t) s s
   birth-same = same-still (view t) (view (birth t c n)) s (near (view t) s) (w .facts) still
@@ -132,7 +117,7 @@ clone-leaves t s i h hs k a g = go (dead (view t) (view t .children i)) refl (eq
         n = view t .children i
 
         tn : So (namespace-taken (view t) n)
-        tn = children-taken (view t) (facts t h) i (runs-living t i k)
+        tn = children-taken (view t) (facts t h) i (runs-lives t i k)
 
         o : below (view t) n s ≡ false
         o = untouched-made t s i Clone h k a (born t i (birth t i n)) (rw (ea, eb, clone) refl) refl
@@ -161,8 +146,8 @@ module _ (t : Table) (h : SoundTable t) (c : ℕ) (room : free-namespace-slot (v
       record {
         here = stays s hs;
         up-kept = R .up-kept;
-        own-kept = λ i k. stays (view t .own i) (own-taken (view t) (ft .facts) i (seen-taken (view t) (ft .facts) s i k));
-        children-kept = λ i k. ⊎-elim (λ y. inl (stays (view t .children i) y)) (λ e. inr e) (children-of (view t) (ft .facts) i (seen-taken (view t) (ft .facts) s i k));
+        own-kept = λ i k. stays (view t .own i) (own-taken (view t) (ft .facts) i (seen-taken (view t) s i k));
+        children-kept = λ i k. ⊎-elim (λ y. inl (stays (view t .children i) y)) (λ e. inr e) (children-of (view t) (ft .facts) i (seen-taken (view t) s i k));
         ups = R .ups;
         levels = R .levels;
         lives = R .lives;
@@ -175,7 +160,7 @@ module _ (t : Table) (h : SoundTable t) (c : ℕ) (room : free-namespace-slot (v
         marks = λ i k. refl;
         childrens = λ i k. refl;
         parents = λ i k. refl;
-        lasts = λ i k. ap (λ z. z .last .0) (getD-set-other (t .namespaces) x (view t .own i) _ no-namespace (taken-other t ft c room _ (own-taken (view t) (ft .facts) i (seen-taken (view t) (ft .facts) s i k))));
+        lasts = λ i k. ap (λ z. z .last .0) (getD-set-other (t .namespaces) x (view t .own i) _ no-namespace (taken-other t ft c room _ (own-taken (view t) (ft .facts) i (seen-taken (view t) s i k))));
       }
 
   pub new-same : Same (view t₁) (view t) s s
@@ -229,7 +214,7 @@ clone-new-leaves t s i h hs k a g = go (eqb (own-level (view t) i) deepest) refl
         room = eqb-false _ _ (or-false-right _ _ eb)
 
         li : So (living (view t) i)
-        li = runs-living t i k
+        li = runs-lives t i k
 
         f₁ : Sane t₁
         f₁ = (namespace-sane t (sane t h) i li (eqb-false _ _ ea) room)
@@ -241,4 +226,30 @@ clone-new-leaves t s i h hs k a g = go (eqb (own-level (view t) i) deepest) refl
         room₁ e = eqb-false _ _ (or-false-left _ _ eb) (sym (same-free t i) ∙ e)
 
         o : below (view t₁) x s ≡ false
-        o = new-outside t h i room s hs (living-taken (view t) (facts t h) i li) f₁ (outsider t s i CloneNew a)
+        o = new-outside t h i room s hs (lives-taken (view t) i li) f₁ (outsider t s i CloneNew a)
+
+-- ---- unshare by an outsider
+
+pub unshare-leaves : MadeLeaves Unshare
+unfolding MadeLeaves make unshare set-children answers granted refused namespace-taken
+unshare-leaves t s i h hs k a g = go (process t i .unshared) refl (eqb (own-level (view t) i) deepest) refl (eqb (free-namespace-slot (view t)) namespace-slots) refl
+  where
+    go : (m : Bool) → process t i .unshared ≡ m → (x : Bool) → eqb (own-level (view t) i) deepest ≡ x → (b : Bool) → eqb (free-namespace-slot (view t)) namespace-slots ≡ b → sheet-of (unshare t i .table) (follow t (unshare t i .table) (at s)) ≡ sheet (view t) s
+    go true em x ea b eb = rw (em, unshare) (as-it-was t s hs)
+    go false em true ea b eb = rw (em, ea, unshare) (as-it-was t s hs)
+    go false em false ea true eb = rw (em, ea, eb, unshare) (as-it-was t s hs)
+    go false em false ea false eb =
+        rw (em, ea, eb, unshare)
+        (freed-leaves t _ s h (unshare-sane t h i k (eqb-false _ _ ea) room) hs (new-stands t h i room s hs)
+        (same-trans _ (view t₁) (view t) s s s
+        (same-still (view t₁) _ s (near (view t₁) s) f₁ (put-still t₁ f₁ i (with-children (process t₁ i) (free-namespace-slot (view t)) true) (record { owns = refl; parents = refl; pids = refl }) s (new-seen t h i room s hs i ∙ outsider t s i Unshare a)))
+        (new-same t h i room s hs)))
+      where
+        room : free-namespace-slot (view t) ≡ namespace-slots → ⊥
+        room = eqb-false _ _ eb
+
+        t₁ : Table
+        t₁ = new-namespace t i
+
+        f₁ : Facts (view t₁)
+        f₁ = namespace-sane t (sane t h) i (runs-lives t i k) (eqb-false _ _ ea) room .facts

@@ -5,21 +5,20 @@ use native.Mathlib.Omega.{arith}
 use mathlib.Core.Bool.{Bool, true, false, So, false≢true}
 use mathlib.Core.List.{_∷_}
 use mathlib.Core.Logic.{_⊎_, inl, inr, ⊎-elim}
-use mathlib.Core.Path.{_≡_, refl, sym, _∙_, ap, ap₂, fun-ext}
+use mathlib.Core.Path.{_≡_, refl, sym, _∙_, ap, ap₂, fun-ext, subst}
 use borrow.Author.Tests.{eqb-true, eq-eqb, ne-eqb, le-leb, lt-leb}
 use lib.Dec.{eqb, leb}
-use Rattle.table.proofs.Laws.Facts.{Facts}
-use Rattle.table.proofs.Laws.Slots.{slot-lt, seen-taken, own-taken, own-not-unborn, alive-taken, alive-not-unborn, init-taken, children-of, below-trans, init-seen, living-taken, parent-living, below-parent, below-level, below-same}
+use Rattle.table.proofs.Keeps.Birth.{with-born}
+use Rattle.table.proofs.Laws.Below.{below-level, below-trans}
+use Rattle.table.proofs.Laws.Facts.{Facts, seen-taken, lives-taken}
+use Rattle.table.proofs.Laws.Slots.{own-taken, own-not-unborn, alive-taken, alive-not-unborn, init-taken, children-of, init-seen, parent-living, below-parent, below-same}
+use Rattle.table.proofs.Laws.Tests.{zero-or, no-so}
 use Rattle.table.proofs.Laws.Tree.{below-refl}
-use Rattle.table.proofs.Sameness.Anchor.{is-unborn-name, name-taken, up-below}
-use Rattle.table.proofs.Sameness.BirthPids.{Cradles, cradle-next, next-unborn}
+use Rattle.table.proofs.Sameness.Anchor.{is-unborn-name, name-taken, up-below, name-no-slot}
+use Rattle.table.proofs.Sameness.Born.{seen-grown, pid-in-grown, life-born, life-new, name-born, name-other, name-new, old, child-seen, Cradles, cradle-next, next-unborn, next-twins, last-twins}
 use Rattle.table.proofs.Sameness.ExitSame
-use Rattle.table.proofs.Sameness.Grown.{Grown, old, seen-grown, pid-in-grown, child-seen, life-born, life-new, name-born, name-other, name-new}
-use Rattle.table.proofs.Sameness.Namespaces.{name-unborn}
-use Rattle.table.proofs.Sameness.NextPid.{next-twins, last-twins}
-use Rattle.table.proofs.Sameness.Readers.{is-init-twins}
-use Rattle.table.proofs.Sameness.Same.{Same, level-lt}
-use Rattle.table.proofs.Sameness.SetChildrenSame.{name-no-slot}
+use Rattle.table.proofs.Sameness.Readers.{is-init-twins, name-unborn}
+use Rattle.table.proofs.Sameness.Same.{Same, row-by}
 use Rattle.table.proofs.Sameness.Twins.{Pair, Twin, Twins, bool-ext, flip-pair, flip-twin, pid-in-seen, twin-rows, twin-there, twins-level, owns, own-alive, below-twins}
 use Rattle.table.specs.Limits.{levels, no-slot, process-slots}
 use Rattle.table.specs.Pids.{next-pid}
@@ -29,19 +28,13 @@ use Rattle.table.specs.Tests.{if_then_else_, values}
 use Rattle.table.specs.declared.Life.the-variants.{Unborn, Alive, Dead}
 use Rattle.table.specs.declared.Life.{Life}
 
--- a row by its parts
-row-by : (v u : View) (s r i j : ℕ) → values (v .pid i) (levels - v .level s) (v .level s) ≡ values (u .pid j) (levels - u .level r) (u .level r) → v .state i ≡ u .state j → v .handled i ≡ u .handled j → v .pending i ≡ u .pending j → v .unshared i ≡ u .unshared j → pid-in v s (v .parent i) ≡ pid-in u r (u .parent j) → name v s (v .own i) ≡ name u r (u .own j) → name v s (v .children i) ≡ name u r (u .children j) → (if is-init v i then v .last (v .own i) else 0) ≡ (if is-init u j then u .last (u .own j) else 0) → row v s i ≡ row u r j
-unfolding row
-row-by v u s r i j a b c d e f g h z =
-    λ k. record { pids = a k; state = b k; handled = c k; pending = d k; unshared = e k; parent = f k; own = g k; children = h k; last = z k }
-
 values-same : (f g : ℕ → ℕ) (n k : ℕ) → ((l : ℕ) → k ≤ l → l < k + n → f l ≡ g l) → values f n k ≡ values g n k
 unfolding values
 values-same f g zero k h = refl
 values-same f g (suc n) k h = ap₂ _∷_ (h k (omega arith) (omega arith)) (values-same f g n (suc k) (λ l a b. h l (omega arith) (omega arith)))
 
-pids-grown : (v v′ : View) (k n : ℕ) → Grown v v′ k n → (s i : ℕ) → (i ≡ k → ⊥) → values (v′ .pid i) (levels - v′ .level s) (v′ .level s) ≡ values (v .pid i) (levels - v .level s) (v .level s)
-pids-grown v v′ k n a s i o = ap₂ (λ (f : ℕ → ℕ) (level : ℕ → ℕ). values f (levels - level s) (level s)) (fun-ext (λ l. a .pids i l o)) (a .levels-same)
+left-pids : (v : View) (c n k i : ℕ) → eqb i k ≡ false → (a b : ℕ) → values (with-born v c n k .pid i) a b ≡ values (v .pid i) a b
+left-pids v c n k i e a b = ap (λ (f : ℕ → ℕ). values f a b) (fun-ext (λ l. rw e))
 
 -- a living namespace's name
 alive-name : (v : View) (f : Facts v) (s n : ℕ) → So (alive v n) → So (seen v s (init v n)) → name v s n ≡ by-init (pid-seen v s (init v n))
@@ -71,7 +64,7 @@ named v f s n h e = false≢true (sym (go (v .life n)) ∙ ap is-no-name (sym (n
 
 not-init : (v : View) (f : Facts v) (i : ℕ) → So (taken v i) → alive v (v .own i) ≡ false → is-init v i ≡ false
 unfolding is-init
-not-init v f i h a = ne-eqb (init v (v .own i)) i (λ e. omega (arith, slot-lt v f i h, sym (go (v .life (v .own i)) a) ∙ e))
+not-init v f i h a = ne-eqb (init v (v .own i)) i (λ e. omega (arith, f .in-range i h, sym (go (v .life (v .own i)) a) ∙ e))
   where
     go : (x : Life) → is-alive x ≡ false → init-of x ≡ no-slot
     go Unborn z = refl
@@ -90,42 +83,30 @@ unborn-below v f n o h e a =
         lt-of x y = omega arith
 
 -- the last number that a row shows then
-shows : (v v′ : View) (f : Facts v) (k n : ℕ) (a : Grown v v′ k n) (tn : So (namespace-taken v n)) (i : ℕ) → So (taken v i) → (if is-init v′ i then v′ .last (v′ .own i) else 0) ≡ (if is-init v i then (if below v n (v .own i) then next-pid v (v .own i) else v .last (v .own i)) else 0)
+shows : (v : View) (f : Facts v) (c n k : ℕ) (nv : taken v k ≡ false) (tn : So (namespace-taken v n)) (i : ℕ) → So (taken v i) → (if is-init (with-born v c n k) i then with-born v c n k .last (with-born v c n k .own i) else 0) ≡ (if is-init v i then (if below v n (v .own i) then next-pid v (v .own i) else v .last (v .own i)) else 0)
 unfolding is-init
-shows v v′ f k n a tn i h =
-    ap (λ (x : ℕ). if eqb (init v′ x) i then v′ .last x else 0) (a .owns i (old v v′ f k n a tn i h))
-    ∙ ap₂ (λ (x : Life) (y : ℕ). if eqb (init-of x) i then y else 0) (life-born v v′ f k n a tn (v .own i) (own-not-unborn v f i h)) (a .lasts (v .own i))
+shows v f c n k nv tn i h =
+    rw (ne-eqb i k (old v f c n k nv tn i h))
+    (ap (λ (x : Life). if eqb (init-of x) i then (if below v n (v .own i) then next-pid v (v .own i) else v .last (v .own i)) else 0) (life-born v f c n k nv tn (v .own i) (own-not-unborn v f i h)))
 
 -- and the child's row
-in-old : (v v′ : View) (f : Facts v) (k n : ℕ) (a : Grown v v′ k n) (tn : So (namespace-taken v n)) → So (alive v n) → (if eqb (init v′ n) k then v′ .last n else 0) ≡ 0
-in-old v v′ f k n a tn h =
-    ap (λ (x : Life). if eqb (init-of x) k then v′ .last n else 0) (life-born v v′ f k n a tn n (alive-not-unborn (v .life n) h))
-    ∙ ap (λ (b : Bool). if b then v′ .last n else 0) (ne-eqb (init v n) k (old v v′ f k n a tn (init v n) (init-taken v f n h)))
+in-old : (v : View) (f : Facts v) (c n k : ℕ) (nv : taken v k ≡ false) (tn : So (namespace-taken v n)) (x : ℕ) → So (alive v n) → (if eqb (init (with-born v c n k) n) k then x else 0) ≡ 0
+in-old v f c n k nv tn x h =
+    ap (λ (y : Life). if eqb (init-of y) k then x else 0) (life-born v f c n k nv tn n (alive-not-unborn (v .life n) h))
+    ∙ ap (λ (b : Bool). if b then x else 0) (ne-eqb (init v n) k (old v f c n k nv tn (init v n) (init-taken v f n h)))
 
-in-new : (v v′ : View) (f : Facts v) (k n : ℕ) (a : Grown v v′ k n) (tn : So (namespace-taken v n)) → So (unborn v n) → (if eqb (init v′ n) k then v′ .last n else 0) ≡ next-pid v n
-in-new v v′ f k n a tn h =
-    ap (λ (x : Life). if eqb (init-of x) k then v′ .last n else 0) (life-new v v′ f k n a tn h)
-    ∙ ap (λ (b : Bool). if b then v′ .last n else 0) (eq-eqb k k refl)
-    ∙ a .lasts n ∙ ap (λ (b : Bool). if b then next-pid v n else v .last n) (below-refl v n)
+in-new : (v : View) (f : Facts v) (c n k : ℕ) (nv : taken v k ≡ false) (tn : So (namespace-taken v n)) → So (unborn v n) → (if eqb (init (with-born v c n k) n) k then with-born v c n k .last n else 0) ≡ next-pid v n
+in-new v f c n k nv tn h =
+    ap (λ (x : Life). if eqb (init-of x) k then with-born v c n k .last n else 0) (life-new v f c n k nv tn h)
+    ∙ ap₂ (λ (b d : Bool). if b then (if d then next-pid v n else v .last n) else 0) (eq-eqb k k refl) (below-refl v n)
 
--- what else a birth leaves of the others, and gives the child
-pub record Lights (v v′ : View) (k n c : ℕ) : Type 0 where
-  pub states : (i : ℕ) → (i ≡ k → ⊥) → v′ .state i ≡ v .state i
-  pub handleds : (i : ℕ) → (i ≡ k → ⊥) → v′ .handled i ≡ v .handled i
-  pub pendings : (i : ℕ) → (i ≡ k → ⊥) → v′ .pending i ≡ v .pending i
-  pub marks : (i : ℕ) → (i ≡ k → ⊥) → v′ .unshared i ≡ v .unshared i
-  pub childrens : (i : ℕ) → (i ≡ k → ⊥) → v′ .children i ≡ v .children i
-  pub child-parent : v′ .parent k ≡ c
-  pub child-children : v′ .children k ≡ n
-
-module _ (v u v′ u′ : View) (s r : ℕ) (w : Pair v u s r) (c d n m k l : ℕ) (tc : Twin v u s r c d) (cradles : Cradles v u s r n m) (tn : So (namespace-taken v n)) (tm : So (namespace-taken u m)) (bn : So (below v n s)) (bm : So (below u m r)) (a : Grown v v′ k n) (b : Grown u u′ l m) (p : Lights v v′ k n c) (q : Lights u u′ l m d)
-    (newborns : (v′ .state k ≡ u′ .state l) × (v′ .handled k ≡ u′ .handled l) × (v′ .pending k ≡ u′ .pending l) × (v′ .unshared k ≡ u′ .unshared l))
+module _ (v u : View) (s r : ℕ) (w : Pair v u s r) (c d n m k l : ℕ) (tc : Twin v u s r c d) (cradles : Cradles v u s r n m) (tn : So (namespace-taken v n)) (tm : So (namespace-taken u m)) (bn : So (below v n s)) (bm : So (below u m r)) (nv : taken v k ≡ false) (nu : taken u l ≡ false) (kl : k < process-slots) (ll : l < process-slots)
     (holders : (i j : ℕ) → Twin v u s r i j → So (unborn v n) → eqb (v .children i) n ≡ eqb (u .children j) m) where
-  ls : v .level s < levels
-  ls = level-lt v (w .facts-v) s (alive-taken v (w .facts-v) s (w .alive-v))
+  abbrev v′ : View
+  v′ = with-born v c n k
 
-  lr : u .level r < levels
-  lr = level-lt u (w .facts-u) r (alive-taken u (w .facts-u) r (w .alive-u))
+  abbrev u′ : View
+  u′ = with-born u d m l
 
   tops : Twins v u s r s r
   tops = ExitSame.tops v u s r w
@@ -142,9 +123,9 @@ module _ (v u v′ u′ : View) (s r : ℕ) (w : Pair v u s r) (c d n m k l : �
     where
       go : (z : Bool) → unborn v n ≡ z → name v′ s n ≡ name u′ r m
       go true h =
-          name-new v v′ (w .facts-v) k n a tn s h bn ls ∙ ap by-init (next-twins v u s r w s r tops)
-          ∙ sym (name-new u u′ (w .facts-u) l m b tm r (sym unborn-nm ∙ h) bm lr)
-      go false h = name-born v v′ (w .facts-v) k n a tn s n tn h ∙ alike cradles ∙ sym (name-born u u′ (w .facts-u) l m b tm r m tm (sym unborn-nm ∙ h))
+          name-new v (w .facts-v) c n k nv tn s h bn ∙ ap by-init (next-twins v u s r w s r tops)
+          ∙ sym (name-new u (w .facts-u) d m l nu tm r (sym unborn-nm ∙ h) bm)
+      go false h = name-born v (w .facts-v) c n k nv tn s n tn h ∙ alike cradles ∙ sym (name-born u (w .facts-u) d m l nu tm r m tm (sym unborn-nm ∙ h))
         where
           alike : Cradles v u s r n m → name v s n ≡ name u r m
           alike (inl x) = alive-name v (w .facts-v) s n (x .lives-v) (init-seen v (w .facts-v) n s (x .lives-v) (x .below-v)) ∙ ap by-init (x .inits) ∙ sym (alive-name u (w .facts-u) r m (x .lives-u) (init-seen u (w .facts-u) m r (x .lives-u) (x .below-u)))
@@ -157,16 +138,16 @@ module _ (v u v′ u′ : View) (s r : ℕ) (w : Pair v u s r) (c d n m k l : �
 
   module _ (i j : ℕ) (x : Twin v u s r i j) where
     ti : So (taken v i)
-    ti = seen-taken v (w .facts-v) s i (x .seen-v)
+    ti = seen-taken v s i (x .seen-v)
 
     tj : So (taken u j)
-    tj = seen-taken u (w .facts-u) r j (x .seen-u)
+    tj = seen-taken u r j (x .seen-u)
 
     oi : i ≡ k → ⊥
-    oi = old v v′ (w .facts-v) k n a tn i ti
+    oi = old v (w .facts-v) c n k nv tn i ti
 
     oj : j ≡ l → ⊥
-    oj = old u u′ (w .facts-u) l m b tm j tj
+    oj = old u (w .facts-u) d m l nu tm j tj
 
     rows : row v s i ≡ row u r j
     rows = twin-rows v u s r w i j x
@@ -179,14 +160,14 @@ module _ (v u v′ u′ : View) (s r : ℕ) (w : Pair v u s r) (c d n m k l : �
         e = ap (λ (o : Row). o .children) rows
 
         born : So (namespace-taken v (v .children i)) → So (namespace-taken u (u .children j)) → (z : Bool) → unborn v (v .children i) ≡ z → unborn u (u .children j) ≡ z → name v′ s (v .children i) ≡ name u′ r (u .children j)
-        born g h false y y′ = name-born v v′ (w .facts-v) k n a tn s (v .children i) g y ∙ e ∙ sym (name-born u u′ (w .facts-u) l m b tm r (u .children j) h y′)
+        born g h false y y′ = name-born v (w .facts-v) c n k nv tn s (v .children i) g y ∙ e ∙ sym (name-born u (w .facts-u) d m l nu tm r (u .children j) h y′)
         born g h true y y′ = which (ℕ-discrete n (v .children i)) (ℕ-discrete m (u .children j))
           where
             which : Dec (n ≡ v .children i) → Dec (m ≡ u .children j) → name v′ s (v .children i) ≡ name u′ r (u .children j)
             which (yes q₁) (yes q₂) = ap (name v′ s) (sym q₁) ∙ cradle-name ∙ ap (name u′ r) q₂
             which (yes q₁) (no q₂) = absurd (q₂ (sym (eqb-true _ _ (sym (holders i j x (ap (unborn v) q₁ ∙ y)) ∙ eq-eqb (v .children i) n (sym q₁)))))
             which (no q₁) (yes q₂) = absurd (q₁ (sym (eqb-true _ _ (holders i j x (unborn-nm ∙ ap (unborn u) q₂ ∙ y′) ∙ eq-eqb (u .children j) m (sym q₂)))))
-            which (no q₁) (no q₂) = name-other v v′ (w .facts-v) k n a tn s (v .children i) g y q₁ ∙ sym (name-other u u′ (w .facts-u) l m b tm r (u .children j) h y′ q₂)
+            which (no q₁) (no q₂) = name-other v (w .facts-v) c n k nv tn s (v .children i) g y q₁ ∙ sym (name-other u (w .facts-u) d m l nu tm r (u .children j) h y′ q₂)
 
         go : So (namespace-taken v (v .children i)) ⊎ (v .children i ≡ no-slot) → So (namespace-taken u (u .children j)) ⊎ (u .children j ≡ no-slot) → name v′ s (v .children i) ≡ name u′ r (u .children j)
         go (inl g) (inl h) = born g h (unborn v (v .children i)) refl (sym (name-unborn u (w .facts-u) r (u .children j) h) ∙ sym (ap is-unborn-name e) ∙ name-unborn v (w .facts-v) s (v .children i) g)
@@ -196,7 +177,7 @@ module _ (v u v′ u′ : View) (s r : ℕ) (w : Pair v u s r) (c d n m k l : �
 
     old-last : (if is-init v′ i then v′ .last (v′ .own i) else 0) ≡ (if is-init u′ j then u′ .last (u′ .own j) else 0)
     unfolding row
-    old-last = shows v v′ (w .facts-v) k n a tn i ti ∙ go (alive v (v .own i)) refl ∙ sym (shows u u′ (w .facts-u) l m b tm j tj)
+    old-last = shows v (w .facts-v) c n k nv tn i ti ∙ go (alive v (v .own i)) refl ∙ sym (shows u (w .facts-u) d m l nu tm j tj)
       where
         go : (z : Bool) → alive v (v .own i) ≡ z → (if is-init v i then (if below v n (v .own i) then next-pid v (v .own i) else v .last (v .own i)) else 0) ≡ (if is-init u j then (if below u m (u .own j) then next-pid u (u .own j) else u .last (u .own j)) else 0)
         go true h =
@@ -205,79 +186,63 @@ module _ (v u v′ u′ : View) (s r : ℕ) (w : Pair v u s r) (c d n m k l : �
         go false h = rw (not-init v (w .facts-v) i ti h, not-init u (w .facts-u) j tj (sym (own-alive v u s r w i j x) ∙ h)) refl
 
     parent-old : (y : View) (f : Facts y) (e k′ : ℕ) → taken y k′ ≡ false → k′ < process-slots → So (taken y e) → y .parent e ≡ k′ → ⊥
-    parent-old y f e k′ no-one lt t q = at (ℕ-discrete e 0)
-      where
-        at : Dec (e ≡ 0) → ⊥
-        at (yes z) = omega (arith, f .root-parent, ap (y .parent) z)
-        at (no z) = false≢true (sym no-one ∙ ap (taken y) (sym q) ∙ living-taken y f _ (parent-living y f e t z))
+    parent-old y f e k′ no-one lt t q = zero-or e (λ z. omega (arith, lt, f .root-parent, ap (y .parent) z, q)) (λ z. no-so no-one (subst (λ x. So (taken y x)) q (lives-taken y _ (parent-living y f e t z))))
 
     old-rows : row v′ s i ≡ row u′ r j
     unfolding row
     old-rows =
-        row-by v′ u′ s r i j
-        (pids-grown v v′ k n a s i oi ∙ ap (λ (o : Row). o .pids) rows ∙ sym (pids-grown u u′ l m b r j oj))
-        (p .states i oi ∙ ap (λ (o : Row). o .state) rows ∙ sym (q .states j oj))
-        (p .handleds i oi ∙ ap (λ (o : Row). o .handled) rows ∙ sym (q .handleds j oj))
-        (p .pendings i oi ∙ ap (λ (o : Row). o .pending) rows ∙ sym (q .pendings j oj))
-        (p .marks i oi ∙ ap (λ (o : Row). o .unshared) rows ∙ sym (q .marks j oj))
-        (ap (pid-in v′ s) (a .parents i oi) ∙ pid-in-grown v v′ (w .facts-v) k n a tn s (v .parent i) (parent-old v (w .facts-v) i k (a .new) (a .slot) ti) ∙ ap (λ (o : Row). o .parent) rows ∙ sym (ap (pid-in u′ r) (b .parents j oj) ∙ pid-in-grown u u′ (w .facts-u) l m b tm r (u .parent j) (parent-old u (w .facts-u) j l (b .new) (b .slot) tj)))
-        (ap (name v′ s) (a .owns i oi) ∙ name-born v v′ (w .facts-v) k n a tn s (v .own i) (own-taken v (w .facts-v) i ti) (own-not-unborn v (w .facts-v) i ti) ∙ ap (λ (o : Row). o .own) rows ∙ sym (ap (name u′ r) (b .owns j oj) ∙ name-born u u′ (w .facts-u) l m b tm r (u .own j) (own-taken u (w .facts-u) j tj) (own-not-unborn u (w .facts-u) j tj)))
-        (ap (name v′ s) (p .childrens i oi) ∙ old-children ∙ sym (ap (name u′ r) (q .childrens j oj)))
+        let ei = ne-eqb i k oi in
+        let ej = ne-eqb j l oj in
+        row-by v′ u′ s r i j (left-pids v c n k i ei (levels - v .level s) (v .level s) ∙ ap (λ (o : Row). o .pids) rows ∙ sym (left-pids u d m l j ej (levels - u .level r) (u .level r))) (rw (ei, ej) (ap (λ (o : Row). o .state) rows)) (rw (ei, ej) (ap (λ (o : Row). o .handled) rows)) (rw (ei, ej) (ap (λ (o : Row). o .pending) rows)) (rw (ei, ej) (ap (λ (o : Row). o .unshared) rows))
+        (rw (ei, ej) (pid-in-grown v (w .facts-v) c n k nv tn s (v .parent i) (parent-old v (w .facts-v) i k nv kl ti) ∙ ap (λ (o : Row). o .parent) rows ∙ sym (pid-in-grown u (w .facts-u) d m l nu tm r (u .parent j) (parent-old u (w .facts-u) j l nu ll tj))))
+        (rw (ei, ej) (name-born v (w .facts-v) c n k nv tn s (v .own i) (own-taken v (w .facts-v) i ti) (own-not-unborn v (w .facts-v) i ti) ∙ ap (λ (o : Row). o .own) rows ∙ sym (name-born u (w .facts-u) d m l nu tm r (u .own j) (own-taken u (w .facts-u) j tj) (own-not-unborn u (w .facts-u) j tj))))
+        (rw (ei, ej) old-children)
         old-last
 
-  new-pids : values (v′ .pid k) (levels - v′ .level s) (v′ .level s) ≡ values (u′ .pid l) (levels - u′ .level r) (u′ .level r)
-  new-pids =
-      ap (λ (y : ℕ → ℕ). values (v′ .pid k) (levels - y s) (y s)) (a .levels-same)
-      ∙ values-same (v′ .pid k) (u′ .pid l) (levels - v .level s) (v .level s) each
-      ∙ ap (λ y. values (u′ .pid l) (levels - y) y) (w .same .levels)
-      ∙ sym (ap (λ (y : ℕ → ℕ). values (u′ .pid l) (levels - y r) (y r)) (b .levels-same))
+  new-pids : values (v′ .pid k) (levels - v .level s) (v .level s) ≡ values (u′ .pid l) (levels - u .level r) (u .level r)
+  new-pids = values-same (v′ .pid k) (u′ .pid l) (levels - v .level s) (v .level s) each ∙ ap (λ y. values (u′ .pid l) (levels - y) y) (w .same .levels)
     where
       each : (h : ℕ) → v .level s ≤ h → h < v .level s + (levels - v .level s) → v′ .pid k h ≡ u′ .pid l h
-      each h x y = a .child-pid h lt ∙ go (decLe h (v .level n)) ∙ sym (b .child-pid h lt)
+      each h x y = rw (eq-eqb k k refl, eq-eqb l l refl) (go (decLe h (v .level n)))
         where
-          lt : h < levels
-          lt = omega (arith, ls)
-
           go : Dec (h ≤ v .level n) → (if leb h (v .level n) then next-pid v (above-at v n h) else 0) ≡ (if leb h (u .level m) then next-pid u (above-at u m h) else 0)
           go (yes z) = rw (le-leb h (v .level n) z, le-leb h (u .level m) (omega (arith, levels-nm))) (cradle-next v u s r w n m h cradles x z)
           go (no z) = rw (lt-leb h (v .level n) (omega arith), lt-leb h (u .level m) (omega (arith, levels-nm))) refl
 
   new-last : (if is-init v′ k then v′ .last (v′ .own k) else 0) ≡ (if is-init u′ l then u′ .last (u′ .own l) else 0)
   unfolding is-init
-  new-last =
-      ap (λ (y : ℕ). if eqb (init v′ y) k then v′ .last y else 0) (a .child-own) ∙ go cradles
-      ∙ sym (ap (λ (y : ℕ). if eqb (init u′ y) l then u′ .last y else 0) (b .child-own))
+  new-last = rw (eq-eqb k k refl, eq-eqb l l refl) (go cradles)
     where
       go : Cradles v u s r n m → (if eqb (init v′ n) k then v′ .last n else 0) ≡ (if eqb (init u′ m) l then u′ .last m else 0)
-      go (inl y) = in-old v v′ (w .facts-v) k n a tn (y .lives-v) ∙ sym (in-old u u′ (w .facts-u) l m b tm (y .lives-u))
+      go (inl y) = in-old v (w .facts-v) c n k nv tn (v′ .last n) (y .lives-v) ∙ sym (in-old u (w .facts-u) d m l nu tm (u′ .last m) (y .lives-u))
       go (inr y) =
-          in-new v v′ (w .facts-v) k n a tn (y .unborn-v) ∙ next-unborn v u (w .facts-v) (w .facts-u) n m (y .unborn-v) (y .unborn-u) (y .lasts)
-          ∙ sym (in-new u u′ (w .facts-u) l m b tm (y .unborn-u))
+          in-new v (w .facts-v) c n k nv tn (y .unborn-v) ∙ next-unborn v u (w .facts-v) (w .facts-u) n m (y .unborn-v) (y .unborn-u) (y .lasts)
+          ∙ sym (in-new u (w .facts-u) d m l nu tm (y .unborn-u))
 
   new-rows : row v′ s k ≡ row u′ r l
   new-rows =
-      row-by v′ u′ s r k l new-pids (newborns .0) (newborns .1) (newborns .2) (newborns .3)
-      (ap (pid-in v′ s) (p .child-parent) ∙ pid-in-grown v v′ (w .facts-v) k n a tn s c (old v v′ (w .facts-v) k n a tn c (seen-taken v (w .facts-v) s c (tc .seen-v))) ∙ pid-in-seen v s c (tc .seen-v) ∙ tc .pids ∙ sym (ap (pid-in u′ r) (q .child-parent) ∙ pid-in-grown u u′ (w .facts-u) l m b tm r d (old u u′ (w .facts-u) l m b tm d (seen-taken u (w .facts-u) r d (tc .seen-u))) ∙ pid-in-seen u r d (tc .seen-u)))
-      (ap (name v′ s) (a .child-own) ∙ cradle-name ∙ sym (ap (name u′ r) (b .child-own)))
-      (ap (name v′ s) (p .child-children) ∙ cradle-name ∙ sym (ap (name u′ r) (q .child-children)))
-      new-last
+      let ek = eq-eqb k k refl in
+      let el = eq-eqb l l refl in
+      row-by v′ u′ s r k l new-pids (rw (ek, el)) (rw (ek, el)) (rw (ek, el)) (rw (ek, el))
+      (rw (ek, el) (pid-in-grown v (w .facts-v) c n k nv tn s c (old v (w .facts-v) c n k nv tn c (seen-taken v s c (tc .seen-v))) ∙ pid-in-seen v s c (tc .seen-v) ∙ tc .pids ∙ sym (pid-in-grown u (w .facts-u) d m l nu tm r d (old u (w .facts-u) d m l nu tm d (seen-taken u r d (tc .seen-u))) ∙ pid-in-seen u r d (tc .seen-u))))
+      (rw (ek, el) cradle-name) (rw (ek, el) cradle-name) new-last
 
   pub birth-same : Same v′ u′ s r
   birth-same =
       record {
-        levels = ap (λ (y : ℕ → ℕ). y s) (a .levels-same) ∙ w .same .levels ∙ sym (ap (λ (y : ℕ → ℕ). y r) (b .levels-same));
+        levels = w .same .levels;
         there = λ i h. there-case i h (ℕ-discrete i k);
         back = λ j h. back-case j h (ℕ-discrete j l);
       }
     where
       there-case : (i : ℕ) → So (seen v′ s i) → Dec (i ≡ k) → (j : ℕ) × So (seen u′ r j) × (row v′ s i ≡ row u′ r j)
-      there-case i h (yes e) = (l, child-seen u u′ (w .facts-u) l m b tm r bm, ap (row v′ s) e ∙ new-rows)
+      there-case i h (yes e) = (l, child-seen u (w .facts-u) d m l nu tm r bm, ap (row v′ s) e ∙ new-rows)
       there-case i h (no o) =
-          let (j, x) = twin-there v u s r w i (sym (seen-grown v v′ (w .facts-v) k n a tn s i o) ∙ h) in
-          (j, seen-grown u u′ (w .facts-u) l m b tm r j (old u u′ (w .facts-u) l m b tm j (seen-taken u (w .facts-u) r j (x .seen-u))) ∙ x .seen-u, old-rows i j x)
+          let (j, x) = twin-there v u s r w i (sym (seen-grown v (w .facts-v) c n k nv tn s i o) ∙ h) in
+          (j, seen-grown u (w .facts-u) d m l nu tm r j (old u (w .facts-u) d m l nu tm j (seen-taken u r j (x .seen-u))) ∙ x .seen-u, old-rows i j x)
 
       back-case : (j : ℕ) → So (seen u′ r j) → Dec (j ≡ l) → (i : ℕ) × So (seen v′ s i) × (row v′ s i ≡ row u′ r j)
-      back-case j h (yes e) = (k, child-seen v v′ (w .facts-v) k n a tn s bn, new-rows ∙ sym (ap (row u′ r) e))
+      back-case j h (yes e) = (k, child-seen v (w .facts-v) c n k nv tn s bn, new-rows ∙ sym (ap (row u′ r) e))
       back-case j h (no o) =
-          let (i, x) = twin-there u v r s (flip-pair v u s r w) j (sym (seen-grown u u′ (w .facts-u) l m b tm r j o) ∙ h) in
-          (i, seen-grown v v′ (w .facts-v) k n a tn s i (old v v′ (w .facts-v) k n a tn i (seen-taken v (w .facts-v) s i (x .seen-u))) ∙ x .seen-u, old-rows i j (flip-twin u v r s j i x))
+          let (i, x) = twin-there u v r s (flip-pair v u s r w) j (sym (seen-grown u (w .facts-u) d m l nu tm r j o) ∙ h) in
+          (i, seen-grown v (w .facts-v) c n k nv tn s i (old v (w .facts-v) c n k nv tn i (seen-taken v s i (x .seen-u))) ∙ x .seen-u, old-rows i j (flip-twin u v r s j i x))

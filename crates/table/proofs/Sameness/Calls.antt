@@ -9,11 +9,10 @@ use borrow.Author.Tests.{eqb-true}
 use lib.Dec.{eqb}
 use lib.IntN.{ℤ}
 use lib.ListN.{length}
-use Rattle.table.proofs.Laws.Facts.{facts}
-use Rattle.table.proofs.Laws.Quant.{left, right, both}
-use Rattle.table.proofs.Laws.Slots.{slot-lt, seen-taken, living-own-alive, alive-taken}
-use Rattle.table.proofs.Sameness.Glue.{follow-self}
-use Rattle.table.proofs.Sameness.Inside.{Kept, Ready, MadeSame, refused-same, stands-same}
+use Rattle.table.proofs.Laws.Facts.{facts, seen-taken}
+use Rattle.table.proofs.Laws.Slots.{living-own-alive, alive-taken}
+use Rattle.table.proofs.Laws.Tests.{left, right, both}
+use Rattle.table.proofs.Sameness.Inside.{Kept, Ready, MadeSame, refused-same, stands-same, follow-self}
 use Rattle.table.proofs.Sameness.Light.{Lights, same-light, Placed, put-light, put-same, put-other}
 use Rattle.table.proofs.Sameness.Readers.{parent-pid}
 use Rattle.table.proofs.Sameness.Same.{Same, sheets-of-same}
@@ -144,10 +143,10 @@ module _ (t u : Table) (s r c d : ℕ) (w : Pair (view t) (view u) s r) (k : Twi
 
 module _ (t u : Table) (s r i j : ℕ) (w : Ready t u s r i j) where
   pub lt-t : i < length (t .processes)
-  lt-t = omega (arith, processes-length t (w .sound-t), slot-lt (view t) (facts t (w .sound-t)) i (seen-taken (view t) (facts t (w .sound-t)) s i (w .twin .seen-v)))
+  lt-t = omega (arith, processes-length t (w .sound-t), facts t (w .sound-t) .in-range i (seen-taken (view t) s i (w .twin .seen-v)))
 
   pub lt-u : j < length (u .processes)
-  lt-u = omega (arith, processes-length u (w .sound-u), slot-lt (view u) (facts u (w .sound-u)) j (seen-taken (view u) (facts u (w .sound-u)) r j (w .twin .seen-u)))
+  lt-u = omega (arith, processes-length u (w .sound-u), facts u (w .sound-u) .in-range j (seen-taken (view u) r j (w .twin .seen-u)))
 
   -- both change their signals alike
   signal-kept : (a b a′ b′ k l : ℕ) → a ≡ a′ → b ≡ b′ → k ≡ l → SoundTable (put t i (with-signals (process t i) a b)) → SoundTable (put u j (with-signals (process u j) a′ b′)) → Kept t u s r (answers (put t i (with-signals (process t i) a b)) k) (answers (put u j (with-signals (process u j) a′ b′)) l)

@@ -5,22 +5,23 @@ use mathlib.Core.Logic.{inl, inr}
 use mathlib.Core.Path.{_≡_, refl, sym, _∙_, ap, subst₂}
 use borrow.Author.Tests.{eqb-true, eqb-false, eq-eqb}
 use lib.Dec.{eqb}
-use Rattle.table.proofs.Laws.Facts.{Facts, facts, Sane, sane}
-use Rattle.table.proofs.Laws.Quant.{or-true}
-use Rattle.table.proofs.Laws.Slots.{seen-taken, seen-below, below-trans, alive-otherwise, root-only, up-level, alive-not-unborn}
+use Rattle.table.proofs.Keeps.BirthKeeps.{birth-view}
+use Rattle.table.proofs.Keeps.Premises.{free-slot-is}
+use Rattle.table.proofs.Laws.Below.{up-level, below-trans}
+use Rattle.table.proofs.Laws.Facts.{Facts, facts, Sane, sane, seen-taken, seen-below}
+use Rattle.table.proofs.Laws.Slots.{alive-otherwise, root-only, alive-not-unborn}
+use Rattle.table.proofs.Laws.Steps.{runs-lives}
+use Rattle.table.proofs.Laws.Tests.{isnt-so, or-true}
 use Rattle.table.proofs.Sameness.Anchor.{anchor-self, root-alive, is-unborn-name, is-dead-name, name-taken}
-use Rattle.table.proofs.Sameness.BirthPids.{Cradles}
 use Rattle.table.proofs.Sameness.BirthSame.{birth-same}
-use Rattle.table.proofs.Sameness.BirthTable.{grown, lights, the-child}
+use Rattle.table.proofs.Sameness.Born.{Cradles, next-twins}
 use Rattle.table.proofs.Sameness.Calls.{both-refuse, owns-twins, taken-s, taken-r, the-rows}
-use Rattle.table.proofs.Sameness.ExitSame.{runs-living}
 use Rattle.table.proofs.Sameness.Inside.{Kept, Ready, MadeSame, stands-same}
-use Rattle.table.proofs.Sameness.Namespaces.{children-taken, children-below, name-unborn, anchors-of}
-use Rattle.table.proofs.Sameness.NextPid.{next-twins}
-use Rattle.table.proofs.Sameness.Readers.{twin-eqb}
+use Rattle.table.proofs.Sameness.Readers.{twin-eqb, children-taken, children-below, name-unborn, anchors-of}
+use Rattle.table.proofs.Sameness.Same.{Same}
 use Rattle.table.proofs.Sameness.Twins.{Twin, Twins, bool-ext}
 use Rattle.table.specs.Answers.{is-no-room, refused, number-of, refusal-number}
-use Rattle.table.specs.Births.{birth, newborn}
+use Rattle.table.specs.Births.{birth}
 use Rattle.table.specs.Calls.{born, clone}
 use Rattle.table.specs.Limits.{process-slots}
 use Rattle.table.specs.Pids.{free-slot}
@@ -59,10 +60,10 @@ module _ (t u : Table) (s r c d : ℕ) (w : Ready t u s r c d) where
   fu = facts u (w .sound-u)
 
   lc : So (living (view t) c)
-  lc = runs-living t c (w .runs-t)
+  lc = runs-lives t c (w .runs-t)
 
   ld : So (living (view u) d)
-  ld = runs-living u d (w .runs-u)
+  ld = runs-lives u d (w .runs-u)
 
   hn : So (namespace-taken (view t) (view t .children c))
   hn = children-taken (view t) ft c lc
@@ -71,10 +72,10 @@ module _ (t u : Table) (s r c d : ℕ) (w : Ready t u s r c d) where
   hm = children-taken (view u) fu d ld
 
   bn : So (below (view t) (view t .children c) s)
-  bn = below-trans (view t) ft _ _ s (children-below (view t) ft c lc) (seen-below (view t) ft s c (w .twin .seen-v))
+  bn = below-trans (view t) ft _ _ s (children-below (view t) ft c lc) (seen-below (view t) s c (w .twin .seen-v))
 
   bm : So (below (view u) (view u .children d) r)
-  bm = below-trans (view u) fu _ _ r (children-below (view u) fu d ld) (seen-below (view u) fu r d (w .twin .seen-u))
+  bm = below-trans (view u) fu _ _ r (children-below (view u) fu d ld) (seen-below (view u) r d (w .twin .seen-u))
 
   names : name (view t) s (view t .children c) ≡ name (view u) r (view u .children d)
   unfolding row
@@ -88,10 +89,10 @@ module _ (t u : Table) (s r c d : ℕ) (w : Ready t u s r c d) where
   unborns = sym (name-unborn (view t) ft s _ hn) ∙ ap is-unborn-name names ∙ name-unborn (view u) fu r _ hm
 
   tc : So (taken (view t) c)
-  tc = seen-taken (view t) ft s c (w .twin .seen-v)
+  tc = seen-taken (view t) s c (w .twin .seen-v)
 
   td : So (taken (view u) d)
-  td = seen-taken (view u) fu r d (w .twin .seen-u)
+  td = seen-taken (view u) r d (w .twin .seen-u)
 
   cradles : dead (view t) (view t .children c) ≡ false → Cradles (view t) (view u) s r (view t .children c) (view u .children d)
   cradles nd = go (unborn (view t) (view t .children c)) refl
@@ -117,8 +118,8 @@ module _ (t u : Table) (s r c d : ℕ) (w : Ready t u s r c d) where
   holders : (i j : ℕ) → Twin (view t) (view u) s r i j → So (unborn (view t) (view t .children c)) → eqb (view t .children i) (view t .children c) ≡ eqb (view u .children j) (view u .children d)
   holders i j x h =
       let h′ = sym unborns ∙ h in
-      let ti = seen-taken (view t) ft s i (x .seen-v) in
-      let tj = seen-taken (view u) fu r j (x .seen-u) in
+      let ti = seen-taken (view t) s i (x .seen-v) in
+      let tj = seen-taken (view u) r j (x .seen-u) in
       let e = twin-eqb (view t) (view u) s r (w .pair) i j c d x (w .twin) in
       bool-ext _ _
       (λ q. eq-eqb _ _ (ap (view u .children) (eqb-true j d (sym e ∙ eq-eqb i c (ft .unborn-one _ hn h i c ti (eqb-true _ _ q) tc refl)))))
@@ -131,19 +132,18 @@ module _ (t u : Table) (s r c d : ℕ) (w : Ready t u s r c d) where
   fits-u = sane u (w .sound-u)
 
   born-kept : dead (view t) (view t .children c) ≡ false → (free-slot (view t) ≡ process-slots → ⊥) → (free-slot (view u) ≡ process-slots → ⊥) → SoundTable (birth t c (view t .children c)) → SoundTable (birth u d (view u .children d)) → Kept t u s r (born t c (birth t c (view t .children c))) (born u d (birth u d (view u .children d)))
-  unfolding newborn namespace-taken
+  unfolding namespace-taken
   born-kept nd rt ru h g =
-      let a = grown t fits-t c (view t .children c) hn rt in
-      let b = grown u fits-u d (view u .children d) hm ru in
-      let x = the-child t fits-t c (view t .children c) hn rt in
-      let y = the-child u fits-u d (view u .children d) hm ru in
+      let (lt, et) = free-slot-is (view t) rt in
+      let (lu, eu) = free-slot-is (view u) ru in
+      let ev = birth-view t (fits-t .shape-of) (fits-t .facts) c (view t .children c) hn lt in
+      let ew = birth-view u (fits-u .shape-of) (fits-u .facts) d (view u .children d) hm lu in
       inr (
         ap Number (next-twins (view t) (view u) s r (w .pair) _ _ (owns-twins t u s r c d w)),
         stands-same t u (birth t c (view t .children c)) (birth u d (view u .children d)) s r h g
-            (ap (λ (l : ℕ → ℕ). eqb s 0 or not (eqb (l s) 0)) (a .levels-same) ∙ taken-s t u s r c d w)
-            (ap (λ (l : ℕ → ℕ). eqb r 0 or not (eqb (l r) 0)) (b .levels-same) ∙ taken-r t u s r c d w)
-            (birth-same (view t) (view u) (view (birth t c (view t .children c))) (view (birth u d (view u .children d))) s r (w .pair) c d (view t .children c) (view u .children d) (free-slot (view t)) (free-slot (view u)) (w .twin) (cradles nd) hn hm bn bm a b (lights t fits-t c (view t .children c) hn rt) (lights u fits-u d (view u .children d) hm ru)
-            (ap (λ p. p .state) x ∙ sym (ap (λ p. p .state) y), ap (λ p. p .handled) x ∙ sym (ap (λ p. p .handled) y), ap (λ p. p .pending) x ∙ sym (ap (λ p. p .pending) y), ap (λ p. p .unshared) x ∙ sym (ap (λ p. p .unshared) y)) holders),
+            (ap (λ (x : View). eqb s 0 or not (eqb (x .level s) 0)) ev ∙ taken-s t u s r c d w)
+            (ap (λ (x : View). eqb r 0 or not (eqb (x .level r) 0)) ew ∙ taken-r t u s r c d w)
+            (subst₂ (λ (a b : View). Same a b s r) (sym ev) (sym ew) (birth-same (view t) (view u) s r (w .pair) c d (view t .children c) (view u .children d) (free-slot (view t)) (free-slot (view u)) (w .twin) (cradles nd) hn hm bn bm (isnt-so et) (isnt-so eu) lt lu holders)),
       )
 
 pub no-room-left : (t u : Table) (s r : ℕ) (y : Outcome) → Kept t u s r (refused t Eagain) y

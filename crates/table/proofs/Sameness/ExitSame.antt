@@ -8,38 +8,37 @@ use mathlib.Core.Path.{_≡_, refl, sym, _∙_, ap, ap₂, subst, subst₂}
 use borrow.Author.Tests.{eqb-true, eqb-false, eq-eqb}
 use lib.Dec.{eqb}
 use lib.IntN.{ℤ}
-use Rattle.table.proofs.Keeps.Changed.{namespace-count}
-use Rattle.table.proofs.Laws.Facts.{Facts, facts, Sane, sane}
-use Rattle.table.proofs.Laws.Quant.{left, right, both}
-use Rattle.table.proofs.Laws.Slots.{seen-below, alive-taken, init-pid, init-own, root-own, root-only, level-of-root, below-level, pid-unique, up-level, alive-up, init-seen}
-use Rattle.table.proofs.Laws.Steps.{remainder}
+use Rattle.table.proofs.Keeps.End.{end-sane, end-tree, end-view}
+use Rattle.table.proofs.Keeps.InitEnds.{subtree-gone}
+use Rattle.table.proofs.Laws.Below.{below-level, up-level}
+use Rattle.table.proofs.Laws.Facts.{Facts, Sane, sane, seen-taken, seen-below}
+use Rattle.table.proofs.Laws.Slots.{alive-taken, init-pid, init-own, root-only, pid-unique, alive-up, init-seen}
+use Rattle.table.proofs.Laws.Steps.{remainder, runs-lives}
+use Rattle.table.proofs.Laws.Tests.{right}
 use Rattle.table.proofs.Laws.Tree.{below-refl}
-use Rattle.table.proofs.Sameness.Calls.{both-refuse, both-change, owns-twins, own-lives, taken-s, taken-r}
-use Rattle.table.proofs.Sameness.DeliverSame.{Held, pair-of, EndSame}
-use Rattle.table.proofs.Sameness.EndInit.{fallen, fallen-shape}
-use Rattle.table.proofs.Sameness.EndInitSame.{init-same}
-use Rattle.table.proofs.Sameness.EndSame.{end-fits, end-same}
-use Rattle.table.proofs.Sameness.FreedRow.{freed-places}
+use Rattle.table.proofs.Sameness.Calls.{both-refuse, owns-twins, own-lives, taken-s, taken-r}
+use Rattle.table.proofs.Sameness.EndSame.{end-same, pair-of, Midway}
+use Rattle.table.proofs.Sameness.Freeing.{freed-alike, freed-sheets}
+use Rattle.table.proofs.Sameness.InitEnd.{init-same}
 use Rattle.table.proofs.Sameness.Inside.{Kept, Ready, MadeSame}
+use Rattle.table.proofs.Sameness.MemberEnd.{member-of}
 use Rattle.table.proofs.Sameness.Readers.{is-init-twins, pid-in-unseen}
 use Rattle.table.proofs.Sameness.Same.{Same}
-use Rattle.table.proofs.Sameness.SetChildrenSame.{same-freed-only, stands-freed}
 use Rattle.table.proofs.Sameness.Twins.{Pair, Twin, Twins, flip-pair, flip-twin, bool-ext, twins-unique}
 use Rattle.table.specs.Answers.{answers, granted}
 use Rattle.table.specs.Calls.{exit, status}
 use Rattle.table.specs.Ends.{end}
 use Rattle.table.specs.Events.{at}
 use Rattle.table.specs.Freeing.{freed}
-use Rattle.table.specs.Read.{View, alive, init, is-ended, is-init, is-running, living, namespace-taken, pid-in, pid-seen, seen, view}
+use Rattle.table.specs.Read.{View, alive, init, is-init, namespace-taken, pid-in, pid-seen, seen, view, taken}
 use Rattle.table.specs.Sound.{SoundTable, kept-end}
-use Rattle.table.specs.Step.{make, runs}
-use Rattle.table.specs.Tests.{_or_}
+use Rattle.table.specs.Step.{make}
+use Rattle.table.specs.Tests.{_or_, if_then_else_}
 use Rattle.table.specs.declared.Call.the-variants.{Exit}
 use Rattle.table.specs.declared.End.the-variants.{Exited}
 use Rattle.table.specs.declared.End.{End}
 use Rattle.table.specs.declared.Refusal.the-variants.{Ebusy}
-use Rattle.table.specs.declared.State.the-variants.{Running, Stopped, Ended}
-use Rattle.table.specs.declared.State.{State}
+use Rattle.table.specs.declared.State.the-variants.{Ended}
 use Rattle.table.specs.declared.Table.{Table}
 
 -- S and S
@@ -47,35 +46,23 @@ pub tops : (v u : View) (s r : ℕ) (w : Pair v u s r) → Twins v u s r s r
 tops v u s r w =
     record { lives-v = w .alive-v; lives-u = w .alive-u; below-v = below-refl v s; below-u = below-refl u r; inits = init-pid v (w .facts-v) s (w .alive-v) ∙ sym (init-pid u (w .facts-u) r (w .alive-u)) }
 
-pub runs-living : (t : Table) (i : ℕ) → So (runs (view t) i) → So (living (view t) i)
-unfolding runs living
-runs-living t i h = both _ _ (left _ _ h) (ap not (go (view t .state i) (right _ _ h)))
-  where
-    go : (x : State) → So (is-running x) → is-ended x ≡ false
-    go Running a = refl
-    go Stopped a = absurd (false≢true a)
-    go (Ended y) a = absurd (false≢true a)
-
 -- the root init calls inside S only if S is the root
-root-pid : (v : View) (f : Facts v) → v .pid 0 0 ≡ 1
-root-pid v f = f .root-pid
-
 zero-there : (v u : View) (s r : ℕ) (w : Pair v u s r) (i j : ℕ) → Twin v u s r i j → i ≡ 0 → j ≡ 0
 unfolding pid-seen
 zero-there v u s r w i j k z =
     pid-unique u (w .facts-u) r j 0 (alive-taken u (w .facts-u) r (w .alive-u)) (k .seen-u) zero-seen (sym (k .pids) ∙ one ∙ sym one′)
   where
     level-s : v .level s ≡ 0
-    level-s = omega (arith, below-level v (w .facts-v) (v .own i) s (seen-below v (w .facts-v) s i (k .seen-v)), ap (λ x. v .level (v .own x)) z ∙ ap (v .level) (root-own v (w .facts-v)) ∙ level-of-root v (w .facts-v))
+    level-s = omega (arith, below-level v (w .facts-v) (v .own i) s (seen-below v s i (k .seen-v)), ap (λ x. v .level (v .own x)) z ∙ ap (v .level) (w .facts-v .root-own) ∙ w .facts-v .root-level)
 
     r-root : r ≡ 0
     r-root = root-only u (w .facts-u) r (alive-taken u (w .facts-u) r (w .alive-u)) (omega (arith, w .same .levels, level-s))
 
     one : v .pid i (v .level s) ≡ 1
-    one = ap₂ (λ x y. v .pid x y) z level-s ∙ root-pid v (w .facts-v)
+    one = ap₂ (λ x y. v .pid x y) z level-s ∙ w .facts-v .root-pid
 
     one′ : u .pid 0 (u .level r) ≡ 1
-    one′ = ap (λ x. u .pid 0 x) (ap (u .level) r-root ∙ level-of-root u (w .facts-u)) ∙ root-pid u (w .facts-u)
+    one′ = ap (λ x. u .pid 0 x) (ap (u .level) r-root ∙ w .facts-u .root-level) ∙ w .facts-u .root-pid
 
     zero-seen : So (seen u r 0)
     zero-seen = subst₂ (λ x y. So (seen u x y)) (sym r-root) (w .facts-u .root-init) (init-seen u (w .facts-u) 0 0 (subst (λ x. So (alive u x)) r-root (w .alive-u)) (below-refl u 0))
@@ -93,10 +80,6 @@ above-zero v f s a l =
 unseen-above : (v : View) (f : Facts v) (s n : ℕ) → So (alive v s) → n ≡ s → 0 < v .level s → pid-in v s (init v (v .up n)) ≡ 0
 unseen-above v f s n a e l = ap (λ x. pid-in v s (init v (v .up x))) e ∙ above-zero v f s a l
 
-still-taken : (t : Table) (w : Sane t) (x : ℕ) (e : End) (n : ℕ) → So (namespace-taken (view t) n) → So (namespace-taken (view (fallen t w x e)) n)
-unfolding namespace-taken
-still-taken t w x e n h = ap (λ (l : ℕ → ℕ). eqb n 0 or not (eqb (l n) 0)) (fallen-shape t w x e .levels) ∙ h
-
 -- an init that is not the root's is of a namespace below the root
 init-positive : (v : View) (f : Facts v) (c s : ℕ) → So (is-init v c) → v .own c ≡ s → (c ≡ 0 → ⊥) → So (namespace-taken v s) → 0 < v .level s
 unfolding is-init
@@ -105,8 +88,13 @@ init-positive v f c s i o n h = lt-of (λ z. n (sym (eqb-true _ _ i) ∙ ap (ini
     lt-of : (v .level s ≡ 0 → ⊥) → 0 < v .level s
     lt-of k = omega arith
 
+-- a namespace that keeps its level stands on
+stands-as : (v u : View) (n : ℕ) → u .level n ≡ v .level n → So (namespace-taken v n) → So (namespace-taken u n)
+unfolding namespace-taken
+stands-as v u n e h = ap (λ x. eqb n 0 or not (eqb x 0)) e ∙ h
+
 module _ (t u : Table) (s r c d : ℕ) (w : Ready t u s r c d) (e : End) (ok : So (kept-end (Ended e))) where
-  held : Held t u s r s r
+  held : Midway t u s r s r
   held =
       record {
         fits-t = sane t (w .sound-t);
@@ -119,39 +107,51 @@ module _ (t u : Table) (s r c d : ℕ) (w : Ready t u s r c d) (e : End) (ok : S
 
   -- S lives on
   lives-on : (So (is-init (view t) c) → view t .own c ≡ s → ⊥) → SoundTable (freed (end t c e)) → SoundTable (freed (end u d e)) → Kept t u s r (answers (freed (end t c e)) 0) (answers (freed (end u d e)) 0)
-  unfolding EndSame
+  unfolding answers granted
   lives-on other h g =
-      let (x, move) = end-same t u s r s r c d e held (w .twin) (w .twin .seen-v) (runs-living t c (w .runs-t)) ok other in
-      both-change t u s r c d w _ _ 0 0 refl h g (stands-freed (end t c e) (x .fits-t .facts) s (x .alive-s)) (stands-freed (end u d e) (x .fits-u .facts) r (x .alive-r)) (same-freed-only (end t c e) (end u d e) s r (pair-of (end t c e) (end u d e) s r s r x))
+      let (x, move) = end-same t u s r s r c d e held (w .twin) (w .twin .seen-v) (runs-lives t c (w .runs-t)) ok other in
+      inr (refl, freed-alike t u _ _ (x .fits-t) (x .fits-u) s r (pair-of (end t c e) (end u d e) s r s r x))
 
   -- S's init ends
   dies : So (is-init (view t) c) → view t .own c ≡ s → (c ≡ 0 → ⊥) → (d ≡ 0 → ⊥) → SoundTable (freed (end t c e)) → SoundTable (freed (end u d e)) → Kept t u s r (answers (freed (end t c e)) 0) (answers (freed (end u d e)) 0)
-  unfolding answers granted end
-  dies ic oc nc nd h g = inr (refl, rw (ic, id, end) (freed-places t u (fallen t (held .fits-t) c e) (fallen u (held .fits-u) d e) (ft .facts) (fu .facts) s r (namespace-count _ (ft .shape-of)) (namespace-count _ (fu .shape-of)) (rw (ic, end) at h) (rw (id, end) at g) (still-taken t (held .fits-t) c e s (taken-s t u s r c d w)) (still-taken u (held .fits-u) d e r (taken-r t u s r c d w)) (ap (λ (l : ℕ → ℕ). l s) (fallen-shape t (held .fits-t) c e .levels)) (ap (λ (l : ℕ → ℕ). l r) (fallen-shape u (held .fits-u) d e .levels)) same))
+  unfolding answers granted
+  dies ic oc nc nd h g = inr (refl, freed-sheets t u (end t c e) (end u d e) ft fu s r (stands t (held .fits-t) c s tc (taken-s t u s r c d w)) (stands u (held .fits-u) d r td (taken-r t u s r c d w)) (λ k. ap (λ (l : ℕ → ℕ). l s) (end-tree t (held .fits-t) c e tc .1)) (λ k. ap (λ (l : ℕ → ℕ). l r) (end-tree u (held .fits-u) d e td .1)) same)
     where
       p : Pair (view t) (view u) s r
       p = w .pair
 
-      id : So (is-init (view u) d)
-      id = sym (is-init-twins (view t) (view u) s r p c d (w .twin) (own-lives t u s r c d w)) ∙ ic
+      tc : So (taken (view t) c)
+      tc = seen-taken (view t) s c (w .twin .seen-v)
 
-      ft : Sane (fallen t (held .fits-t) c e)
-      ft = rw (ic, end) at (end-fits t c e (held .fits-t) (runs-living t c (w .runs-t)) nc ok)
+      td : So (taken (view u) d)
+      td = seen-taken (view u) r d (w .twin .seen-u)
 
-      fu : Sane (fallen u (held .fits-u) d e)
-      fu = rw (id, end) at (end-fits u d e (held .fits-u) (runs-living u d (w .runs-u)) nd ok)
+      ft : Sane (end t c e)
+      ft = end-sane t (held .fits-t) c e (runs-lives t c (w .runs-t)) nc ok
 
-      same : Same (view (fallen t (held .fits-t) c e)) (view (fallen u (held .fits-u) d e)) s r
-      same = init-same t u s r s r held c d e (w .twin) (own-lives t u s r c d w) positive (unseen-above (view t) (w .pair .facts-v) s (view t .own c) (w .pair .alive-v) oc positive-s ∙ sym (unseen-above (view u) (w .pair .facts-u) r (view u .own d) (w .pair .alive-u) od positive-r))
+      fu : Sane (end u d e)
+      fu = end-sane u (held .fits-u) d e (runs-lives u d (w .runs-u)) nd ok
+
+      stands : (z : Table) (f : Sane z) (x n : ℕ) → So (taken (view z) x) → So (namespace-taken (view z) n) → So (namespace-taken (view (end z x e)) n)
+      stands z f x n tx k = stands-as (view z) (view (end z x e)) n (ap (λ (l : ℕ → ℕ). l n) (end-tree z f x e tx .1)) k
+
+      same : Same (view (end t c e)) (view (end u d e)) s r
+      same =
+          subst₂ (λ (a b : View). Same a b s r) (sym (end-view t (held .fits-t) c e tc)) (sym (end-view u (held .fits-u) d e td))
+          (subst₂ (λ (a b : Bool). Same (if a then subtree-gone (view t) (view t .own c) c e else member-of (view t) c e) (if b then subtree-gone (view u) (view u .own d) d e else member-of (view u) d e) s r) (sym ic) (sym id)
+          (init-same (view t) (view u) s r p c d e (w .twin) (own-lives t u s r c d w) positive (unseen-above (view t) (p .facts-v) s (view t .own c) (p .alive-v) oc positive-s ∙ sym (unseen-above (view u) (p .facts-u) r (view u .own d) (p .alive-u) od positive-r))))
         where
+          id : So (is-init (view u) d)
+          id = sym (is-init-twins (view t) (view u) s r p c d (w .twin) (own-lives t u s r c d w)) ∙ ic
+
           od : view u .own d ≡ r
-          od = twins-unique (view t) (view u) s r (w .pair) _ _ s r (owns-twins t u s r c d w) (tops (view t) (view u) s r (w .pair)) oc
+          od = twins-unique (view t) (view u) s r p _ _ s r (owns-twins t u s r c d w) (tops (view t) (view u) s r p) oc
 
           positive-s : 0 < view t .level s
-          positive-s = init-positive (view t) (w .pair .facts-v) c s ic oc nc (taken-s t u s r c d w)
+          positive-s = init-positive (view t) (p .facts-v) c s ic oc nc (taken-s t u s r c d w)
 
           positive-r : 0 < view u .level r
-          positive-r = omega (arith, positive-s, w .pair .same .levels)
+          positive-r = omega (arith, positive-s, p .same .levels)
 
           positive : 0 < view t .level (view t .own c)
           positive = omega (arith, positive-s, ap (view t .level) oc)

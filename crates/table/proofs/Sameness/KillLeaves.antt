@@ -6,23 +6,21 @@ use mathlib.Core.Path.{_≡_, refl, sym, _∙_, ap, subst}
 use lib.Dec.{eqb}
 use lib.IntN.{ℤ}
 use lib.ListN.{length}
-use Rattle.table.proofs.Keeps.Deliver.{Safe, deliver-sane}
+use Rattle.table.proofs.Keeps.Deliver.{Safe, deliver-sane, Good, action-good, deliver-all-sane}
+use Rattle.table.proofs.Keeps.End.{end-view}
 use Rattle.table.proofs.Keeps.Premises.{natural-low, targets-safe}
-use Rattle.table.proofs.Laws.Facts.{Facts, facts, Sane, sane}
+use Rattle.table.proofs.Laws.Facts.{Facts, facts, Sane, sane, lives-taken}
 use Rattle.table.proofs.Laws.Lists.{some-of-false}
-use Rattle.table.proofs.Laws.Quant.{both, or-false-left, or-false-right}
-use Rattle.table.proofs.Laws.Slots.{namespace-lt, own-taken, living-own-alive, living-taken}
-use Rattle.table.proofs.Sameness.BirthLeaves.{same-trans}
-use Rattle.table.proofs.Sameness.DeliverEnded.{deliver-nothing, ended-end}
-use Rattle.table.proofs.Sameness.DeliverSame.{not-living-put, resumed-placed}
-use Rattle.table.proofs.Sameness.EndLeaves.{unlike, end-still, end-dies, end-back, freed-back, lives-on, not-own}
-use Rattle.table.proofs.Sameness.Light.{Placed, put-light, put-other}
-use Rattle.table.proofs.Sameness.Outside.{MadeLeaves, as-it-was}
-use Rattle.table.proofs.Sameness.Remain.{seen-remain}
-use Rattle.table.proofs.Sameness.Same.{Same}
-use Rattle.table.proofs.Sameness.SetChildrenSame.{everyone, light-remain}
-use Rattle.table.proofs.Sameness.Still.{Still, same-still, stands-still, below-still, near, near-here, near-up, near-own, near-children, freed-after}
-use Rattle.table.proofs.Sameness.WaitLeaves.{untouched-made}
+use Rattle.table.proofs.Laws.Slots.{own-taken, living-own-alive}
+use Rattle.table.proofs.Laws.Tests.{isnt-so, both, or-false-left, or-false-right}
+use Rattle.table.proofs.Sameness.EndLeaves.{end-still, end-dies, end-back, freed-back, lives-on, not-own}
+use Rattle.table.proofs.Sameness.EndSame.{ended-end}
+use Rattle.table.proofs.Sameness.Freeing.{freed-leaves}
+use Rattle.table.proofs.Sameness.Kill.{not-living-put, resumed-placed, action-none}
+use Rattle.table.proofs.Sameness.Light.{Placed}
+use Rattle.table.proofs.Sameness.Outside.{MadeLeaves, as-it-was, untouched-made}
+use Rattle.table.proofs.Sameness.Same.{Same, same-trans}
+use Rattle.table.proofs.Sameness.Still.{Still, same-still, stands-still, below-still, near, near-here, put-still}
 use Rattle.table.specs.Answers.{answers, granted, is-refused, refused}
 use Rattle.table.specs.Calls.{kill, names-group, natural, targets, within}
 use Rattle.table.specs.Delivery.{act, action-on, deliver, deliver-all, with-pending}
@@ -30,7 +28,7 @@ use Rattle.table.specs.Ends.{end}
 use Rattle.table.specs.Events.{at, follow, is-inside, sheet-of}
 use Rattle.table.specs.Freeing.{freed}
 use Rattle.table.specs.Limits.{namespace-slots, signals}
-use Rattle.table.specs.Read.{View, alive, below, is-init, living, namespace-taken, pid-at, pid-in, process, seen, taken, view}
+use Rattle.table.specs.Read.{View, alive, below, is-init, living, namespace-taken, process, seen, taken, view}
 use Rattle.table.specs.Records.{put, with-state}
 use Rattle.table.specs.Sheet.{sheet}
 use Rattle.table.specs.Sound.{SoundTable}
@@ -79,50 +77,14 @@ onward t₀ t t′ s g w d b z =
       ended = λ i k. z i (g .ended i k);
     }
 
--- one outside S changed in its lights
-put-still : (t : Table) (f : Facts (view t)) (c : ℕ) (p : Process) → Placed p (process t c) → (s : ℕ) → seen (view t) s c ≡ false → Still (view t) (view (put t c p)) s (near (view t) s)
-put-still t f c p k s o =
-    record {
-      here = near-here (view t) f s;
-      up-kept = near-up (view t) f s;
-      own-kept = near-own (view t) f s;
-      children-kept = near-children (view t) f s;
-      ups = λ n h. refl;
-      levels = λ n h. refl;
-      lives = λ n h. refl;
-      seens = λ i. seen-remain (view t) (view (put t c p)) everyone everyone f (light-remain (view t) (view (put t c p)) (put-light t c p k)) s i refl;
-      owns = λ i h. ap (λ q. q .own .0) (same i h);
-      pids = λ i l h. ap (λ q. pid-at q l) (same i h);
-      states = λ i h. ap (λ q. q .state) (same i h);
-      handleds = λ i h. ap (λ q. q .handled) (same i h);
-      pendings = λ i h. ap (λ q. q .pending) (same i h);
-      marks = λ i h. ap (λ q. q .unshared) (same i h);
-      childrens = λ i h. ap (λ q. q .children .0) (same i h);
-      parents = λ i h. ap (λ q. pid-in (view t) s (q .parent .0)) (same i h);
-      lasts = λ i h. refl;
-    }
-  where
-    same : (i : ℕ) → So (seen (view t) s i) → process (put t c p) i ≡ process t i
-    same i h = put-other t c p k i (λ e. false≢true (sym o ∙ ap (seen (view t) s) (sym e) ∙ h))
+-- a delivery to one that does not live does nothing
+deliver-nothing : (t : Table) (f x n : ℕ) → living (view t) x ≡ false → deliver t f x n ≡ t
+unfolding deliver act
+deliver-nothing t f x n h = ap (act t x n) (action-none (view t) f x n h)
 
 action-zero : (v : View) (f x n : ℕ) → eqb n 0 ≡ true → action-on v f x n ≡ Nothing
 unfolding action-on _or_
 action-zero v f x n e = rw (e, action-on) refl
-
--- ---- what lives after deliveries lived before
-
-apply-back : (t : Table) (x n : ℕ) (e : Action) (m : ℕ) → So (alive (view (act t x n e)) m) → So (alive (view t) m)
-unfolding act
-apply-back t x n Nothing m k = k
-apply-back t x n Resume m k = k
-apply-back t x n Stop m k = k
-apply-back t x n Finish m k = end-back t x (Signaled n) m k
-apply-back t x n Pend m k = k
-
-all-back : (xs : List ℕ) (t : Table) (f n m : ℕ) → So (alive (view (deliver-all t f xs n)) m) → So (alive (view t) m)
-unfolding deliver-all deliver
-all-back [] t f n m k = k
-all-back (x ∷ xs) t f n m k = apply-back t x n (action-on (view t) f x n) m (all-back xs (deliver t f x n) f n m k)
 
 -- ---- deliveries
 
@@ -139,16 +101,16 @@ module _ (t₀ t : Table) (s x n : ℕ) (g : Going t₀ t s) (o : seen (view t) 
 
   finished : Sane (end t x (Signaled n)) → Above t₀ s (end t x (Signaled n)) → Going t₀ (end t x (Signaled n)) s
   finished w h =
-      onward t₀ t (end t x (Signaled n)) s g (w) (end-still t (g .fits) x (Signaled n) l s o not-above) (end-back t x (Signaled n))
-      (ended-end t (g .fits) x (Signaled n))
+      onward t₀ t (end t x (Signaled n)) s g (w) (end-still t (g .fits) x (Signaled n) l s o not-above) (end-back t (g .fits) x (Signaled n) tx)
+      (λ i. subst (λ u. living (view t) i ≡ false → living u i ≡ false) (sym (end-view t (g .fits) x (Signaled n) tx)) (ended-end (view t) x (Signaled n) i))
     where
       tx : So (taken (view t) x)
-      tx = living-taken (view t) f x l
+      tx = lives-taken (view t) x l
 
       not-above : So (is-init (view t) x) → below (view t) s (view t .own x) ≡ false
       not-above i =
-          unlike _
-          (λ b. h (view t .own x) (namespace-lt (view t) f _ (own-taken (view t) f x tx)) (not-own t s x tx o) (sym (g .aboves (view t .own x)) ∙ b) (g .backs _ (living-own-alive (view t) f x l)) (end-dies t (g .fits) x (Signaled n) tx i))
+          isnt-so
+          (λ b. h (view t .own x) (f .in-namespace _ (own-taken (view t) f x tx)) (not-own t s x tx o) (sym (g .aboves (view t .own x)) ∙ b) (g .backs _ (living-own-alive (view t) f x l)) (end-dies t (g .fits) x (Signaled n) tx i))
 
   applied : (e : Action) → Sane (act t x n e) → Above t₀ s (act t x n e) → Going t₀ (act t x n e) s
   unfolding act with-pending
@@ -159,6 +121,20 @@ module _ (t₀ t : Table) (s x n : ℕ) (g : Going t₀ t s) (o : seen (view t) 
   applied Pend w h = light (with-pending (process t x) n) (record { owns = refl; parents = refl; pids = refl }) w
 
 module _ (from n : ℕ) (low : n < signals) where
+  -- what lives after deliveries lived before
+  act-back : (t : Table) → Sane t → (x : ℕ) (e : Action) → Good (view t) x n e → (m : ℕ) → So (alive (view (act t x n e)) m) → So (alive (view t) m)
+  unfolding act
+  act-back t w x Nothing g m k = k
+  act-back t w x Resume g m k = k
+  act-back t w x Stop g m k = k
+  act-back t w x Finish g m k = end-back t w x (Signaled n) (lives-taken (view t) x (g .0)) m k
+  act-back t w x Pend g m k = k
+
+  all-back : (xs : List ℕ) (t : Table) → Sane t → Safe from xs → (m : ℕ) → So (alive (view (deliver-all t from xs n)) m) → So (alive (view t) m)
+  unfolding deliver-all deliver
+  all-back [] t w safe m k = k
+  all-back (x ∷ xs) t w safe m k = act-back t w x (action-on (view t) from x n) (action-good (view t) x n from (w .facts) (safe .0)) m (all-back xs (deliver t from x n) (deliver-sane t w x n low from (safe .0)) (safe .1) m k)
+
   -- a target outside S, or one that has ended
   deliver-going : (t₀ t : Table) (s x : ℕ) → (x ≡ 0 → from ≡ 0) → Going t₀ t s → seen (view t₀) s x and living (view t₀) x ≡ false → Above t₀ s (deliver t from x n) → Going t₀ (deliver t from x n) s
   unfolding deliver
@@ -170,7 +146,7 @@ module _ (from n : ℕ) (low : n < signals) where
 
       go : (b : Bool) → living (view t) x ≡ b → Going t₀ (deliver t from x n) s
       go true l =
-          applied t₀ t s x n g (unlike _ (λ k. false≢true (sym o ∙ both _ _ (sym (g .seens x) ∙ k) (lived l (living (view t₀) x) refl)))) l (action-on (view t) from x n)
+          applied t₀ t s x n g (isnt-so (λ k. false≢true (sym o ∙ both _ _ (sym (g .seens x) ∙ k) (lived l (living (view t₀) x) refl)))) l (action-on (view t) from x n)
           (deliver-sane t (g .fits) x n low from safe) h
       go false l = subst (λ u. Going t₀ u s) (sym (deliver-nothing t from x n l)) g
 
@@ -179,7 +155,7 @@ module _ (from n : ℕ) (low : n < signals) where
   all-going [] t₀ t s safe g o h = g
   all-going (x ∷ xs) t₀ t s safe g o h =
       all-going xs t₀ (deliver t from x n) s (safe .1)
-      (deliver-going t₀ t s x (safe .0) g (some-of-false _ x xs o .0) (λ m l a b c k. h m l a b c (unlike _ (λ y. false≢true (sym k ∙ all-back xs (deliver t from x n) from n m y)))))
+      (deliver-going t₀ t s x (safe .0) g (some-of-false _ x xs o .0) (λ m l a b c k. h m l a b c (isnt-so (λ y. false≢true (sym k ∙ all-back xs (deliver t from x n) (deliver-sane t (g .fits) x n low from (safe .0)) (safe .1) m y)))))
       (some-of-false _ x xs o .1) h
 
 -- signal 0 does nothing
@@ -207,14 +183,14 @@ kill-leaves z n t s i h hs k a g = go (within 0 signals n) refl (names-group z) 
     done low o g true e =
         let q = all-zero xs t (view t .own i) (natural n) e in
         let w = start t s (sane t h) hs in
-        subst (λ y. sheet-of (freed y) (follow t (freed y) (at s)) ≡ sheet (view t) s) (sym q) (freed-after t t s h (sane t h) (subst (λ y. SoundTable (freed y)) q g) hs hs (w .same))
+        subst (λ y. sheet-of (freed y) (follow t (freed y) (at s)) ≡ sheet (view t) s) (sym q) (freed-leaves t t s h (sane t h) hs hs (w .same))
     done low o g false e =
-        freed-after t t₁ s h (w .fits) g hs (w .stands) (w .same)
+        freed-leaves t t₁ s h (w .fits) hs (w .stands) (w .same)
       where
         w : Going t t₁ s
         w =
-            all-going (view t .own i) (natural n) low xs t t s (targets-safe (view t) (sane t h .facts) i z) (start t s (sane t h) hs) (sent (eqb (natural n) 0) (some-of (λ j. is-inside t (at s) j and living (view t) j) xs) e (or-false-left _ _ o))
-            (λ m l c b d y. lives-on t (freed t₁) s (or-false-right _ _ o) m l c b d (unlike _ (λ v. false≢true (sym y ∙ freed-back t₁ m v))))
+            all-going (view t .own i) (natural n) low xs t t s (targets-safe (view t) (facts t h) i z) (start t s (sane t h) hs) (sent (eqb (natural n) 0) (some-of (λ j. is-inside t (at s) j and living (view t) j) xs) e (or-false-left _ _ o))
+            (λ m l c b d y. lives-on t (freed t₁) s (or-false-right _ _ o) m l c b d (isnt-so (λ v. false≢true (sym y ∙ freed-back t₁ (deliver-all-sane t (sane t h) (view t .own i) (natural n) low xs (targets-safe (view t) (facts t h) i z)) m v))))
 
     go : (x : Bool) → within 0 signals n ≡ x → (y : Bool) → names-group z ≡ y → (b : Bool) → eqb (length (targets (view t) i z)) 0 ≡ b → SoundTable (kill t i z n .table) → sheet-of (kill t i z n .table) (follow t (kill t i z n .table) (at s)) ≡ sheet (view t) s
     go false ea y eb b ec g = rw (ea, kill) (as-it-was t s hs)

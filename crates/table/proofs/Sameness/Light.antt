@@ -1,34 +1,41 @@
 -- A change that leaves who is where: own namespaces, parents, numbers and all of the namespaces.
-use Prim.Native.Nat.{ℕ, _-_, _<_}
-use mathlib.Core.Bool.{Bool, false, false≢true}
-use mathlib.Core.List.{List, _∷_, map, []}
-use mathlib.Core.Logic.{inl, inr}
-use mathlib.Core.Path.{_≡_, refl, sym, _∙_, ap, ap₂, fun-ext}
+use Prim.Native.Nat.{ℕ, _<_, zero, suc}
+use mathlib.Core.Bool.{false≢true}
+use mathlib.Core.List.{List, _∷_, []}
+use mathlib.Core.Path.{_≡_, refl, sym, _∙_, ap, fun-ext}
 use lib.Dec.{eqb}
-use lib.ListN.{getD, length}
+use lib.ListN.{getD, length, set}
 use lib.Seq.{getD-set-same, getD-set-other}
-use Rattle.table.proofs.Laws.Frame.{read-set}
-use Rattle.table.proofs.Laws.Lists.{In}
-use Rattle.table.proofs.Sameness.Same.{Same, listed-seen}
-use Rattle.table.proofs.Sameness.Twins.{Pair, Twin, twin-rows, twin-there, flip-pair, flip-twin}
+use Rattle.table.proofs.Sameness.Remain.{Remain, everyone, same-remain}
+use Rattle.table.proofs.Sameness.Same.{Same}
+use Rattle.table.proofs.Sameness.Twins.{Pair, Twin, twin-rows}
 use Rattle.table.specs.Limits.{levels, no-slot}
-use Rattle.table.specs.Read.{View, all-seen, below, init, is-init, no-process, pid-at, pid-in, pid-seen, process, seen, taken, view}
+use Rattle.table.specs.Read.{View, below, init, is-init, no-process, pid-at, pid-in, pid-seen, process, seen, taken, view}
 use Rattle.table.specs.Records.{put}
-use Rattle.table.specs.Sheet.{Name, Row, by-init, dead-at, name, name-by, nearest-alive, no-name, row, sheet}
-use Rattle.table.specs.Tests.{if_then_else_, values}
+use Rattle.table.specs.Sheet.{Row, by-init, dead-at, name, name-by, nearest-alive, no-name, row}
+use Rattle.table.specs.Tests.{if_then_else_}
 use Rattle.table.specs.declared.Life.the-variants.{Unborn, Alive, Dead}
 use Rattle.table.specs.declared.Life.{Life}
 use Rattle.table.specs.declared.Process.{Process}
-use Rattle.table.specs.declared.State.{State}
 use Rattle.table.specs.declared.Table.{Table}
 
 -- the places of v, and the rest of x
 abbrev pub relight : View → View → View
 relight v x = record { own = v .own; children = x .children; parent = v .parent; state = x .state; ended = x .ended; handled = x .handled; pending = x .pending; unshared = x .unshared; pid = v .pid; up = v .up; level = v .level; last = v .last; life = v .life }
 
--- a row by its light parts
-abbrev lit : View → ℕ → ℕ → State → ℕ → ℕ → Bool → Name → Row
-lit v s i st h q m c = record { pids = values (v .pid i) (levels - v .level s) (v .level s); state = st; handled = h; pending = q; unshared = m; parent = pid-in v s (v .parent i); own = name v s (v .own i); children = c; last = if is-init v i then v .last (v .own i) else 0 }
+pub light-remain : (v v′ : View) → v′ ≡ relight v v′ → Remain v v′ everyone everyone
+light-remain v v′ p =
+    record {
+      owns = λ i q. ap (λ (y : View). y .own i) p;
+      pids = λ i l q. ap (λ (y : View). y .pid i l) p;
+      gone = λ i q. absurd (false≢true (sym q));
+      ups = λ n h. ap (λ (y : View). y .up n) p;
+      levels = λ n h. ap (λ (y : View). y .level n) p;
+      lives = λ n h. ap (λ (y : View). y .life n) p;
+      up-kept = λ n k h e. refl;
+      own-kept = λ i q h. refl;
+      init-kept = λ n h a. refl;
+    }
 
 relit-pid : (v x : View) (s i : ℕ) → pid-in (relight v x) s i ≡ pid-in v s i
 unfolding pid-in seen taken pid-seen below
@@ -44,29 +51,6 @@ relit-name : (v x : View) (s n : ℕ) → name (relight v x) s n ≡ name v s n
 unfolding name
 relit-name v x s n = ap (λ y. if eqb n no-slot then no-name else y) (relit-by v x s n (v .life n))
 
-relit-row : (v x : View) (s i : ℕ) → row (relight v x) s i ≡ lit v s i (x .state i) (x .handled i) (x .pending i) (x .unshared i) (name v s (x .children i))
-unfolding row is-init
-relit-row v x s i =
-    λ k. record { pids = values (v .pid i) (levels - v .level s) (v .level s); state = x .state i; handled = x .handled i; pending = x .pending i; unshared = x .unshared i; parent = relit-pid v x s (v .parent i) k; own = relit-name v x s (v .own i) k; children = relit-name v x s (x .children i) k; last = if is-init v i then v .last (v .own i) else 0 }
-
-row-lit : (v : View) (s i : ℕ) → row v s i ≡ lit v s i (v .state i) (v .handled i) (v .pending i) (v .unshared i) (name v s (v .children i))
-unfolding row
-row-lit v s i = refl
-
-relit-seen : (v x : View) (s i : ℕ) → seen (relight v x) s i ≡ seen v s i
-unfolding seen taken below
-relit-seen v x s i = refl
-
-relit-all-seen : (v x : View) (s : ℕ) → all-seen (relight v x) s ≡ all-seen v s
-unfolding all-seen seen taken below pid-seen
-relit-all-seen v x s = refl
-
--- a row of lights that are the same, where the rest is
-lit-same : (v u : View) (s r i j : ℕ) → row v s i ≡ row u r j → (st st′ : State) (h h′ q q′ : ℕ) (m m′ : Bool) (c c′ : Name) → st ≡ st′ → h ≡ h′ → q ≡ q′ → m ≡ m′ → c ≡ c′ → lit v s i st h q m c ≡ lit u r j st′ h′ q′ m′ c′
-unfolding row
-lit-same v u s r i j e st st′ h h′ q q′ m m′ c c′ es eh eq em ec =
-    λ k. record { pids = e k .pids; state = es k; handled = eh k; pending = eq k; unshared = em k; parent = e k .parent; own = e k .own; children = ec k; last = e k .last }
-
 -- ---- two tables
 
 -- what a twin pair's lights are after
@@ -77,41 +61,39 @@ pub record Lights (v u v′ u′ : View) (s r i j : ℕ) : Type 0 where
   pub marks : v′ .unshared i ≡ u′ .unshared j
   pub childrens : name v s (v′ .children i) ≡ name u r (u′ .children j)
 
-module _ (v u v′ u′ : View) (s r : ℕ) (w : Pair v u s r) (pv : v′ ≡ relight v v′) (pu : u′ ≡ relight u u′) (h : (i j : ℕ) → Twin v u s r i j → Lights v u v′ u′ s r i j) where
-  light-rows : (i j : ℕ) → Twin v u s r i j → row v′ s i ≡ row u′ r j
-  light-rows i j k =
-      ap (λ y. row y s i) pv ∙ relit-row v v′ s i
-      ∙ lit-same v u s r i j (twin-rows v u s r w i j k) _ _ _ _ _ _ _ _ _ _ (h i j k .states) (h i j k .handleds) (h i j k .pendings) (h i j k .marks) (h i j k .childrens)
-      ∙ sym (ap (λ y. row y r j) pu ∙ relit-row u u′ r j)
+pub same-light : (v u v′ u′ : View) (s r : ℕ) → Pair v u s r → v′ ≡ relight v v′ → u′ ≡ relight u u′ → ((i j : ℕ) → Twin v u s r i j → Lights v u v′ u′ s r i j) → Same v′ u′ s r
+unfolding row
+same-light v u v′ u′ s r w pv pu h =
+    same-remain v u v′ u′ s r w everyone everyone everyone everyone (light-remain v v′ pv) (light-remain u u′ pu) refl refl (λ i j k. refl)
+    (λ i j k q.
+    let rows = twin-rows v u s r w i j k in
+    let l = h i j k in
+    record {
+      states = l .states;
+      handleds = l .handleds;
+      pendings = l .pendings;
+      marks = l .marks;
+      parents = parent v v′ s i pv ∙ ap (λ (o : Row). o .parent) rows ∙ sym (parent u u′ r j pu);
+      childrens = children v v′ s i pv ∙ l .childrens ∙ sym (children u u′ r j pu);
+      lasts = last v v′ i pv ∙ ap (λ (o : Row). o .last) rows ∙ sym (last u u′ j pu);
+    })
+  where
+    parent : (x y : View) (q a : ℕ) → y ≡ relight x y → pid-in y q (y .parent a) ≡ pid-in x q (x .parent a)
+    parent x y q a e = ap (λ (z : View). pid-in z q (z .parent a)) e ∙ relit-pid x y q (x .parent a)
 
-  seen-v : (i : ℕ) → seen v′ s i ≡ seen v s i
-  seen-v i = ap (λ y. seen y s i) pv ∙ relit-seen v v′ s i
+    children : (x y : View) (q a : ℕ) → y ≡ relight x y → name y q (y .children a) ≡ name x q (y .children a)
+    children x y q a e = ap (λ (z : View). name z q (y .children a)) e ∙ relit-name x y q (y .children a)
 
-  seen-u : (j : ℕ) → seen u′ r j ≡ seen u r j
-  seen-u j = ap (λ y. seen y r j) pu ∙ relit-seen u u′ r j
+    last : (x y : View) (a : ℕ) → y ≡ relight x y → (if is-init x a then y .last (x .own a) else 0) ≡ (if is-init x a then x .last (x .own a) else 0)
+    last x y a e = ap (λ (z : View). if is-init x a then z .last (x .own a) else 0) e
 
-  pub same-light : Same v′ u′ s r
-  same-light =
-      record {
-        levels = ap (λ (y : View). y .level s) pv ∙ w .same .levels ∙ sym (ap (λ (y : View). y .level r) pu);
-        there = λ i a. let (j, k) = twin-there v u s r w i (sym (seen-v i) ∙ a) in (j, seen-u j ∙ k .seen-u, light-rows i j k);
-        back = λ j a. let (i, k) = twin-there u v r s (flip-pair v u s r w) j (sym (seen-u j) ∙ a) in (i, seen-v i ∙ k .seen-u, light-rows i j (flip-twin u v r s j i k));
-      }
-
--- ---- one table
-
-map-same : {A B : Type 0} (f g : A → B) (l : List A) → ((x : A) → In x l → f x ≡ g x) → map f l ≡ map g l
-map-same f g [] h = refl
-map-same f g (x ∷ l) h = ap₂ _∷_ (h x (inl refl)) (map-same f g l (λ y m. h y (inr m)))
-
--- a sheet whose rows keep their lights
-pub sheet-light : (v v′ : View) (s : ℕ) → v′ ≡ relight v v′ → ((i : ℕ) → In i (all-seen v s) → row v′ s i ≡ row v s i) → sheet v′ s ≡ sheet v s
-unfolding sheet
-sheet-light v v′ s p h =
-    λ k. record {
-      level = p k .level s;
-      rows = (ap (λ y. map (row v′ s) (all-seen y s)) p ∙ ap (map (row v′ s)) (relit-all-seen v v′ s) ∙ map-same (row v′ s) (row v s) (all-seen v s) h) k;
-    }
+-- what is read of an element, if it is read of the stored one as of the old, is unchanged everywhere
+read-set : {A B : Type 0} (g : A → B) (d : A) (l : List A) (c : ℕ) (x : A) → g x ≡ g (getD l c d) → (i : ℕ) → g (getD (set l c x) i d) ≡ g (getD l i d)
+read-set g d [] c x e i = refl
+read-set g d (y ∷ l) zero x e zero = e
+read-set g d (y ∷ l) zero x e (suc i) = refl
+read-set g d (y ∷ l) (suc c) x e zero = refl
+read-set g d (y ∷ l) (suc c) x e (suc i) = read-set g d l c x e i
 
 -- ---- a process put at its slot, with its place kept
 
@@ -144,17 +126,3 @@ module _ (t : Table) (c : ℕ) (p : Process) (k : Placed p (process t c)) where
 
   pub put-other : (i : ℕ) → (i ≡ c → ⊥) → process (put t c p) i ≡ process t i
   put-other i n = getD-set-other (t .processes) c i p no-process n
-
--- ---- an outsider's change of its own lights leaves the sheet
-
-pub row-light : (v v′ : View) (s i : ℕ) → v′ ≡ relight v v′ → v′ .state i ≡ v .state i → v′ .handled i ≡ v .handled i → v′ .pending i ≡ v .pending i → v′ .unshared i ≡ v .unshared i → v′ .children i ≡ v .children i → row v′ s i ≡ row v s i
-row-light v v′ s i p a b c d e =
-    ap (λ y. row y s i) p ∙ relit-row v v′ s i
-    ∙ lit-same v v s s i i refl _ _ _ _ _ _ _ _ _ _ a b c d (ap (name v s) e)
-    ∙ sym (row-lit v s i)
-
-pub put-outside : (t : Table) (s c : ℕ) (p : Process) → Placed p (process t c) → seen (view t) s c ≡ false → sheet (view (put t c p)) s ≡ sheet (view t) s
-put-outside t s c p k o =
-    sheet-light (view t) (view (put t c p)) s (put-light t c p k)
-    (λ i m. let e = put-other t c p k i (λ q. false≢true (sym o ∙ ap (seen (view t) s) (sym q) ∙ listed-seen (view t) s i m)) in
-    row-light (view t) (view (put t c p)) s i (put-light t c p k) (ap (λ q. q .state) e) (ap (λ q. q .handled) e) (ap (λ q. q .pending) e) (ap (λ q. q .unshared) e) (ap (λ q. q .children .0) e))

@@ -2,37 +2,37 @@
 use Prim.Native.Nat.{ℕ, suc, _<_}
 use native.Mathlib.Omega.{arith}
 use mathlib.Core.Bool.{Bool, true, false, not, So, false≢true}
-use mathlib.Core.Logic.{inl, inr, ⊎-elim}
+use mathlib.Core.Logic.{inr, ⊎-elim}
 use mathlib.Core.Path.{_≡_, refl, sym, _∙_, ap, subst, subst₂}
 use borrow.Author.Tests.{eqb-false, ne-eqb}
 use lib.Dec.{eqb}
 use lib.Seq.{getD-set-same, getD-set-other}
+use Rattle.table.proofs.Keeps.BirthKeeps.{birth-view}
 use Rattle.table.proofs.Keeps.Changed.{process-count, namespace-count}
-use Rattle.table.proofs.Keeps.Changes.{namespace-sane}
-use Rattle.table.proofs.Laws.Facts.{Facts, facts, Sane, sane}
-use Rattle.table.proofs.Laws.Quant.{isnt, or-right, or-false-left, or-false-right}
-use Rattle.table.proofs.Laws.Slots.{seen-taken, slot-lt, own-taken, up-taken, alive-taken, children-of, below-trans}
-use Rattle.table.proofs.Sameness.Anchor.{up-below}
-use Rattle.table.proofs.Sameness.BirthPids.{Cradles}
+use Rattle.table.proofs.Keeps.Changes.{namespace-sane, unshare-sane}
+use Rattle.table.proofs.Keeps.Premises.{free-slot-is}
+use Rattle.table.proofs.Laws.Below.{below-trans}
+use Rattle.table.proofs.Laws.Facts.{Facts, facts, Sane, sane, seen-taken}
+use Rattle.table.proofs.Laws.Slots.{own-taken, up-taken, alive-taken, children-of}
+use Rattle.table.proofs.Laws.Steps.{runs-lives}
+use Rattle.table.proofs.Laws.Tests.{isnt-so, isnt, or-right, or-false-left, or-false-right}
+use Rattle.table.proofs.Sameness.Anchor.{up-below, name-no-slot}
 use Rattle.table.proofs.Sameness.BirthSame.{birth-same}
-use Rattle.table.proofs.Sameness.BirthTable.{grown, lights, the-child}
-use Rattle.table.proofs.Sameness.Calls.{shown, both-refuse, both-change, owns-twins, own-lives}
+use Rattle.table.proofs.Sameness.Born.{Cradles, next-twins}
+use Rattle.table.proofs.Sameness.Calls.{shown, both-refuse, owns-twins, own-lives, same-put}
 use Rattle.table.proofs.Sameness.CloneSame.{no-room-left, no-room-right, one-up}
-use Rattle.table.proofs.Sameness.ExitSame.{runs-living}
-use Rattle.table.proofs.Sameness.Find.{lowest-cases}
+use Rattle.table.proofs.Sameness.Freeing.{freed-alike}
 use Rattle.table.proofs.Sameness.Inside.{Kept, Ready, MadeSame, stands-same}
-use Rattle.table.proofs.Sameness.Light.{Placed, put-light}
-use Rattle.table.proofs.Sameness.NextPid.{next-twins}
-use Rattle.table.proofs.Sameness.Remain.{Remain, Lit, same-remain, standing, pid-in-remain, name-remain, seen-remain, pid-remain}
-use Rattle.table.proofs.Sameness.SetChildrenSame.{everyone, name-no-slot, same-set-children, remain-set-children, alive-kept}
+use Rattle.table.proofs.Sameness.Remain.{Remain, Lit, same-remain, standing, pid-in-remain, name-remain, seen-remain, pid-remain, everyone}
+use Rattle.table.proofs.Sameness.Same.{Same, lowest-cases}
 use Rattle.table.proofs.Sameness.Twins.{Pair, Twin, Twins, twin-rows, twins-level, owns}
 use Rattle.table.specs.Answers.{answers, granted}
-use Rattle.table.specs.Births.{birth, newborn}
+use Rattle.table.specs.Births.{birth}
 use Rattle.table.specs.Calls.{born, clone-new, new-namespace, own-level, set-children, unshare}
 use Rattle.table.specs.Limits.{deepest, namespace-slots, no-slot, process-slots}
 use Rattle.table.specs.Pids.{free-namespace-slot, free-slot}
 use Rattle.table.specs.Read.{View, alive, below, is-alive, is-init, is-unborn, namespace, namespace-taken, no-namespace, pid-in, process, taken, unborn, view}
-use Rattle.table.specs.Records.{put, to-pid, with-children}
+use Rattle.table.specs.Records.{to-pid}
 use Rattle.table.specs.Sheet.{Row, name, name-by, row, unborn-name}
 use Rattle.table.specs.Sound.{SoundTable}
 use Rattle.table.specs.Step.{make}
@@ -143,17 +143,17 @@ module _ (t u : Table) (s r c d : ℕ) (w : Ready t u s r c d) (ot : own-level (
   un = new-namespace u d
 
   gt : Sane tn
-  gt = (namespace-sane t (ft) c (runs-living t c (w .runs-t)) ot rt)
+  gt = (namespace-sane t (ft) c (runs-lives t c (w .runs-t)) ot rt)
 
   gu : Sane un
-  gu = (namespace-sane u (fu) d (runs-living u d (w .runs-u)) ou ru)
+  gu = (namespace-sane u (fu) d (runs-lives u d (w .runs-u)) ou ru)
 
   new-lit : (i j : ℕ) → Twin (view t) (view u) s r i j → Lit (view t) (view u) (view tn) (view un) s r i j
   unfolding row
   new-lit i j m =
       let z = shown t u s r (w .pair) i j m in
-      let ti = seen-taken (view t) (ft .facts) s i (m .seen-v) in
-      let tj = seen-taken (view u) (fu .facts) r j (m .seen-u) in
+      let ti = seen-taken (view t) s i (m .seen-v) in
+      let tj = seen-taken (view u) r j (m .seen-u) in
       let rows = twin-rows (view t) (view u) s r (w .pair) i j m in
       record {
         states = ap (λ p. p .state) (same-process t ft c rt i) ∙ z .states ∙ sym (ap (λ p. p .state) (same-process u fu d ru j));
@@ -195,19 +195,26 @@ module _ (t u : Table) (s r c d : ℕ) (w : Ready t u s r c d) (ot : own-level (
   stands-here : (z : Table) (f : Sane z) (e : ℕ) (room : free-namespace-slot (view z) ≡ namespace-slots → ⊥) (q : ℕ) → So (alive (view z) q) → So (namespace-taken (view (new-namespace z e)) q)
   stands-here z f e room q a = standing (view z) (view (new-namespace z e)) (K z f e room) everyone (namespace-remain z f e room) q (alive-kept-there z f e room q a) (alive-taken (view z) (f .facts) q a)
 
-  unshared-kept : SoundTable (set-children tn c (free-namespace-slot (view t)) true) → SoundTable (set-children un d (free-namespace-slot (view u)) true) → Kept t u s r (answers (set-children tn c (free-namespace-slot (view t)) true) 0) (answers (set-children un d (free-namespace-slot (view u)) true) 0)
-  unfolding set-children
-  unshared-kept h g =
-      let a : Placed (with-children (process tn c) (free-namespace-slot (view t)) true) (process tn c) = record { owns = refl; parents = refl; pids = refl } in
-      let b : Placed (with-children (process un d) (free-namespace-slot (view u)) true) (process un d) = record { owns = refl; parents = refl; pids = refl } in
+  unshared-kept : Kept t u s r (answers (set-children tn c (free-namespace-slot (view t)) true) 0) (answers (set-children un d (free-namespace-slot (view u)) true) 0)
+  unfolding set-children answers granted
+  unshared-kept =
       let k = new-twin c d (w .twin) in
       let z = shown tn un s r new-pair c d k in
-      both-change t u s r c d w _ _ 0 0 refl h g
-      (standing _ _ _ _ (remain-set-children tn (gt .facts) c _ a) s (alive-kept (view tn) (gt .facts) (put tn c _) (put-light tn c _ a) s (new-pair .alive-v)) (stands-here t ft c rt s (w .pair .alive-v)))
-      (standing _ _ _ _ (remain-set-children un (gu .facts) d _ b) r (alive-kept (view un) (gu .facts) (put un d _) (put-light un d _ b) r (new-pair .alive-u)) (stands-here u fu d ru r (w .pair .alive-u)))
-      (same-set-children tn un s r c d new-pair k (omega (arith, process-count tn (gt .shape-of), slot-lt (view t) (ft .facts) c (seen-taken (view t) (ft .facts) s c (w .twin .seen-v)))) (omega (arith, process-count un (gu .shape-of), slot-lt (view u) (fu .facts) d (seen-taken (view u) (fu .facts) r d (w .twin .seen-u)))) _ _ a b
-      (record { states = z .states; handleds = z .handleds; pendings = z .pendings; marks = refl; childrens = x-name t ft c rt s ∙ sym (x-name u fu d ru r) })
-      (inl (x-taken t ft c rt)) (inl (x-taken u fu d ru)))
+      let a = unshare-sane t (w .sound-t) c (w .runs-t) ot rt in
+      let b = unshare-sane u (w .sound-u) d (w .runs-u) ou ru in
+      inr (
+        refl,
+        freed-alike t u _ _ a b s r
+            (record {
+              facts-v = a .facts;
+              facts-u = b .facts;
+              alive-v = new-pair .alive-v;
+              alive-u = new-pair .alive-u;
+              same =
+                  same-put tn un s r c d new-pair k (omega (arith, process-count tn (gt .shape-of), ft .facts .in-range c (seen-taken (view t) s c (w .twin .seen-v)))) (omega (arith, process-count un (gu .shape-of), fu .facts .in-range d (seen-taken (view u) r d (w .twin .seen-u)))) _ _ (record { owns = refl; parents = refl; pids = refl }) (record { owns = refl; parents = refl; pids = refl })
+                  (record { states = z .states; handleds = z .handleds; pendings = z .pendings; marks = refl; childrens = x-name t ft c rt s ∙ sym (x-name u fu d ru r) });
+            }),
+      )
 
   -- ---- clone with a new namespace
 
@@ -235,22 +242,20 @@ module _ (t u : Table) (s r c d : ℕ) (w : Ready t u s r c d) (ot : own-level (
       (subst (λ n. So (below (view (new-namespace z e)) (free-namespace-slot (view z)) n)) (ap (λ q. q .parent .0) (the-namespace z f e room)) (up-below (view (new-namespace z e)) g (free-namespace-slot (view z)) _ (ap (λ q. q .level) (the-namespace z f e room)))) h
 
   cloned-kept : (free-slot (view t) ≡ process-slots → ⊥) → (free-slot (view u) ≡ process-slots → ⊥) → SoundTable (birth tn c (free-namespace-slot (view t))) → SoundTable (birth un d (free-namespace-slot (view u))) → Kept t u s r (born t c (birth tn c (free-namespace-slot (view t)))) (born u d (birth un d (free-namespace-slot (view u))))
-  unfolding newborn namespace-taken
+  unfolding namespace-taken
   cloned-kept pt pu h g =
-      let qt : (free-slot (view tn) ≡ process-slots → ⊥) = λ e. pt (sym (same-free t c) ∙ e) in
-      let qu : (free-slot (view un) ≡ process-slots → ⊥) = λ e. pu (sym (same-free u d) ∙ e) in
-      let a = grown tn gt c (free-namespace-slot (view t)) (x-taken t ft c rt) qt in
-      let b = grown un gu d (free-namespace-slot (view u)) (x-taken u fu d ru) qu in
-      let x = the-child tn gt c (free-namespace-slot (view t)) (x-taken t ft c rt) qt in
-      let y = the-child un gu d (free-namespace-slot (view u)) (x-taken u fu d ru) qu in
+      let (lt, et) = free-slot-is (view tn) (λ e. pt (sym (same-free t c) ∙ e)) in
+      let (lu, eu) = free-slot-is (view un) (λ e. pu (sym (same-free u d) ∙ e)) in
+      let ev = birth-view tn (gt .shape-of) (gt .facts) c (free-namespace-slot (view t)) (x-taken t ft c rt) lt in
+      let ew = birth-view un (gu .shape-of) (gu .facts) d (free-namespace-slot (view u)) (x-taken u fu d ru) lu in
       inr (
         ap Number (next-twins (view t) (view u) s r (w .pair) _ _ (owns-twins t u s r c d w)),
         stands-same t u (birth tn c (free-namespace-slot (view t))) (birth un d (free-namespace-slot (view u))) s r h g
-            (ap (λ (l : ℕ → ℕ). eqb s 0 or not (eqb (l s) 0)) (a .levels-same) ∙ stands-here t ft c rt s (w .pair .alive-v))
-            (ap (λ (l : ℕ → ℕ). eqb r 0 or not (eqb (l r) 0)) (b .levels-same) ∙ stands-here u fu d ru r (w .pair .alive-u))
-            (birth-same (view tn) (view un) (view (birth tn c (free-namespace-slot (view t)))) (view (birth un d (free-namespace-slot (view u)))) s r new-pair c d (free-namespace-slot (view t)) (free-namespace-slot (view u)) (free-slot (view tn)) (free-slot (view un)) (new-twin c d (w .twin)) new-cradles (x-taken t ft c rt) (x-taken u fu d ru) (fresh-below t ft c rt (gt .facts) s (new-owns .below-v)) (fresh-below u fu d ru (gu .facts) r (new-owns .below-u)) a b (lights tn gt c (free-namespace-slot (view t)) (x-taken t ft c rt) qt) (lights un gu d (free-namespace-slot (view u)) (x-taken u fu d ru) qu)
-            (ap (λ p. p .state) x ∙ sym (ap (λ p. p .state) y), ap (λ p. p .handled) x ∙ sym (ap (λ p. p .handled) y), ap (λ p. p .pending) x ∙ sym (ap (λ p. p .pending) y), ap (λ p. p .unshared) x ∙ sym (ap (λ p. p .unshared) y))
-            (λ i j m z. not-held t ft c rt i (still-there t c i (seen-taken (view tn) (gt .facts) s i (m .seen-v))) ∙ sym (not-held u fu d ru j (still-there u d j (seen-taken (view un) (gu .facts) r j (m .seen-u)))))),
+            (ap (λ (x : View). eqb s 0 or not (eqb (x .level s) 0)) ev ∙ stands-here t ft c rt s (w .pair .alive-v))
+            (ap (λ (x : View). eqb r 0 or not (eqb (x .level r) 0)) ew ∙ stands-here u fu d ru r (w .pair .alive-u))
+            (subst₂ (λ (a b : View). Same a b s r) (sym ev) (sym ew)
+            (birth-same (view tn) (view un) s r new-pair c d (free-namespace-slot (view t)) (free-namespace-slot (view u)) (free-slot (view tn)) (free-slot (view un)) (new-twin c d (w .twin)) new-cradles (x-taken t ft c rt) (x-taken u fu d ru) (fresh-below t ft c rt (gt .facts) s (new-owns .below-v)) (fresh-below u fu d ru (gu .facts) r (new-owns .below-u)) (isnt-so et) (isnt-so eu) lt lu
+            (λ i j m z. not-held t ft c rt i (still-there t c i (seen-taken (view tn) s i (m .seen-v))) ∙ sym (not-held u fu d ru j (still-there u d j (seen-taken (view un) r j (m .seen-u))))))),
       )
 
 -- ---- the two calls
@@ -275,7 +280,7 @@ unshare-same t u s r c d w h g = go (process t c .unshared) refl (eqb (own-level
     go false em false ea false eb true eb′ = rw (sym mark ∙ em, sym deep ∙ ea, eb′, unshare) (no-room-right t u s r (unshare t c))
     go false em false ea false eb false eb′ =
         rw (em, sym mark ∙ em, ea, sym deep ∙ ea, eb, eb′, unshare)
-        (unshared-kept t u s r c d w (eqb-false _ _ ea) (eqb-false _ _ (sym deep ∙ ea)) (eqb-false _ _ eb) (eqb-false _ _ eb′) (rw (em, ea, eb, unshare) at h) (rw (sym mark ∙ em, sym deep ∙ ea, eb′, unshare) at g))
+        (unshared-kept t u s r c d w (eqb-false _ _ ea) (eqb-false _ _ (sym deep ∙ ea)) (eqb-false _ _ eb) (eqb-false _ _ eb′))
 
 pub clone-new-same : MadeSame CloneNew
 unfolding MadeSame make clone-new

@@ -1,19 +1,18 @@
 -- A change after which some processes and namespaces stand as they stood, and the other processes are gone.
-use Prim.Native.Nat.{ℕ, zero, suc, _-_}
+use Prim.Native.Nat.{ℕ, suc, _-_}
 use mathlib.Core.Bool.{Bool, true, false, not, So, false≢true}
-use mathlib.Core.Path.{_≡_, refl, sym, _∙_, ap, ap₂, subst, fun-ext}
+use mathlib.Core.Path.{_≡_, refl, sym, _∙_, ap, ap₂, fun-ext}
 use lib.Dec.{eqb}
-use Rattle.table.proofs.Laws.Facts.{Facts}
-use Rattle.table.proofs.Laws.Quant.{and-false}
-use Rattle.table.proofs.Laws.Slots.{up-level, own-taken, seen-taken}
-use Rattle.table.proofs.Sameness.Anchor.{anchor, anchor-alive}
+use Rattle.table.proofs.Laws.Facts.{Facts, seen-taken}
+use Rattle.table.proofs.Laws.Slots.{own-taken}
+use Rattle.table.proofs.Laws.Tests.{and-false}
 use Rattle.table.proofs.Sameness.Same.{Same}
+use Rattle.table.proofs.Sameness.Stays.{Stays, below-stays, name-stays}
 use Rattle.table.proofs.Sameness.Twins.{Pair, Twin, twin-rows, twin-there, flip-pair, flip-twin}
-use Rattle.table.specs.Limits.{levels, no-slot}
-use Rattle.table.specs.Read.{View, alive, below, climb, init, init-of, is-alive, is-init, namespace-taken, pid-in, pid-seen, seen, taken}
-use Rattle.table.specs.Sheet.{Name, Row, by-init, dead-at, name, name-by, nearest, no-name, row}
+use Rattle.table.specs.Limits.{levels}
+use Rattle.table.specs.Read.{View, alive, below, init, init-of, is-init, namespace-taken, pid-in, pid-seen, seen, taken}
+use Rattle.table.specs.Sheet.{Name, Row, name, row}
 use Rattle.table.specs.Tests.{_and_, _or_, if_then_else_, values}
-use Rattle.table.specs.declared.Life.the-variants.{Unborn, Alive, Dead}
 use Rattle.table.specs.declared.Life.{Life}
 use Rattle.table.specs.declared.State.{State}
 
@@ -28,21 +27,19 @@ pub record Remain (v v′ : View) (K Q : ℕ → Bool) : Type 0 where
   pub own-kept : (i : ℕ) → So (Q i) → So (taken v i) → So (K (v .own i))
   pub init-kept : (n : ℕ) → So (K n) → So (alive v n) → So (Q (init v n))
 
+abbrev pub everyone : ℕ → Bool
+everyone i = true
+
 -- a row by what may change
 abbrev pub lit : View → ℕ → ℕ → State → ℕ → ℕ → Bool → ℕ → Name → ℕ → Row
 lit v s i st h q m p c z = record { pids = values (v .pid i) (levels - v .level s) (v .level s); state = st; handled = h; pending = q; unshared = m; parent = p; own = name v s (v .own i); children = c; last = z }
 
 module _ (v v′ : View) (K Q : ℕ → Bool) (f : Facts v) (w : Remain v v′ K Q) where
-  climb-remain : (k a b : ℕ) → So (K a) → v .level a ≡ k → climb (v′ .up) k a b ≡ climb (v .up) k a b
-  unfolding climb
-  climb-remain zero a b h e = refl
-  climb-remain (suc k) a b h e =
-      ap (λ (x : Bool). elim (eqb a b) [ true ↦ true | false ↦ x ])
-      (ap (λ x. climb (v′ .up) k x b) (w .ups a h) ∙ climb-remain k (v .up a) b (w .up-kept a k h e) (up-level v f a k e))
+  stays : Stays v v′ K
+  stays = record { ups = w .ups; levels = w .levels; lives = w .lives; up-kept = w .up-kept }
 
   pub below-remain : (a b : ℕ) → So (K a) → below v′ a b ≡ below v a b
-  unfolding below
-  below-remain a b h = ap (λ k. climb (v′ .up) k a b) (w .levels a h) ∙ climb-remain (v .level a) a b h refl
+  below-remain = below-stays v v′ K f stays
 
   pub taken-remain : (i : ℕ) → So (Q i) → taken v′ i ≡ taken v i
   unfolding taken
@@ -76,42 +73,8 @@ module _ (v v′ : View) (K Q : ℕ → Bool) (f : Facts v) (w : Remain v v′ K
   unfolding pid-in
   pid-in-remain n i k h = ap₂ (λ (b : Bool) (x : ℕ). if b then x else 0) (seen-remain n i h) (pid-remain n i k h)
 
-  near-remain : (k n : ℕ) → So (K n) → v .level n ≡ k → nearest (v′ .life) (v′ .up) k n ≡ nearest (v .life) (v .up) k n
-  unfolding nearest
-  near-remain zero n h e = refl
-  near-remain (suc k) n h e =
-      ap₂ (λ (b : Bool) (x : ℕ). elim b [ true ↦ n | false ↦ x ]) (ap is-alive (w .lives n h))
-      (ap (λ x. nearest (v′ .life) (v′ .up) k x) (w .ups n h) ∙ near-remain k (v .up n) (w .up-kept n k h e) (up-level v f n k e))
-
-  near-kept : (k n : ℕ) → So (K n) → v .level n ≡ k → So (K (nearest (v .life) (v .up) k n))
-  unfolding nearest
-  near-kept zero n h e = h
-  near-kept (suc k) n h e = go (is-alive (v .life n)) (near-kept k (v .up n) (w .up-kept n k h e) (up-level v f n k e))
-    where
-      go : (b : Bool) → So (K (nearest (v .life) (v .up) k (v .up n))) → So (K (elim b [ true ↦ n | false ↦ nearest (v .life) (v .up) k (v .up n) ]))
-      go true r = h
-      go false r = r
-
-  pub anchor-remain : (n : ℕ) → So (K n) → anchor v′ n ≡ anchor v n
-  anchor-remain n h = ap (λ k. nearest (v′ .life) (v′ .up) k n) (w .levels n h) ∙ near-remain (v .level n) n h refl
-
-  pub anchor-kept : (n : ℕ) → So (K n) → So (K (anchor v n))
-  anchor-kept n h = near-kept (v .level n) n h refl
-
-  by-remain : (s n : ℕ) → So (K s) → So (K n) → So (namespace-taken v n) → (l : Life) → v .life n ≡ l → name-by v′ s n l ≡ name-by v s n l
-  unfolding name-by
-  by-remain s n hs hn ht Unborn e = refl
-  by-remain s n hs hn ht (Alive i) e =
-      ap by-init (pid-in-remain s (i .0) hs (subst (λ x. So (Q x)) (ap init-of e) (w .init-kept n hn (ap is-alive e))))
-  by-remain s n hs hn ht Dead e =
-      ap₂ dead-at (w .levels n hn)
-      (ap (pid-in v′ s) (ap init-of (ap (v′ .life) (anchor-remain n hn) ∙ w .lives (anchor v n) (anchor-kept n hn)))
-      ∙ pid-in-remain s (init v (anchor v n)) hs (w .init-kept (anchor v n) (anchor-kept n hn) (anchor-alive v f n ht)))
-
   pub name-remain : (s n : ℕ) → So (K s) → So (K n) → So (namespace-taken v n) → name v′ s n ≡ name v s n
-  unfolding name
-  name-remain s n hs hn ht =
-      ap (λ y. if eqb n no-slot then no-name else y) (ap (name-by v′ s n) (w .lives n hn) ∙ by-remain s n hs hn ht (v .life n) refl)
+  name-remain s n hs = name-stays v v′ K f stays s (λ m k a. pid-in-remain s (init v m) hs (w .init-kept m k a)) n
 
   -- the row of one that remains, but for what may change
   pub row-remain : (s i : ℕ) → So (K s) → So (Q i) → So (taken v i) → row v′ s i ≡ lit v s i (v′ .state i) (v′ .handled i) (v′ .pending i) (v′ .unshared i) (pid-in v′ s (v′ .parent i)) (name v′ s (v′ .children i)) (if is-init v i then v′ .last (v .own i) else 0)
@@ -149,9 +112,9 @@ lit-same v u s r i j e es eh eq em ep ec ez =
 module _ (v u v′ u′ : View) (s r : ℕ) (w : Pair v u s r) (K Q K′ Q′ : ℕ → Bool) (a : Remain v v′ K Q) (b : Remain u u′ K′ Q′) (hs : So (K s)) (hr : So (K′ r)) (both-remain : (i j : ℕ) → Twin v u s r i j → Q i ≡ Q′ j) (h : (i j : ℕ) → Twin v u s r i j → So (Q i) → Lit v u v′ u′ s r i j) where
   remain-rows : (i j : ℕ) → Twin v u s r i j → So (Q i) → row v′ s i ≡ row u′ r j
   remain-rows i j k q =
-      row-remain v v′ K Q (w .facts-v) a s i hs q (seen-taken v (w .facts-v) s i (k .seen-v))
+      row-remain v v′ K Q (w .facts-v) a s i hs q (seen-taken v s i (k .seen-v))
       ∙ lit-same v u s r i j (twin-rows v u s r w i j k) (h i j k q .states) (h i j k q .handleds) (h i j k q .pendings) (h i j k q .marks) (h i j k q .parents) (h i j k q .childrens) (h i j k q .lasts)
-      ∙ sym (row-remain u u′ K′ Q′ (w .facts-u) b r j hr (sym (both-remain i j k) ∙ q) (seen-taken u (w .facts-u) r j (k .seen-u)))
+      ∙ sym (row-remain u u′ K′ Q′ (w .facts-u) b r j hr (sym (both-remain i j k) ∙ q) (seen-taken u r j (k .seen-u)))
 
   pub same-remain : Same v′ u′ s r
   same-remain =

@@ -1,17 +1,25 @@
 -- Two tables are the same to a namespace: its level, and each row of one is a row of the other.
-use Prim.Native.Nat.{ℕ, zero, suc, _+_, _-_, _<_}
+use Prim.Native.Nat.{ℕ, zero, suc, _+_, _-_, _<_, _≤_}
+use native.Mathlib.Decide.{ℕ-discrete}
 use native.Mathlib.Omega.{arith}
-use mathlib.Core.Bool.{So}
-use mathlib.Core.List.{map}
-use mathlib.Core.Path.{_≡_, sym, _∙_, ap, subst}
+use mathlib.Core.Bool.{So, Bool, true, false, false≢true}
+use mathlib.Core.List.{map, []}
+use mathlib.Core.Logic.{_⊎_, inl, inr}
+use mathlib.Core.Path.{_≡_, sym, _∙_, ap, subst, refl}
+use borrow.Author.Tests.{eq-eqb, eqb-true}
+use lib.Dec.{eqb}
 use lib.ListN.{getD}
-use Rattle.table.proofs.Laws.Facts.{Facts}
+use Rattle.table.proofs.Laws.Below.{level-deepest}
+use Rattle.table.proofs.Laws.Facts.{Facts, seen-taken}
 use Rattle.table.proofs.Laws.Lists.{In, in-map, map-in, in-ascending, ascending-in, ascending-sorted, Sorted, map-sorted, sorted-unique}
-use Rattle.table.proofs.Laws.Slots.{slot-lt, seen-taken, pid-unique, level-deepest}
+use Rattle.table.proofs.Laws.Slots.{pid-unique}
+use Rattle.table.proofs.Laws.Tests.{left, right, both}
 use Rattle.table.specs.Limits.{levels, process-slots}
-use Rattle.table.specs.Read.{View, all-seen, namespace-taken, pid-seen, seen}
-use Rattle.table.specs.Sheet.{Row, row, sheet}
-use Rattle.table.specs.Tests.{values}
+use Rattle.table.specs.Read.{View, all-seen, namespace-taken, pid-seen, seen, pid-in, is-init, find}
+use Rattle.table.specs.Sheet.{Row, row, sheet, name}
+use Rattle.table.specs.Tests.{values, if_then_else_, _and_, lowest}
+
+-- ---- two tables are the same to a namespace: its level, and each row of one is a row of the other
 
 pub record Same (v u : View) (s r : ℕ) : Type 0 where
   pub levels : v .level s ≡ u .level r
@@ -39,7 +47,7 @@ level-lt v f s h = omega (arith, level-deepest v f s h)
 
 pub seen-listed : (v : View) → Facts v → (s i : ℕ) → So (seen v s i) → In i (all-seen v s)
 unfolding all-seen
-seen-listed v f s i h = in-ascending _ _ process-slots i (slot-lt v f i (seen-taken v f s i h)) h
+seen-listed v f s i h = in-ascending _ _ process-slots i (f .in-range i (seen-taken v s i h)) h
 
 pub listed-seen : (v : View) (s i : ℕ) → In i (all-seen v s) → So (seen v s i)
 unfolding all-seen
@@ -81,3 +89,94 @@ sheets-of-same v u s r h g hs hr w =
       level = w .levels i;
       rows = sorted-unique key (map (row v s) (all-seen v s)) (map (row u r) (all-seen u r)) (rows-sorted v s h hs) (rows-sorted u r g hr) (rows-in v u s r g (w .there)) (rows-in u v r s h (λ j k. let (i, m, q) = w .back j k in (i, m, sym q))) i;
     }
+
+-- a row by its parts
+pub row-by : (v u : View) (s r i j : ℕ) → values (v .pid i) (levels - v .level s) (v .level s) ≡ values (u .pid j) (levels - u .level r) (u .level r) → v .state i ≡ u .state j → v .handled i ≡ u .handled j → v .pending i ≡ u .pending j → v .unshared i ≡ u .unshared j → pid-in v s (v .parent i) ≡ pid-in u r (u .parent j) → name v s (v .own i) ≡ name u r (u .own j) → name v s (v .children i) ≡ name u r (u .children j) → (if is-init v i then v .last (v .own i) else 0) ≡ (if is-init u j then u .last (u .own j) else 0) → row v s i ≡ row u r j
+unfolding row
+row-by v u s r i j a b c d e f g h z =
+    λ k. record { pids = a k; state = b k; handled = c k; pending = d k; unshared = e k; parent = f k; own = g k; children = h k; last = z k }
+
+pub same-trans : (v u x : View) (s r q : ℕ) → Same v u s r → Same u x r q → Same v x s q
+same-trans v u x s r q a b =
+    record {
+      levels = a .levels ∙ b .levels;
+      there = λ i k. let (j, m, e) = a .there i k in let (l, n, g) = b .there j m in (l, n, e ∙ g);
+      back = λ l n. let (j, m, g) = b .back l n in let (i, k, e) = a .back j m in (i, k, e ∙ g);
+    }
+
+-- ---- finding the process that a number names
+
+abbrev Lowest : (ℕ → Bool) → ℕ → ℕ → ℕ → Type 0
+Lowest f n k x = (So (f x) × (x < k + n)) ⊎ ((x ≡ k + n) × ((i : ℕ) → k ≤ i → i < k + n → f i ≡ false))
+
+pub lowest-cases : (f : ℕ → Bool) (n k : ℕ) → Lowest f n k (lowest f n k)
+unfolding lowest
+lowest-cases f zero k = inr (omega arith, λ i l m. absurd (omega arith))
+lowest-cases f (suc n) k = go (f k) refl (lowest-cases f n (suc k))
+  where
+    go : (b : Bool) → f k ≡ b → Lowest f n (suc k) (lowest f n (suc k)) → Lowest f (suc n) k (elim b [ true ↦ k | false ↦ lowest f n (suc k) ])
+    go true e r = inl (e, omega arith)
+    go false e (inl (h, l)) = inl (h, omega arith)
+    go false e (inr (q, h)) = inr (omega arith, λ i l m. at i l m (ℕ-discrete i k))
+      where
+        at : (i : ℕ) → k ≤ i → i < k + suc n → Dec (i ≡ k) → f i ≡ false
+        at i l m (yes z) = ap f z ∙ e
+        at i l m (no z) = h i (omega arith) (omega arith)
+
+-- somebody has the number, or nobody
+abbrev pub Found : View → ℕ → ℕ → ℕ → Type 0
+Found v n k x =
+    (So (seen v n x) × (pid-seen v n x ≡ k) × (x < process-slots))
+    ⊎ ((x ≡ process-slots) × ((i : ℕ) → i < process-slots → So (seen v n i) → pid-seen v n i ≡ k → ⊥))
+
+pub find-cases : (v : View) (n k : ℕ) → Found v n k (find v n k)
+unfolding find
+find-cases v n k = go (lowest-cases (λ i. seen v n i and eqb (pid-seen v n i) k) process-slots 0)
+  where
+    x : ℕ
+    x = lowest (λ i. seen v n i and eqb (pid-seen v n i) k) process-slots 0
+
+    go : Lowest (λ i. seen v n i and eqb (pid-seen v n i) k) process-slots 0 x → Found v n k x
+    go (inl (h, l)) = inl (left _ _ h, eqb-true _ _ (right _ _ h), l)
+    go (inr (e, h)) = inr (e, λ i l s q. false≢true (sym (h i (omega arith) l) ∙ both _ _ s (eq-eqb _ _ q)))
+
+-- The number in n of a process seen there finds it.
+pub find-seen : (v : View) → Facts v → (n i : ℕ) → So (namespace-taken v n) → So (seen v n i) → find v n (pid-seen v n i) ≡ i
+find-seen v f n i t h = go (find-cases v n (pid-seen v n i))
+  where
+    go : Found v n (pid-seen v n i) (find v n (pid-seen v n i)) → find v n (pid-seen v n i) ≡ i
+    go (inl (s, e, l)) = pid-unique v f n _ i t s h e
+    go (inr (e, no-one)) = absurd (no-one i (f .in-range i (seen-taken v n i h)) h refl)
+
+-- ---- with equal sheets
+
+pub row-pid : (v u : View) (s r i j : ℕ) → v .level s < levels → u .level r < levels → row v s i ≡ row u r j → pid-seen v s i ≡ pid-seen u r j
+row-pid v u s r i j l m e = sym (row-key v s i l) ∙ ap key e ∙ row-key u r j m
+
+pub record Callers (v u : View) (s r i j : ℕ) : Type 0 where
+  pub seen-t : So (seen v s i)
+  pub seen-u : So (seen u r j)
+  pub pids : pid-seen v s i ≡ pid-seen u r j
+  pub lt-t : i < process-slots
+  pub lt-u : j < process-slots
+
+pub find-same : (v u : View) (s r k : ℕ) → Facts v → Facts u → So (namespace-taken v s) → So (namespace-taken u r) → sheet v s ≡ sheet u r → ((find v s k ≡ process-slots) × (find u r k ≡ process-slots)) ⊎ Callers v u s r (find v s k) (find u r k)
+find-same v u s r k h g hs hr e = go (find-cases v s k) (find-cases u r k)
+  where
+    w : Same v u s r
+    w = same-of-sheets v u s r h g e
+
+    go : Found v s k (find v s k) → Found u r k (find u r k) → ((find v s k ≡ process-slots) × (find u r k ≡ process-slots)) ⊎ Callers v u s r (find v s k) (find u r k)
+    go (inl (a, b, c)) (inl (x, y, z)) = inr (record { seen-t = a; seen-u = x; pids = b ∙ sym y; lt-t = c; lt-u = z })
+    go (inl (a, b, c)) (inr (x, y)) = let (j, m, q) = w .there _ a in absurd (y j (g .in-range j (seen-taken u r j m)) m (sym (row-pid v u s r _ j (level-lt v h s hs) (level-lt u g r hr) q) ∙ b))
+    go (inr (a, b)) (inl (x, y, z)) = let (i, m, q) = w .back _ x in absurd (b i (h .in-range i (seen-taken v s i m)) m (row-pid v u s r i _ (level-lt v h s hs) (level-lt u g r hr) q ∙ y))
+    go (inr (a, b)) (inr (x, y)) = inl (a, x)
+
+-- A sheet with no rows has nobody to find.
+pub find-none : (v : View) (s k : ℕ) → Facts v → sheet v s .rows ≡ [] → find v s k ≡ process-slots
+unfolding sheet
+find-none v s k h e = go (find-cases v s k)
+  where
+    go : Found v s k (find v s k) → find v s k ≡ process-slots
+    go (inl (a, b, c)) = absurd (subst (In (row v s (find v s k))) e (in-map (row v s) _ (all-seen v s) (seen-listed v h s _ a)))
+    go (inr (a, b)) = a

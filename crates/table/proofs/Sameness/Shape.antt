@@ -3,21 +3,22 @@ use Prim.Native.Nat.{ℕ, zero, suc}
 use native.Mathlib.Decide.{ℕ-discrete}
 use native.Mathlib.Omega.{arith}
 use mathlib.Core.Bool.{Bool, true, false, not, So, false≢true}
-use mathlib.Core.Path.{_≡_, refl, sym, _∙_, ap, ap₂, subst}
+use mathlib.Core.Path.{_≡_, refl, sym, _∙_, ap, ap₂}
 use borrow.Author.Tests.{ne-eqb}
 use lib.Dec.{eqb}
+use Rattle.table.proofs.Laws.Below.{up-level, below-level, below-trans}
 use Rattle.table.proofs.Laws.Facts.{Facts}
-use Rattle.table.proofs.Laws.Quant.{and-false}
-use Rattle.table.proofs.Laws.Slots.{up-level, namespace-lt, below-level, below-trans, below-parent, below-same, alive-up}
-use Rattle.table.proofs.Sameness.Anchor.{anchor, anchor-alive, anchor-below, up-below}
+use Rattle.table.proofs.Laws.Slots.{below-parent, below-same, alive-up}
+use Rattle.table.proofs.Laws.Tests.{and-false, isnt}
+use Rattle.table.proofs.Sameness.Anchor.{up-below}
 use Rattle.table.proofs.Sameness.Same.{Same}
+use Rattle.table.proofs.Sameness.Stays.{Stays, name-stays}
 use Rattle.table.proofs.Sameness.Twins.{Pair, Twin, twin-there, flip-pair, flip-twin, bool-ext}
 use Rattle.table.specs.Limits.{levels, no-slot}
 use Rattle.table.specs.Read.{View, alive, below, climb, init, init-of, is-alive, namespace-taken, pid-in, pid-seen, seen, taken}
-use Rattle.table.specs.Sheet.{by-init, dead-at, name, name-by, nearest, no-name, row}
+use Rattle.table.specs.Sheet.{dead-at, name, name-by, nearest, row}
 use Rattle.table.specs.Tests.{_and_, if_then_else_}
-use Rattle.table.specs.declared.Life.the-variants.{Unborn, Alive, Dead}
-use Rattle.table.specs.declared.Life.{Life}
+use Rattle.table.specs.declared.Life.the-variants.{Dead}
 
 pub record Shape (v v′ : View) (Q : ℕ → Bool) : Type 0 where
   pub owns : (i : ℕ) → So (Q i) → v′ .own i ≡ v .own i
@@ -101,12 +102,11 @@ module _ (v v′ : View) (f : Facts v) (Q : ℕ → Bool) (w : Shape v v′ Q) (
   top-up-out : below v (v .up top) top ≡ false
   top-up-out = bool-ext _ _ (λ b. absurd (omega (arith, below-level v f (v .up top) top b, up-level v f top m deep))) (λ b. absurd (false≢true b))
 
-  near-out : (k n : ℕ) → v .level n ≡ k → below v n top ≡ false → nearest (v′ .life) (v′ .up) k n ≡ nearest (v .life) (v .up) k n
-  unfolding nearest
-  near-out zero n e h = refl
-  near-out (suc k) n e h =
-      ap₂ (λ (b : Bool) (x : ℕ). elim b [ true ↦ n | false ↦ x ]) (ap is-alive (life-out n h))
-      (ap (λ (up : ℕ → ℕ). nearest (v′ .life) (v′ .up) k (up n)) (w .ups) ∙ near-out k (v .up n) (up-level v f n k e) (up-out n k e h))
+  abbrev out : ℕ → Bool
+  out n = not (below v n top)
+
+  stays-out : Stays v v′ out
+  stays-out = record { ups = λ n h. ap (λ (up : ℕ → ℕ). up n) (w .ups); levels = λ n h. ap (λ (level : ℕ → ℕ). level n) (w .levels); lives = λ n h. life-out n (isnt (below v n top) h); up-kept = λ n k h e. ap not (up-out n k e (isnt (below v n top) h)) }
 
   near-self : (k n : ℕ) → So (is-alive (v′ .life n)) → nearest (v′ .life) (v′ .up) k n ≡ n
   unfolding nearest
@@ -127,29 +127,13 @@ module _ (v v′ : View) (f : Facts v) (Q : ℕ → Bool) (w : Shape v v′ Q) (
 
   -- the init of a namespace that lives on remains
   module _ (stays : (n : ℕ) → So (alive v n) → below v n top ≡ false → So (Q (init v n))) where
-    by-out : (s n : ℕ) → below v n top ≡ false → So (namespace-taken v n) → (l : Life) → v .life n ≡ l → name-by v′ s n l ≡ name-by v s n l
-    unfolding name-by
-    by-out s n h ht Unborn e = refl
-    by-out s n h ht (Alive i) e = ap by-init (pid-in-shape v v′ Q w s (i .0) (subst (λ x. So (Q x)) (ap init-of e) (stays n (ap is-alive e) h)))
-    by-out s n h ht Dead e =
-        ap₂ dead-at (ap (λ (level : ℕ → ℕ). level n) (w .levels))
-        (ap (pid-in v′ s) (ap init-of (ap (v′ .life) same-anchor ∙ life-out (anchor v n) anchor-out))
-        ∙ pid-in-shape v v′ Q w s (init v (anchor v n)) (stays (anchor v n) (anchor-alive v f n ht) anchor-out))
-      where
-        same-anchor : anchor v′ n ≡ anchor v n
-        same-anchor = ap (λ (level : ℕ → ℕ). nearest (v′ .life) (v′ .up) (level n) n) (w .levels) ∙ near-out (v .level n) n refl h
-
-        anchor-out : below v (anchor v n) top ≡ false
-        anchor-out = bool-ext _ _ (λ b. absurd (false≢true (sym h ∙ below-trans v f n (anchor v n) top (anchor-below v f n) b))) (λ b. absurd (false≢true b))
-
     pub name-out : (s n : ℕ) → below v n top ≡ false → So (namespace-taken v n) → name v′ s n ≡ name v s n
-    unfolding name
-    name-out s n h ht = ap (λ y. if eqb n no-slot then no-name else y) (ap (name-by v′ s n) (life-out n h) ∙ by-out s n h ht (v .life n) refl)
+    name-out s n h = name-stays v v′ out f stays-out s (λ m k a. pid-in-shape v v′ Q w s (init v m) (stays m a (isnt (below v m top) k))) n (ap not h)
 
     pub name-in : (s n : ℕ) → So (alive v top) → So (below v n top) → So (namespace-taken v n) → name v′ s n ≡ dead-at (v .level n) (pid-in v s (init v (v .up top)))
     unfolding name name-by
     name-in s n a h ht =
-        rw (ne-eqb n no-slot (λ e. omega (arith, namespace-lt v f n ht)), life-in n h)
+        rw (ne-eqb n no-slot (λ e. omega (arith, f .in-namespace n ht)), life-in n h)
         (ap₂ dead-at (ap (λ (level : ℕ → ℕ). level n) (w .levels))
         (ap (pid-in v′ s) (ap init-of (ap (v′ .life) (ap (λ (level : ℕ → ℕ). nearest (v′ .life) (v′ .up) (level n) n) (w .levels) ∙ near-in a (v .level n) n refl h) ∙ life-out (v .up top) top-up-out))
         ∙ pid-in-shape v v′ Q w s (init v (v .up top)) (stays (v .up top) (alive-up v f top m a deep) top-up-out)))

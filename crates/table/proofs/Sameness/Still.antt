@@ -1,31 +1,29 @@
 -- A change that leaves all that the sheet of S rests on.
-use Prim.Native.Nat.{ℕ, zero, suc, _-_, _<_, _≤_}
+use Prim.Native.Nat.{ℕ, suc, _-_, _<_, _≤_}
 use native.Mathlib.Decide.{ℕ-discrete}
 use native.Mathlib.Omega.{arith}
 use mathlib.Core.Bool.{Bool, true, false, not, So, false≢true}
 use mathlib.Core.Logic.{_⊎_, inl, inr, ⊎-elim}
 use mathlib.Core.Path.{_≡_, refl, sym, _∙_, ap, ap₂, subst, fun-ext}
 use lib.Dec.{eqb}
-use Rattle.table.proofs.Keeps.Changed.{namespace-count}
-use Rattle.table.proofs.Laws.Facts.{Facts, Sane}
-use Rattle.table.proofs.Laws.Quant.{both, cases, or-left, or-right}
-use Rattle.table.proofs.Laws.Slots.{up-level, seen-taken, seen-below, below-trans, below-parent, below-same, below-level}
+use Rattle.table.proofs.Laws.Below.{below-level, below-trans}
+use Rattle.table.proofs.Laws.Facts.{Facts, seen-taken, seen-below}
+use Rattle.table.proofs.Laws.Slots.{below-parent, below-same, children-of, own-taken}
+use Rattle.table.proofs.Laws.Tests.{both, cases, or-left, or-right}
 use Rattle.table.proofs.Laws.Tree.{below-refl}
-use Rattle.table.proofs.Sameness.Anchor.{anchor, up-below}
-use Rattle.table.proofs.Sameness.FreedRow.{freed-seen, freed-row, seen-keeps, level-kept, kept-stands, not-kept-gone}
-use Rattle.table.proofs.Sameness.Leaves.{stands-leaves, gone-leaves}
-use Rattle.table.proofs.Sameness.Namespaces.{children-below}
+use Rattle.table.proofs.Sameness.Anchor.{up-below, name-no-slot}
+use Rattle.table.proofs.Sameness.Light.{Placed, put-other, light-remain, put-light}
+use Rattle.table.proofs.Sameness.Readers.{children-below}
+use Rattle.table.proofs.Sameness.Remain.{seen-remain, everyone}
 use Rattle.table.proofs.Sameness.Same.{Same}
-use Rattle.table.proofs.Sameness.SetChildrenSame.{name-no-slot}
-use Rattle.table.specs.Events.{at, follow, sheet-of}
-use Rattle.table.specs.Freeing.{freed, kept}
+use Rattle.table.proofs.Sameness.Stays.{Stays, name-stays, below-stays}
 use Rattle.table.specs.Limits.{levels, no-slot}
-use Rattle.table.specs.Read.{View, below, climb, init, init-of, is-alive, is-init, living, namespace-taken, pid-in, pid-seen, seen, taken, view}
-use Rattle.table.specs.Sheet.{by-init, dead-at, name, name-by, nearest, no-name, row, sheet}
-use Rattle.table.specs.Sound as S
+use Rattle.table.specs.Read.{View, below, init, init-of, is-init, living, namespace-taken, pid-in, pid-seen, seen, taken, view, process, pid-at}
+use Rattle.table.specs.Records.{put}
+use Rattle.table.specs.Sheet.{name, row}
 use Rattle.table.specs.Tests.{_or_, if_then_else_, values}
-use Rattle.table.specs.declared.Life.the-variants.{Unborn, Alive, Dead}
 use Rattle.table.specs.declared.Life.{Life}
+use Rattle.table.specs.declared.Process.{Process}
 use Rattle.table.specs.declared.Table.{Table}
 
 -- the namespaces of K, those that the rows name and all above them, and the processes of S stand as they stood
@@ -57,36 +55,17 @@ module _ (v v′ : View) (s : ℕ) (K : ℕ → Bool) (f : Facts v) (w : Still v
       go true k = ap₂ (λ (b : Bool) (x : ℕ). if b then x else 0) (w .seens i) (ap (v′ .pid i) (w .levels s (w .here)) ∙ w .pids i (v .level s) k)
       go false k = ap (λ (b : Bool). if b then v′ .pid i (v′ .level s) else 0) (w .seens i ∙ k) ∙ sym (ap (λ (b : Bool). if b then v .pid i (v .level s) else 0) k)
 
-  near-still : (k n : ℕ) → So (K n) → v .level n ≡ k → nearest (v′ .life) (v′ .up) k n ≡ nearest (v .life) (v .up) k n
-  unfolding nearest
-  near-still zero n h e = refl
-  near-still (suc k) n h e =
-      ap₂ (λ (b : Bool) (x : ℕ). elim b [ true ↦ n | false ↦ x ]) (ap is-alive (w .lives n h))
-      (ap (λ x. nearest (v′ .life) (v′ .up) k x) (w .ups n h) ∙ near-still k (v .up n) (w .up-kept n k h e) (up-level v f n k e))
+  stays : Stays v v′ K
+  stays = record { ups = w .ups; levels = w .levels; lives = w .lives; up-kept = w .up-kept }
 
-  near-kept : (k n : ℕ) → So (K n) → v .level n ≡ k → So (K (nearest (v .life) (v .up) k n))
-  unfolding nearest
-  near-kept zero n h e = h
-  near-kept (suc k) n h e = go (is-alive (v .life n)) (near-kept k (v .up n) (w .up-kept n k h e) (up-level v f n k e))
+  name-still : (n : ℕ) → So (K n) → So (namespace-taken v n) → name v′ s n ≡ name v s n
+  name-still = name-stays v v′ K f stays s (λ m k a. pid-in-still (init v m))
+
+  child : (i : ℕ) → So (seen v s i) → name v′ s (v .children i) ≡ name v s (v .children i)
+  child i q = ⊎-elim none (λ t. ⊎-elim (λ h. name-still (v .children i) h t) none (w .children-kept i q)) (⊎-elim inr inl (children-of v f i (seen-taken v s i q)))
     where
-      go : (b : Bool) → So (K (nearest (v .life) (v .up) k (v .up n))) → So (K (elim b [ true ↦ n | false ↦ nearest (v .life) (v .up) k (v .up n) ]))
-      go true r = h
-      go false r = r
-
-  anchor-still : (n : ℕ) → So (K n) → anchor v′ n ≡ anchor v n
-  anchor-still n h = ap (λ k. nearest (v′ .life) (v′ .up) k n) (w .levels n h) ∙ near-still (v .level n) n h refl
-
-  by-still : (n : ℕ) → So (K n) → (l : Life) → name-by v′ s n l ≡ name-by v s n l
-  unfolding name-by
-  by-still n h Unborn = refl
-  by-still n h (Alive i) = ap by-init (pid-in-still (i .0))
-  by-still n h Dead =
-      ap₂ dead-at (w .levels n h)
-      (ap (pid-in v′ s) (ap init-of (ap (v′ .life) (anchor-still n h) ∙ w .lives (anchor v n) (near-kept (v .level n) n h refl))) ∙ pid-in-still (init v (anchor v n)))
-
-  pub name-still : (n : ℕ) → So (K n) → name v′ s n ≡ name v s n
-  unfolding name
-  name-still n h = ap (λ y. if eqb n no-slot then no-name else y) (ap (name-by v′ s n) (w .lives n h) ∙ by-still n h (v .life n))
+      none : v .children i ≡ no-slot → name v′ s (v .children i) ≡ name v s (v .children i)
+      none e = name-no-slot v′ s _ e ∙ sym (name-no-slot v s _ e)
 
   row-still : (i : ℕ) → So (seen v s i) → row v′ s i ≡ row v s i
   unfolding row is-init
@@ -98,8 +77,8 @@ module _ (v v′ : View) (s : ℕ) (K : ℕ → Bool) (f : Facts v) (w : Still v
         pending = w .pendings i q k;
         unshared = w .marks i q k;
         parent = (pid-in-still (v′ .parent i) ∙ w .parents i q) k;
-        own = (ap (name v′ s) (w .owns i q) ∙ name-still (v .own i) (w .own-kept i q)) k;
-        children = (ap (name v′ s) (w .childrens i q) ∙ ⊎-elim (λ h. name-still (v .children i) h) (λ e. name-no-slot v′ s _ e ∙ sym (name-no-slot v s _ e)) (w .children-kept i q)) k;
+        own = (ap (name v′ s) (w .owns i q) ∙ name-still (v .own i) (w .own-kept i q) (own-taken v f i (seen-taken v s i q))) k;
+        children = (ap (name v′ s) (w .childrens i q) ∙ child i q) k;
         last = (ap (λ (n : ℕ). if eqb (init v′ n) i then v′ .last n else 0) (w .owns i q) ∙ ap₂ (λ (x : Life) (z : ℕ). if eqb (init-of x) i then z else 0) (w .lives (v .own i) (w .own-kept i q)) (w .lasts i q)) k;
       }
 
@@ -111,16 +90,8 @@ module _ (v v′ : View) (s : ℕ) (K : ℕ → Bool) (f : Facts v) (w : Still v
         back = λ i k. (i, w .seens i ∙ k, row-still i k);
       }
 
-  climb-still : (k a b : ℕ) → So (K a) → v .level a ≡ k → climb (v′ .up) k a b ≡ climb (v .up) k a b
-  unfolding climb
-  climb-still zero a b h e = refl
-  climb-still (suc k) a b h e =
-      ap (λ (x : Bool). elim (eqb a b) [ true ↦ true | false ↦ x ])
-      (ap (λ x. climb (v′ .up) k x b) (w .ups a h) ∙ climb-still k (v .up a) b (w .up-kept a k h e) (up-level v f a k e))
-
   pub below-still : (a b : ℕ) → So (K a) → below v′ a b ≡ below v a b
-  unfolding below
-  below-still a b h = ap (λ k. climb (v′ .up) k a b) (w .levels a h) ∙ climb-still (v .level a) a b h refl
+  below-still = below-stays v v′ K f stays
 
   pub stands-still : So (namespace-taken v s) → So (namespace-taken v′ s)
   unfolding namespace-taken
@@ -149,33 +120,41 @@ module _ (v : View) (f : Facts v) (s : ℕ) where
       go l q b = open-case b (ℕ-discrete (v .level s) (v .level n))
 
   pub near-own : (i : ℕ) → So (seen v s i) → So (near v s (v .own i))
-  near-own i h = or-left _ _ (seen-below v f s i h)
+  near-own i h = or-left _ _ (seen-below v s i h)
 
   pub near-children : (i : ℕ) → So (seen v s i) → So (near v s (v .children i)) ⊎ (v .children i ≡ no-slot)
-  unfolding living S.ended-bare
+  unfolding living
   near-children i h = go (v .ended i) refl
     where
       ti : So (taken v i)
-      ti = seen-taken v f s i h
+      ti = seen-taken v s i h
 
       go : (b : Bool) → v .ended i ≡ b → So (near v s (v .children i)) ⊎ (v .children i ≡ no-slot)
       go true e = inr (f .ended-bare i ti e .0 .0 .0)
-      go false e = inl (or-left _ _ (below-trans v f _ _ s (children-below v f i (both _ _ ti (ap not e))) (seen-below v f s i h)))
+      go false e = inl (or-left _ _ (below-trans v f _ _ s (children-below v f i (both _ _ ti (ap not e))) (seen-below v s i h)))
 
--- ---- then namespaces are freed
-
-pub freed-after : (t t₁ : Table) (s : ℕ) → S.SoundTable t → Sane t₁ → S.SoundTable (freed t₁) → So (namespace-taken (view t) s) → So (namespace-taken (view t₁) s) → Same (view t₁) (view t) s s → sheet-of (freed t₁) (follow t (freed t₁) (at s)) ≡ sheet (view t) s
-freed-after t t₁ s h fits h′ hs hs₁ w = go (kept (view t₁) s) refl
+-- one outside S changed in its lights
+pub put-still : (t : Table) (f : Facts (view t)) (c : ℕ) (p : Process) → Placed p (process t c) → (s : ℕ) → seen (view t) s c ≡ false → Still (view t) (view (put t c p)) s (near (view t) s)
+put-still t f c p k s o =
+    record {
+      here = near-here (view t) f s;
+      up-kept = near-up (view t) f s;
+      own-kept = near-own (view t) f s;
+      children-kept = near-children (view t) f s;
+      ups = λ n h. refl;
+      levels = λ n h. refl;
+      lives = λ n h. refl;
+      seens = λ i. seen-remain (view t) (view (put t c p)) everyone everyone f (light-remain (view t) (view (put t c p)) (put-light t c p k)) s i refl;
+      owns = λ i h. ap (λ q. q .own .0) (same i h);
+      pids = λ i l h. ap (λ q. pid-at q l) (same i h);
+      states = λ i h. ap (λ q. q .state) (same i h);
+      handleds = λ i h. ap (λ q. q .handled) (same i h);
+      pendings = λ i h. ap (λ q. q .pending) (same i h);
+      marks = λ i h. ap (λ q. q .unshared) (same i h);
+      childrens = λ i h. ap (λ q. q .children .0) (same i h);
+      parents = λ i h. ap (λ q. pid-in (view t) s (q .parent .0)) (same i h);
+      lasts = λ i h. refl;
+    }
   where
-    f : Facts (view t₁)
-    f = fits .facts
-
-    go : (b : Bool) → kept (view t₁) s ≡ b → sheet-of (freed t₁) (follow t (freed t₁) (at s)) ≡ sheet (view t) s
-    go true ks =
-        stands-leaves t (freed t₁) s h h′ hs (kept-stands t₁ f s ks hs₁)
-        (record {
-          levels = level-kept t₁ f s ks ∙ w .levels;
-          there = λ i k. let q = sym (freed-seen t₁ f s i) ∙ k in let (j, m, e) = w .there i q in (j, m, freed-row t₁ f s i ks (seen-taken (view t₁) f s i q) ∙ e);
-          back = λ j k. let (i, m, e) = w .back j k in (i, freed-seen t₁ f s i ∙ m, freed-row t₁ f s i ks (seen-taken (view t₁) f s i m) ∙ e);
-        })
-    go false ks = gone-leaves t (freed t₁) s (not-kept-gone t₁ f s (namespace-count t₁ (fits .shape-of)) hs₁ ks) (λ j k. let (i, m, e) = w .back j k in false≢true (sym ks ∙ seen-keeps t₁ f s i m))
+    same : (i : ℕ) → So (seen (view t) s i) → process (put t c p) i ≡ process t i
+    same i h = put-other t c p k i (λ e. false≢true (sym o ∙ ap (seen (view t) s) (sym e) ∙ h))

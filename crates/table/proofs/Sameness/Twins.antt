@@ -5,12 +5,12 @@ use native.Mathlib.Omega.{arith}
 use mathlib.Core.Bool.{Bool, true, false, So}
 use mathlib.Core.Path.{_≡_, refl, sym, _∙_, ap, subst, subst₂}
 use lib.ListN.{getD}
-use Rattle.table.proofs.Laws.Facts.{Facts}
-use Rattle.table.proofs.Laws.Quant.{right, both}
-use Rattle.table.proofs.Laws.Slots.{seen-taken, seen-below, pid-unique, own-taken, own-not-unborn, pid-pos, pid-zero, level-deepest, below-level, below-trans, below-parent, below-up-by, up-by-below, up-level, alive-taken, alive-up, init-seen, init-own, init-parent, init-taken, living-taken, parent-living, not-root, root-own}
+use Rattle.table.proofs.Laws.Below.{level-deepest, below-level, up-level, not-root, below-trans}
+use Rattle.table.proofs.Laws.Facts.{Facts, seen-taken, seen-below, lives-taken}
+use Rattle.table.proofs.Laws.Slots.{pid-unique, own-taken, own-not-unborn, pid-pos, pid-zero, below-parent, below-up-by, up-by-below, alive-taken, alive-up, init-seen, init-own, init-parent, init-taken, parent-living}
+use Rattle.table.proofs.Laws.Tests.{right, both}
 use Rattle.table.proofs.Sameness.Anchor.{anchor, anchor-self, anchor-alive, anchor-below, anchor-least, is-by-init, name-pid, name-alive, name-anchor}
-use Rattle.table.proofs.Sameness.Find.{row-pid}
-use Rattle.table.proofs.Sameness.Same.{Same, getD-values, level-lt}
+use Rattle.table.proofs.Sameness.Same.{Same, getD-values, level-lt, row-pid}
 use Rattle.table.specs.Limits.{levels}
 use Rattle.table.specs.Read.{View, alive, below, init, pid-in, pid-seen, seen, taken, up-by}
 use Rattle.table.specs.Sheet.{Row, row}
@@ -99,17 +99,17 @@ level-le : (v u : View) (s r : ℕ) (w : Pair v u s r) (i j : ℕ) → Twin v u 
 level-le v u s r w i j k = go (decLt (u .level (u .own j)) (v .level (v .own i)))
   where
     ti : So (taken v i)
-    ti = seen-taken v (w .facts-v) s i (k .seen-v)
+    ti = seen-taken v s i (k .seen-v)
 
     tj : So (taken u j)
-    tj = seen-taken u (w .facts-u) r j (k .seen-u)
+    tj = seen-taken u r j (k .seen-u)
 
     go : Dec (u .level (u .own j) < v .level (v .own i)) → v .level (v .own i) ≤ u .level (u .own j)
     go (no o) = omega arith
     go (yes l) =
         absurd
         (omega
-        (arith, pid-pos v (w .facts-v) i (v .level (v .own i)) ti (omega arith), pid-zero u (w .facts-u) j (v .level (v .own i)) tj (omega (arith, level-deepest v (w .facts-v) _ (own-taken v (w .facts-v) i ti))) l, twin-pid v u s r w i j (v .level (v .own i)) k (below-level v (w .facts-v) _ s (seen-below v (w .facts-v) s i (k .seen-v))) (level-lt v (w .facts-v) _ (own-taken v (w .facts-v) i ti))))
+        (arith, pid-pos v (w .facts-v) i (v .level (v .own i)) ti (omega arith), pid-zero u (w .facts-u) j (v .level (v .own i)) tj (omega (arith, level-deepest v (w .facts-v) _ (own-taken v (w .facts-v) i ti))) l, twin-pid v u s r w i j (v .level (v .own i)) k (below-level v (w .facts-v) _ s (seen-below v s i (k .seen-v))) (level-lt v (w .facts-v) _ (own-taken v (w .facts-v) i ti))))
 
 module _ (v u : View) (s r : ℕ) (w : Pair v u s r) where
   pub own-levels : (i j : ℕ) → Twin v u s r i j → v .level (v .own i) ≡ u .level (u .own j)
@@ -124,28 +124,28 @@ module _ (v u : View) (s r : ℕ) (w : Pair v u s r) where
       record {
         lives-v = anchor-alive v (w .facts-v) (v .own i) (own-taken v (w .facts-v) i ti);
         lives-u = anchor-alive u (w .facts-u) (u .own j) (own-taken u (w .facts-u) j tj);
-        below-v = anchor-least v (w .facts-v) (v .own i) s (w .alive-v) (seen-below v (w .facts-v) s i (k .seen-v));
-        below-u = anchor-least u (w .facts-u) (u .own j) r (w .alive-u) (seen-below u (w .facts-u) r j (k .seen-u));
+        below-v = anchor-least v (w .facts-v) (v .own i) s (w .alive-v) (seen-below v s i (k .seen-v));
+        below-u = anchor-least u (w .facts-u) (u .own j) r (w .alive-u) (seen-below u r j (k .seen-u));
         inits =
-            sym (pid-in-seen v s _ (init-seen v (w .facts-v) _ s (anchor-alive v (w .facts-v) (v .own i) (own-taken v (w .facts-v) i ti)) (anchor-least v (w .facts-v) (v .own i) s (w .alive-v) (seen-below v (w .facts-v) s i (k .seen-v)))))
+            sym (pid-in-seen v s _ (init-seen v (w .facts-v) _ s (anchor-alive v (w .facts-v) (v .own i) (own-taken v (w .facts-v) i ti)) (anchor-least v (w .facts-v) (v .own i) s (w .alive-v) (seen-below v s i (k .seen-v)))))
             ∙ sym (name-anchor v (w .facts-v) s (v .own i) (own-taken v (w .facts-v) i ti) (own-not-unborn v (w .facts-v) i ti))
             ∙ ap (λ (q : Row). name-pid (q .own)) (twin-rows v u s r w i j k)
             ∙ name-anchor u (w .facts-u) r (u .own j) (own-taken u (w .facts-u) j tj) (own-not-unborn u (w .facts-u) j tj)
-            ∙ pid-in-seen u r _ (init-seen u (w .facts-u) _ r (anchor-alive u (w .facts-u) (u .own j) (own-taken u (w .facts-u) j tj)) (anchor-least u (w .facts-u) (u .own j) r (w .alive-u) (seen-below u (w .facts-u) r j (k .seen-u))));
+            ∙ pid-in-seen u r _ (init-seen u (w .facts-u) _ r (anchor-alive u (w .facts-u) (u .own j) (own-taken u (w .facts-u) j tj)) (anchor-least u (w .facts-u) (u .own j) r (w .alive-u) (seen-below u r j (k .seen-u))));
       }
     where
       ti : So (taken v i)
-      ti = seen-taken v (w .facts-v) s i (k .seen-v)
+      ti = seen-taken v s i (k .seen-v)
 
       tj : So (taken u j)
-      tj = seen-taken u (w .facts-u) r j (k .seen-u)
+      tj = seen-taken u r j (k .seen-u)
 
   pub own-alive : (i j : ℕ) → Twin v u s r i j → alive v (v .own i) ≡ alive u (u .own j)
   unfolding row
   own-alive i j k =
-      sym (name-alive v (w .facts-v) s (v .own i) (own-taken v (w .facts-v) i (seen-taken v (w .facts-v) s i (k .seen-v))))
+      sym (name-alive v (w .facts-v) s (v .own i) (own-taken v (w .facts-v) i (seen-taken v s i (k .seen-v))))
       ∙ ap (λ (q : Row). is-by-init (q .own)) (twin-rows v u s r w i j k)
-      ∙ name-alive u (w .facts-u) r (u .own j) (own-taken u (w .facts-u) j (seen-taken u (w .facts-u) r j (k .seen-u)))
+      ∙ name-alive u (w .facts-u) r (u .own j) (own-taken u (w .facts-u) j (seen-taken u r j (k .seen-u)))
 
   pub owns : (i j : ℕ) → Twin v u s r i j → So (alive v (v .own i)) → Twins v u s r (v .own i) (u .own j)
   owns i j k a =
@@ -174,7 +174,7 @@ module _ (v : View) (f : Facts v) (s : ℕ) where
   init-parent-seen n a h l =
       let e : v .level n ≡ suc (pred (v .level n)) = omega arith in
       both _ _
-      (living-taken v f _ (parent-living v f (init v n) (init-taken v f n a) (λ z. not-root v f n _ e (sym (init-own v f n a) ∙ ap (v .own) z ∙ root-own v f))))
+      (lives-taken v _ (parent-living v f (init v n) (init-taken v f n a) (λ z. not-root v f n _ e (sym (init-own v f n a) ∙ ap (v .own) z ∙ f .root-own))))
       (subst (λ y. So (below v y s)) (sym (init-parent v f n _ a e)) (below-parent v f n s h l))
 
 module _ (v u : View) (s r : ℕ) (w : Pair v u s r) where
@@ -209,8 +209,8 @@ module _ (v u : View) (s r : ℕ) (w : Pair v u s r) where
   unfolding seen
   seen-twins i j n m k l =
       bool-ext _ _
-      (λ h. both _ _ (seen-taken u (w .facts-u) r j (k .seen-u)) (below-trans u (w .facts-u) _ _ m (anchor-below u (w .facts-u) (u .own j)) (sym (below-twins _ _ n m (anchors v u s r w i j k) l) ∙ anchor-least v (w .facts-v) (v .own i) n (l .lives-v) (right _ _ h))))
-      (λ h. both _ _ (seen-taken v (w .facts-v) s i (k .seen-v)) (below-trans v (w .facts-v) _ _ n (anchor-below v (w .facts-v) (v .own i)) (below-twins _ _ n m (anchors v u s r w i j k) l ∙ anchor-least u (w .facts-u) (u .own j) m (l .lives-u) (right _ _ h))))
+      (λ h. both _ _ (seen-taken u r j (k .seen-u)) (below-trans u (w .facts-u) _ _ m (anchor-below u (w .facts-u) (u .own j)) (sym (below-twins _ _ n m (anchors v u s r w i j k) l) ∙ anchor-least v (w .facts-v) (v .own i) n (l .lives-v) (right _ _ h))))
+      (λ h. both _ _ (seen-taken v s i (k .seen-v)) (below-trans v (w .facts-v) _ _ n (anchor-below v (w .facts-v) (v .own i)) (below-twins _ _ n m (anchors v u s r w i j k) l ∙ anchor-least u (w .facts-u) (u .own j) m (l .lives-u) (right _ _ h))))
 
   pub pid-twins : (i j n m : ℕ) → Twin v u s r i j → Twins v u s r n m → pid-seen v n i ≡ pid-seen u m j
   unfolding pid-seen
