@@ -4,3 +4,6 @@ pub mod Tables
 pub mod Edges
 pub mod Levels
 pub mod Refused
+pub mod Laws
+pub mod Keeps
+pub mod Sameness

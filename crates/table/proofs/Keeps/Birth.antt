@@ -1,0 +1,280 @@
+-- A birth keeps a table sound.
+use Prim.Native.Nat.{ℕ, zero, suc, _<_, _≤_}
+use native.Mathlib.Omega.{arith}
+use mathlib.Core.Logic.{_⊎_, inl, inr, ⊎-elim}
+use mathlib.Core.Path.{_≡_, refl, sym, _∙_, ap, subst}
+use mathlib.Core.Bool.{true, false, So, false≢true}
+use borrow.Author.Tests.{eq-eqb, ne-eqb, eqb-true, le-leb, leb-true}
+use lib.Dec.{eqb, leb}
+use Rattle.table.proofs.Laws.Cases.{yes-or-no, no-so, isnt-so, zero-or, same-or, life-cases, alive-unborn, dead-unborn}
+use Rattle.table.proofs.Laws.SignalSets.{no-signals}
+use Rattle.table.proofs.Laws.Below.{last-step, above-namespace, above-is, above-same, below-level, root-above}
+use Rattle.table.proofs.Laws.Facts.{Holder, root, member, for-children, child, Facts, Held, Taken, Stands, Lives, Below, Seen, Other, lives-taken, is-seen}
+use Rattle.table.proofs.Laws.Iff.{not-iff}
+use Rattle.table.proofs.Keeps.MemberEnds.{reaches}
+use Rattle.table.proofs.Keeps.NewPid.{Fresh, next-fresh, next-first, nobody, free-is}
+use Rattle.table.proofs.Laws.Quant.{left, right, both}
+use Rattle.table.proofs.Laws.Reach.{reach-bounded, reach-zero, reach-step, reach-cases}
+use Rattle.table.proofs.Laws.Tree.{below-refl}
+use Rattle.table.specs.Limits.{greatest-pid, namespace-slots, process-slots}
+use Rattle.table.specs.Pids.{next-pid}
+use Rattle.table.specs.Read.{View, above-at, alive, below, dead, init, init-of, is-alive, is-dead, living, namespace-taken, pid-seen, seen, taken, unborn}
+use Rattle.table.specs.Sound.{reaches-root, zero-namespace, zero-process}
+use Rattle.table.specs.Tests.{_and_, if_then_else_}
+use Rattle.table.specs.declared.Life.the-variants.{Alive}
+use Rattle.table.specs.declared.State.the-variants.{Running}
+
+-- the view with a child of c, at slot k, in n
+abbrev pub with-born : View → ℕ → ℕ → ℕ → View
+with-born v c n k =
+    record {
+      own = λ i. if eqb i k then n else v .own i;
+      children = λ i. if eqb i k then n else v .children i;
+      parent = λ i. if eqb i k then c else v .parent i;
+      state = λ i. if eqb i k then Running else v .state i;
+      ended = λ i. if eqb i k then false else v .ended i;
+      handled = λ i. if eqb i k then 0 else v .handled i;
+      pending = λ i. if eqb i k then 0 else v .pending i;
+      unshared = λ i. if eqb i k then false else v .unshared i;
+      pid = λ i l. if eqb i k then (if leb l (v .level n) then next-pid v (above-at v n l) else 0) else v .pid i l;
+      up = v .up;
+      level = v .level;
+      last = λ m. if below v n m then next-pid v m else v .last m;
+      life = λ m. if below v n m then (if unborn v m then Alive (record { 0 = k }) else v .life m) else v .life m;
+    }
+
+module _ (v : View) (f : Facts v) (c n k : ℕ) (c-lives : Lives v c) (here : Stands v n) (n-below : Below v n (v .own c)) (not-dead : So (dead v n) → ⊥) (k-low : k < process-slots) (k-free : Taken v k → ⊥) (up-own : So (unborn v n) → v .own c ≡ v .up n) where
+  abbrev w : View
+  w = with-born v c n k
+
+  self : eqb k k ≡ true
+  self = eq-eqb k k refl
+
+  -- one that was there is another
+  old : (i : ℕ) → Taken v i → eqb i k ≡ false
+  old i t = ne-eqb i k (λ x. k-free (subst (Taken v) x t))
+
+  -- ---- numbers
+
+  born-pid : (m : ℕ) → Below v n m → w .pid k (v .level m) ≡ next-pid v m
+  born-pid m b = let l : v .level m ≤ v .level n = below-level v f n m b in let e = le-leb (v .level m) (v .level n) l in rw (self, e) (ap (next-pid v) (above-same v f n m b))
+
+  fresh : (m : ℕ) → Below v n m → Fresh v m (next-pid v m)
+  fresh m b = next-fresh v f m (above-namespace v f n m here b)
+
+  k-taken : Taken w k
+  unfolding taken
+  k-taken = let b = root-above v f n here in let x : w .pid k 0 ≡ next-pid v 0 = subst (λ l. w .pid k l ≡ next-pid v 0) (f .root-level) (born-pid 0 b) in not-iff (eqb (w .pid k 0) 0) .1 (λ z. omega (arith, fresh 0 b .above, sym x, eqb-true (w .pid k 0) 0 z))
+
+  taken-w : (i : ℕ) → Taken w i → (i ≡ k) ⊎ ((eqb i k ≡ false) × Taken v i)
+  unfolding taken
+  taken-w i t = ⊎-elim (λ x. inl x) (λ o. inr (o, rw o at t)) (same-or i k)
+
+  -- ---- namespaces
+
+  -- above n, only n may be unborn
+  unborn-above : (m : ℕ) → Below v n m → So (unborn v m) → n ≡ m
+  unborn-above m b u = ⊎-elim (λ x. x) (λ (a, s, o, e, d). absurd (f .unborn-leaf m (above-namespace v f n m here b) u a s o e)) (last-step v f n m here b)
+
+  life-w : (m : ℕ) → (Below v n m × So (unborn v m) × (w .life m ≡ Alive (record { 0 = k }))) ⊎ (w .life m ≡ v .life m)
+  life-w m =
+      ⊎-elim
+      (λ (b : Below v n m). ⊎-elim (λ (u : So (unborn v m)). inl (b, u, rw (b, u))) (λ (u : unborn v m ≡ false). inr (rw (b, u))) (yes-or-no (unborn v m)))
+      (λ b. inr (rw b)) (yes-or-no (below v n m))
+
+  dead-w : (m : ℕ) → So (dead w m) → So (dead v m)
+  dead-w m d = ⊎-elim (λ (b, u, e). absurd (false≢true (sym (ap is-dead e) ∙ d))) (λ e. sym (ap is-dead e) ∙ d) (life-w m)
+
+  is-dead-w : (m : ℕ) → So (dead v m) → So (dead w m)
+  is-dead-w m d = ⊎-elim (λ (b, u, e). absurd (dead-unborn (v .life m) d u)) (λ e. ap is-dead e ∙ d) (life-w m)
+
+  unborn-w : (m : ℕ) → So (unborn w m) → (Below v n m → ⊥) × So (unborn v m)
+  unborn-w m h =
+      ⊎-elim
+      (λ (b : Below v n m). ⊎-elim (λ (u : So (unborn v m)). absurd (false≢true (rw (b, u) at h))) (λ (u : unborn v m ≡ false). absurd (no-so u (rw (b, u) at h))) (yes-or-no (unborn v m)))
+      (λ b. (no-so b, rw b at h)) (yes-or-no (below v n m))
+
+  -- ---- processes
+
+  lives-old : (i : ℕ) → Lives v i → Lives w i
+  unfolding living taken
+  lives-old i h = rw (old i (left _ _ h)) h
+
+  k-lives : Lives w k
+  unfolding living
+  k-lives = both _ _ k-taken (rw self)
+
+  lives-w : (i : ℕ) → eqb i k ≡ false → Lives w i → Lives v i
+  unfolding living taken
+  lives-w i o h = rw o at h
+
+  is-taken : (i : ℕ) → Taken v i → Taken w i
+  unfolding taken
+  is-taken i t = rw (old i t) t
+
+  seen-w : (m i : ℕ) → Seen w m i → ((i ≡ k) × Below v n m) ⊎ ((eqb i k ≡ false) × Seen v m i)
+  unfolding seen below
+  seen-w m i h =
+      ⊎-elim (λ x. inl (x, rw (eq-eqb i k x) at (right _ _ h)))
+      (λ (o, t). inr (o, both _ _ t (rw o at (right _ _ h)))) (taken-w i (left _ _ h))
+
+  pid-w : (m i : ℕ) → eqb i k ≡ false → pid-seen w m i ≡ pid-seen v m i
+  unfolding pid-seen
+  pid-w m i o = rw o
+
+  pid-k : (m i : ℕ) → i ≡ k → Below v n m → pid-seen w m i ≡ next-pid v m
+  unfolding pid-seen
+  pid-k m i x b = ap (λ j. w .pid j (v .level m)) x ∙ born-pid m b
+
+  -- nobody has the new number
+  clash : (m i : ℕ) → Below v n m → Seen v m i → pid-seen v m i ≡ next-pid v m → ⊥
+  clash m i b h e = free-is v f m _ (fresh m b .free) i h e
+
+  -- the init of a living namespace above n has 1 there
+  not-first : (m : ℕ) → Below v n m → So (alive v m) → next-pid v m ≡ 1 → ⊥
+  not-first m b a e =
+      let s = above-namespace v f n m here b in
+      let (l, o) = f .inits m s a in
+      let h : Seen v m (init v m) = is-seen v m _ (lives-taken v _ l) (subst (λ x. Below v x m) (sym o) (below-refl v m)) in
+      clash m (init v m) b h (f .first m s a (init v m) h .1 refl ∙ sym e)
+
+  reach-old : (l j : ℕ) → Taken v j → So (reaches-root (v .parent) l j) → So (reaches-root (w .parent) l j)
+  unfolding reaches-root
+  reach-old zero j t h = h
+  reach-old (suc l) j t h =
+      zero-or j (reach-zero (w .parent) (suc l) j)
+      (λ o. ⊎-elim (reach-zero (w .parent) (suc l) j)
+      (λ r. reach-step (w .parent) l j (rw (old j t) (reach-old l (v .parent j) (lives-taken v _ (f .parents j t o .0 .0)) r)))
+      (reach-cases (v .parent) l j h))
+
+  parent-lives : (i : ℕ) → Taken w i → Other i → Lives w (w .parent i)
+  parent-lives i t o = ⊎-elim (λ x. rw (eq-eqb i k x) (lives-old c c-lives)) (λ (y, x). rw y (lives-old _ (f .parents i x o .0 .0))) (taken-w i t)
+
+  range-w : (i : ℕ) → Taken w i → i < process-slots
+  range-w i t = ⊎-elim (λ x. omega arith) (λ (y, x). f .in-range i x) (taken-w i t)
+
+  reached : (i : ℕ) → Taken w i → So (reaches-root (w .parent) process-slots i)
+  reached i t =
+      ⊎-elim
+      (λ x. reach-bounded (w .parent) process-slots (Taken w) range-w (λ j y o. lives-taken w _ (parent-lives j y o)) i t (suc process-slots)
+      (reach-step (w .parent) process-slots i (rw (eq-eqb i k x) (reach-old process-slots c (lives-taken v c c-lives) (reaches v f c (lives-taken v c c-lives))))))
+      (λ (y, x). reach-old process-slots i x (reaches v f i x)) (taken-w i t)
+
+  empty-w : (i : ℕ) → (Taken w i → ⊥) → So (zero-process w i)
+  unfolding zero-process
+  empty-w i o = ⊎-elim (λ x. absurd (o (subst (Taken w) (sym x) k-taken))) (λ y. rw y (f .empty-process i (λ t. o (is-taken i t)))) (same-or i k)
+
+  empty-namespace-w : (m : ℕ) → (Stands v m → ⊥) → So (zero-namespace w m)
+  unfolding zero-namespace
+  empty-namespace-w m o = rw (isnt-so (λ b. o (above-namespace v f n m here b))) (f .empty-namespace m o)
+
+  last-w : (m : ℕ) → m < namespace-slots → w .last m ≤ greatest-pid
+  last-w m l = ⊎-elim (λ (b : Below v n m). rw b (fresh m b .within)) (λ (b : below v n m ≡ false). rw b (f .last-pids m l)) (yes-or-no (below v n m))
+
+  pids-k : (l : ℕ) → So (if leb l (v .level n) then leb 1 (if leb l (v .level n) then next-pid v (above-at v n l) else 0) and leb (if leb l (v .level n) then next-pid v (above-at v n l) else 0) greatest-pid else eqb (if leb l (v .level n) then next-pid v (above-at v n l) else 0) 0)
+  pids-k l =
+      ⊎-elim
+      (λ (b : So (leb l (v .level n))). let g = fresh _ (above-is v f n l here (leb-true _ _ b) .1) in rw b (both _ _ (le-leb 1 _ (g .above)) (le-leb _ greatest-pid (g .within))))
+      (λ (b : leb l (v .level n) ≡ false). rw b (eq-eqb 0 0 refl)) (yes-or-no (leb l (v .level n)))
+
+  -- who holds an unborn one held it before
+  holder-w : (m i : ℕ) → (Below v n m → ⊥) → Taken w i → w .children i ≡ m → (eqb i k ≡ false) × Taken v i × (v .children i ≡ m)
+  holder-w m i b t x = ⊎-elim (λ z. absurd (b (subst (Below v n) (rw (eq-eqb i k z) at x) (below-refl v n)))) (λ (o, z). (o, z, rw o at x)) (taken-w i t)
+
+  old-c : eqb c k ≡ false
+  old-c = old c (lives-taken v c c-lives)
+
+  old-parent : (i : ℕ) → Taken v i → Other i → eqb (v .parent i) k ≡ false
+  old-parent i t o = old _ (lives-taken v _ (f .parents i t o .0 .0))
+
+  parent-above : (i : ℕ) → Taken w i → Other i → Below w (w .own i) (w .own (w .parent i))
+  unfolding below
+  parent-above i t o = ⊎-elim (λ x. rw (eq-eqb i k x, old-c) n-below) (λ (y, x). rw (y, old-parent i x o) (f .parents i x o .0 .1)) (taken-w i t)
+
+  first-w : (i : ℕ) → Taken w i → Other i → pid-seen w (w .own i) i ≡ 1 → w .own (w .parent i) ≡ w .up (w .own i)
+  first-w i t o x =
+      ⊎-elim
+      (λ y. let e = eq-eqb i k y in
+      let one : next-pid v n ≡ 1 = sym (pid-k n i y (below-refl v n)) ∙ (rw e at x) in
+      rw (e, old-c) (⊎-elim up-own (λ u. absurd (not-first n (below-refl v n) (life-cases (v .life n) (no-so u) not-dead) one)) (yes-or-no (unborn v n))))
+      (λ (y, z). rw (y, old-parent i z o) (f .first-parents i z o (sym (pid-w _ i y) ∙ (rw y at x)))) (taken-w i t)
+
+  pub born-pre : Facts w
+  unfolding namespace-taken below
+  born-pre =
+      record {
+        in-range = range-w;
+        in-namespace = f .in-namespace;
+        root-init = ap init-of root-life ∙ f .root-init;
+        root-lives = lives-old 0 (f .root-lives);
+        root-own = rw root (f .root-own);
+        root-pid = rw root (f .root-pid);
+        root-parent = rw root (f .root-parent);
+        root-alive = ap is-alive root-life ∙ f .root-alive;
+        root-level = f .root-level;
+        root-up = f .root-up;
+        inits = λ m s a.
+            ⊎-elim
+            (λ (b, u, e). subst (λ x. Lives w (init-of x) × (w .own (init-of x) ≡ m)) (sym e) (k-lives, rw self (unborn-above m b u)))
+            (λ e. let (l, o) = f .inits m s (sym (ap is-alive e) ∙ a) in
+            subst (λ x. Lives w (init-of x) × (w .own (init-of x) ≡ m)) (sym e) (lives-old _ l, rw (old _ (lives-taken v _ l)) o))
+            (life-w m);
+        empty-process = empty-w;
+        empty-namespace = empty-namespace-w;
+        tree = f .tree;
+        below-dead = λ m s o d. is-dead-w m (f .below-dead m s o (dead-w (v .up m) d));
+        unborn-last = λ m s u. let (b, x) = unborn-w m u in rw (isnt-so b) (f .unborn-last m s x);
+        unborn-empty = λ m s u i t x.
+            let (b, y) = unborn-w m u in
+            ⊎-elim (λ z. b (subst (Below v n) (rw (eq-eqb i k z) at x) (below-refl v n))) (λ (o, z). f .unborn-empty m s y i z (rw o at x)) (taken-w i t);
+        unborn-leaf = λ m s u. f .unborn-leaf m s (unborn-w m u .1);
+        unborn-own = λ m s u i t x. let (b, y) = unborn-w m u in let (o, z, e) = holder-w m i b t x in rw o (f .unborn-own m s y i z e);
+        unborn-one = λ m s u i j a b c d. let (e, y) = unborn-w m u in let (o, z, g) = holder-w m i e a b in let (p, x, h) = holder-w m j e c d in f .unborn-one m s y i j z g x h;
+        last-pids = last-w;
+        pid-range = λ i t l b. ⊎-elim (λ x. rw (eq-eqb i k x) (pids-k l)) (λ (o, x). rw o (f .pid-range i x l b)) (taken-w i t);
+        differ = λ m s i j a b x.
+            ⊎-elim
+            (λ (p, y). ⊎-elim (λ (q, z). p ∙ sym q) (λ (q, z). absurd (clash m j y z (sym (pid-w m j q) ∙ sym x ∙ pid-k m i p y))) (seen-w m j b))
+            (λ (p, y). ⊎-elim (λ (q, z). absurd (clash m i z y (sym (pid-w m i p) ∙ x ∙ pid-k m j q z))) (λ (q, z). f .differ m s i j y z (sym (pid-w m i p) ∙ x ∙ pid-w m j q)) (seen-w m j b))
+            (seen-w m i a);
+        first = λ m s a i h.
+            ⊎-elim
+            (λ (b, u, e). ⊎-elim
+            (λ (p, y). (λ x. p ∙ sym (ap init-of e), λ x. pid-k m i p y ∙ next-first v f m s u))
+            (λ (p, y). absurd (nobody v f m s u i y)) (seen-w m i h))
+            (λ e. let c : So (alive v m) = sym (ap is-alive e) ∙ a in
+            ⊎-elim
+            (λ (p, y). (λ x. absurd (not-first m y c (sym (pid-k m i p y) ∙ x)), λ x. absurd (k-free (subst (Taken v) (sym (ap init-of e) ∙ sym x ∙ p) (lives-taken v _ (f .inits m s c .0))))))
+            (λ (p, y). let (q, z) = f .first m s c i y in (λ x. q (sym (pid-w m i p) ∙ x) ∙ sym (ap init-of e), λ x. pid-w m i p ∙ z (x ∙ ap init-of e))) (seen-w m i h))
+            (life-w m);
+        members = λ i t.
+            ⊎-elim
+            (λ x. rw (eq-eqb i k x) ((here, λ d. absurd (not-dead (dead-w n d))), λ u. unborn-w n u .0 (below-refl v n)))
+            (λ (o, x). let ((a, b), c) = f .members i x in rw o ((a, λ d. b (dead-w _ d)), λ u. c (unborn-w _ u .1))) (taken-w i t);
+        parents = λ i t o. ((parent-lives i t o, parent-above i t o), reached i t);
+        first-parents = first-w;
+        children = λ i t h. ⊎-elim (λ x. rw (eq-eqb i k x) (here, below-refl v n)) (λ (o, x). rw o (f .children i x (lives-w i o h))) (taken-w i t);
+        signal-sets = λ i t. ⊎-elim (λ x. rw (eq-eqb i k x) no-signals) (λ (o, x). rw o (f .signal-sets i x)) (taken-w i t);
+        ended-bare = λ i t. ⊎-elim (λ x. rw (eq-eqb i k x) (λ h. absurd (false≢true h))) (λ (o, x). rw o (f .ended-bare i x)) (taken-w i t);
+        ends-kept = λ i t. ⊎-elim (λ x. rw (eq-eqb i k x)) (λ (o, x). rw o (f .ends-kept i x)) (taken-w i t);
+      }
+    where
+      root : eqb 0 k ≡ false
+      root = old 0 (lives-taken v 0 (f .root-lives))
+
+      root-life : w .life 0 ≡ v .life 0
+      root-life = ⊎-elim (λ (b, u, e). absurd (alive-unborn (v .life 0) (f .root-alive) u)) (λ e. e) (life-w 0)
+
+  pub born-held : ((m : ℕ) → Stands v m → So (unborn v m) → (m ≡ n → ⊥) → (i : ℕ) × Taken v i × (v .children i ≡ m)) → ((m : ℕ) → Stands v m → (m ≡ n) ⊎ Holder v m) → Held w
+  unfolding namespace-taken
+  born-held x y =
+      record {
+        holder = λ m s u. let (b, z) = unborn-w m u in let (i, t, e) = x m s z (λ q. b (subst (Below v n) (sym q) (below-refl v n))) in (i, is-taken i t, rw (old i t) e);
+        held-by = λ m s. (⊎-elim (λ q. member k k-taken (rw self (sym q))) (same m) (y m s));
+      }
+    where
+      same : (m : ℕ) → Holder v m → Holder w m
+      same m (root z) = root z
+      same m (member i t e) = member i (is-taken i t) (rw (old i t) e)
+      same m (for-children i t e) = for-children i (is-taken i t) (rw (old i t) e)
+      same m (child a s o e) = child a s o e

@@ -1,0 +1,187 @@
+-- A signal finds exactly the processes of the caller's namespace and those below.
+use Prim.Native.Nat.{ℕ, pred, _<_}
+use native.Mathlib.Omega.{arith}
+use mathlib.Core.Path.{_≡_, refl, sym, _∙_, ap, ap₂, subst}
+use mathlib.Core.Bool.{Bool, true, false, not, So}
+use mathlib.Core.List.{List, [], _∷_}
+use borrow.Author.Tests.{ne-eqb, eqb-true, le-leb, lt-ltb}
+use lib.Dec.{eqb}
+use lib.IntN.{ℤ}
+use lib.ListN.{length}
+use Rattle.table.proofs.Laws.Below.{below-trans}
+use Rattle.table.proofs.Laws.Cases.{isnt-so, zero-or}
+use Rattle.table.proofs.Keeps.Changed.{changed-at, stored, process-count}
+use Rattle.table.proofs.Keeps.Deliver.{Each, Safe, Good, action-good, deliver-sane, deliver-all-sane}
+use Rattle.table.proofs.Laws.Facts.{Facts, Taken, Stands, Lives, Below, Seen, Other, lives-taken, seen-taken, seen-below, is-seen, facts}
+use Rattle.table.proofs.Keeps.Fixed.{Shrinks, shrinks-trans, run-shrinks}
+use Rattle.table.proofs.Keeps.Changes.{start, act-run}
+use Rattle.table.proofs.Keeps.InitKeeps.{Sane, sane, subtree-view}
+use Rattle.table.proofs.Keeps.MemberKeeps.{member-view}
+use Rattle.table.proofs.Keeps.Premises as K
+use Rattle.table.proofs.Keeps.NewPid.{found, free-is}
+use Rattle.table.proofs.Laws.Quant.{left, right, both, isnt-not}
+use Rattle.table.proofs.Laws.Steps.{made-or-refused}
+use Rattle.table.specs.Answers.{answers, granted, refused}
+use Rattle.table.specs.Calls.{kill, names-group, natural, targets, within}
+use Rattle.table.specs.Delivery.{act, action-on, deliver, deliver-all}
+use Rattle.table.specs.Ends.{end, init-ends, member-ends, namespace-dies}
+use Rattle.table.specs.Freeing.{freed}
+use Rattle.table.specs.Limits.{process-slots, signals}
+use Rattle.table.specs.Read.{View, below, child-of, climb, find, is-init, no-process, pid-seen, process, seen, view}
+use Rattle.table.specs.Records.{changed, put}
+use Rattle.table.specs.Sound.{SoundTable, kept-end, shaped}
+use Rattle.table.specs.Step.{make, step}
+use Rattle.table.specs.Tests.{if_then_else_}
+use Rattle.table.specs.declared.Action.{Action}
+use Rattle.table.specs.declared.Action.the-variants.{Finish, Nothing, Pend, Resume, Stop}
+use Rattle.table.specs.declared.Call.the-variants.{Kill}
+use Rattle.table.specs.declared.End.{End}
+use Rattle.table.specs.declared.End.the-variants.{Signaled}
+use Rattle.table.specs.declared.Outcome.{Outcome}
+use Rattle.table.specs.declared.State.the-variants.{Ended}
+use Rattle.table.specs.declared.Namespace.{Namespace}
+use Rattle.table.specs.declared.Process.{Process}
+use Rattle.table.specs.declared.Table.{Table}
+
+-- a number that is seen names its process
+pub finds : (v : View) → Facts v → (n i : ℕ) → Stands v n → Seen v n i → find v n (pid-seen v n i) ≡ i
+finds v f n i s h =
+    let (l, x, e) = found v n (pid-seen v n i) (isnt-so (λ free. free-is v f n _ free i h refl)) in
+    f .differ n s (find v n (pid-seen v n i)) i x h e
+
+-- ---- what a change leaves
+
+-- the processes that are not seen from n are as they were
+abbrev Leaves : ℕ → Table → Table → Type 0
+Leaves n t u = (i : ℕ) → (Seen (view t) n i → ⊥) → process u i ≡ process t i
+
+put-leaves : (t : Table) → So (shaped t) → (n j : ℕ) (x : Process) → Seen (view t) n j → j < process-slots → Leaves n t (put t j x)
+put-leaves t g n j x s l i o = stored (t .processes) j x no-process (omega (arith, process-count t g)) i ∙ rw (ne-eqb i j (λ e. o (subst (Seen (view t) n) (sym e) s)))
+
+module _ (t : Table) (s : Sane t) (n p : ℕ) (e : End) (seen-p : Seen (view t) n p) where
+  abbrev v : View
+  v = view t
+
+  f : Facts v
+  f = s .facts
+
+  low : p < process-slots
+  low = f .in-range p (seen-taken v n p seen-p)
+
+  not-p : (i : ℕ) → (Seen v n i → ⊥) → eqb i p ≡ false
+  not-p i o = ne-eqb i p (λ x. o (subst (Seen v n) (sym x) seen-p))
+
+  -- a child of p is seen
+  no-child : (i : ℕ) → (Seen v n i → ⊥) → child-of v p i ≡ false
+  unfolding child-of
+  no-child i o =
+      isnt-so (λ c.
+      let t = left _ _ c in
+      let x = eqb-true (v .parent i) p (right _ _ c) in
+      zero-or i (λ z. omega (arith, low, sym x, ap (v .parent) z, f .root-parent))
+      (λ y. o (is-seen v n i t (below-trans v f _ _ _ (subst (λ j. Below v (v .own i) (v .own j)) x (f .parents i t y .0 .1)) (seen-below v n p seen-p)))))
+
+  -- and so is all of its subtree
+  no-member : (i : ℕ) → (Seen v n i → ⊥) → seen v (v .own p) i ≡ false
+  no-member i o = isnt-so (λ x. o (is-seen v n i (seen-taken v (v .own p) i x) (below-trans v f _ _ _ (seen-below v (v .own p) i x) (seen-below v n p seen-p))))
+
+  changed-leaves : (k : ℕ → Process → Process) (g : ℕ → Namespace → Namespace) → ((i : ℕ) → (Seen v n i → ⊥) → (x : Process) → k i x ≡ x) → Leaves n t (changed t k g)
+  changed-leaves k g h i o =
+      changed-at k no-process process-slots (t .processes) (process-count t (s .shape-of)) (λ j l. h j (λ x. omega (arith, f .in-range j (seen-taken v n j x))) no-process) i ∙ h i o (process t i)
+
+  init-same : (i : ℕ) → (Seen v n i → ⊥) → (q : Process) → init-ends v p e i q ≡ q
+  unfolding init-ends
+  init-same i o q = rw (no-member i o)
+
+  member-same : (i : ℕ) → (Seen v n i → ⊥) → (q : Process) → member-ends v p e i q ≡ q
+  unfolding member-ends
+  member-same i o q = rw (not-p i o, no-child i o)
+
+  end-leaves : Leaves n t (end t p e)
+  unfolding end
+  end-leaves = go (is-init v p) refl
+    where
+      go : (b : Bool) → is-init v p ≡ b → Leaves n t (end t p e)
+      go true x = rw (x, end) (changed-leaves (init-ends v p e) (namespace-dies v (v .own p)) init-same)
+      go false x = rw (x, end) (changed-leaves (member-ends v p e) (λ m s. s) member-same)
+
+apply-leaves : (t : Table) (s : Sane t) (n i k : ℕ) (e : Action) → Good (view t) i k e → (Taken (view t) i → Seen (view t) n i) → Leaves n t (act t i k e)
+unfolding act
+apply-leaves t s n i k Nothing g h = λ j o. refl
+apply-leaves t s n i k Resume g h = let x = lives-taken (view t) i g in put-leaves t (s .shape-of) n i _ (h x) (s .facts .in-range i x)
+apply-leaves t s n i k Stop g h = let x = lives-taken (view t) i g in put-leaves t (s .shape-of) n i _ (h x) (s .facts .in-range i x)
+apply-leaves t s n i k Finish g h = end-leaves t s n i _ (h (lives-taken (view t) i (g .0)))
+apply-leaves t s n i k Pend g h = let x = lives-taken (view t) i (g .0) in put-leaves t (s .shape-of) n i _ (h x) (s .facts .in-range i x)
+
+-- ---- the tree of namespaces stays
+
+pub record Same (v u : View) : Type 0 where
+  pub shrinks : Shrinks v u
+  pub ups : u .up ≡ v .up
+  pub levels : u .level ≡ v .level
+
+below-same : (v u : View) → Same v u → (a b : ℕ) → below u a b ≡ below v a b
+unfolding below
+below-same v u s a b = ap₂ (λ (up level : ℕ → ℕ). climb up (level a) a b) (s .ups) (s .levels)
+
+seen-back : (v u : View) → Same v u → (n i : ℕ) → Seen u n i → Seen v n i
+seen-back v u s n i h =
+    let (t, e) = s .shrinks i (seen-taken u n i h) in
+    is-seen v n i t (subst (λ m. Below v m n) e (sym (below-same v u s (u .own i) n) ∙ seen-below u n i h))
+
+seen-still : (v u : View) → Same v u → (n i : ℕ) → Seen v n i → Taken u i → Seen u n i
+seen-still v u s n i h t = is-seen u n i t (below-same v u s (u .own i) n ∙ subst (λ m. Below v m n) (sym (s .shrinks i t .1)) (seen-below v n i h))
+
+same-trans : (a b c : View) → Same a b → Same b c → Same a c
+same-trans a b c x y = record { shrinks = shrinks-trans a b c (x .shrinks) (y .shrinks); ups = y .ups ∙ x .ups; levels = y .levels ∙ x .levels }
+
+end-same : (t : Table) (s : Sane t) (p : ℕ) (e : End) → Lives (view t) p → Other p → So (kept-end (Ended e)) → (view (end t p e) .up ≡ view t .up) × (view (end t p e) .level ≡ view t .level)
+unfolding end
+end-same t s p e l o ok = go (is-init (view t) p) refl
+  where
+    go : (b : Bool) → is-init (view t) p ≡ b → (view (end t p e) .up ≡ view t .up) × (view (end t p e) .level ≡ view t .level)
+    go true i = let x = subtree-view t (s .shape-of) (s .facts) p e l i o ok in rw (i, end) (ap (λ w. w .up) x, ap (λ w. w .level) x)
+    go false i = let x = member-view t (s .shape-of) (s .facts) p e l i ok in rw (i, end) (ap (λ w. w .up) x, ap (λ w. w .level) x)
+
+action-same : (t : Table) (s : Sane t) (i k : ℕ) → k < signals → (e : Action) → Good (view t) i k e → (view (act t i k e) .up ≡ view t .up) × (view (act t i k e) .level ≡ view t .level)
+unfolding act
+action-same t s i k l Nothing g = (refl, refl)
+action-same t s i k l Resume g = (refl, refl)
+action-same t s i k l Stop g = (refl, refl)
+action-same t s i k l Finish g = end-same t s i (Signaled k) (g .0) (g .1) (both _ _ (le-leb 1 k (g .2)) (lt-ltb k signals l))
+action-same t s i k l Pend g = (refl, refl)
+
+apply-same : (t : Table) (s : Sane t) (i k : ℕ) → k < signals → (e : Action) → Good (view t) i k e → Same (view t) (view (act t i k e))
+apply-same t s i k l e g = record { shrinks = run-shrinks t (act t i k e) s (act-run t t start s i k l e g); ups = action-same t s i k l e g .0; levels = action-same t s i k l e g .1 }
+
+deliver-all-leaves : (t : Table) (n : ℕ) (u : Table) → Sane u → Same (view t) (view u) → Leaves n t u → (from k : ℕ) → k < signals → (is : List ℕ) → Safe from is → Each (Seen (view t) n) is → Leaves n t (deliver-all u from is k)
+unfolding deliver-all deliver
+deliver-all-leaves t n u s m x from k l [] h y = x
+deliver-all-leaves t n u s m x from k l (i ∷ is) h y =
+    let g = action-good (view u) i k from (s .facts) (h .0) in
+    let d : Leaves n u (deliver u from i k) = apply-leaves u s n i k (action-on (view u) from i k) g (seen-still (view t) (view u) m n i (y .0)) in
+    deliver-all-leaves t n (deliver u from i k) (deliver-sane u s i k l from (h .0)) (same-trans (view t) (view u) (view (deliver u from i k)) m (apply-same u s i k l (action-on (view u) from i k) g))
+    (λ j o. d j (λ z. o (seen-back (view t) (view u) m n j z)) ∙ x j o) from k l is (h .1) (y .1)
+
+freed-leaves : (t : Table) → So (shaped t) → (i : ℕ) → process (freed t) i ≡ process t i
+unfolding freed
+freed-leaves t g = changed-at (λ i p. p) no-process process-slots (t .processes) (process-count t g) (λ i l. refl)
+
+either : (t : Table) (i : ℕ) (b : Bool) (x y : Outcome) → (So b → process (x .table) i ≡ process t i) → (b ≡ false → process (y .table) i ≡ process t i) → process ((if b then x else y) .table) i ≡ process t i
+either t i true x y h k = h refl
+either t i false x y h k = k refl
+
+kill-leaves : (t : Table) (c : ℕ) → SoundTable t → (n s : ℤ) → Leaves (view t .own c) t (kill t c n s .table)
+unfolding kill answers granted refused
+kill-leaves t c h n s i o =
+    either t i (not (within 0 signals s)) _ _ (λ a. refl) (λ a.
+    either t i (names-group n) _ _ (λ b. refl) (λ b.
+    either t i (eqb (length (targets (view t) c n)) 0) _ _ (λ d. refl) (λ d.
+    let l = K.natural-low s (isnt-not _ a) in
+    let safe = K.targets-safe (view t) (facts t h) c n in
+    freed-leaves _ (deliver-all-sane t (sane t h) (view t .own c) (natural s) l (targets (view t) c n) safe .shape-of) i
+    ∙ deliver-all-leaves t (view t .own c) t (sane t h) (record { shrinks = λ j y. (y, refl); ups = refl; levels = refl }) (λ j o. refl) (view t .own c) (natural s) l (targets (view t) c n) safe (K.targets-seen (view t) c n) i o)))
+
+pub spares : (t : Table) (c i : ℕ) (n s : ℤ) → SoundTable t → (Seen (view t) (view t .own c) i → ⊥) → process (step t c (Kill n s) .table) i ≡ process t i
+unfolding make
+spares t c i n s h o = made-or-refused (λ u. process u i ≡ process t i) t c (Kill n s) h refl (λ r. kill-leaves t c h n s i o)

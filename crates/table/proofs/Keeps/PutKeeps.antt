@@ -1,0 +1,168 @@
+-- The changes of one slot, as tables.
+use Prim.Native.Nat.{ℕ, suc, _<_, _^_}
+use native.Mathlib.Omega.{arith}
+use native.Mathlib.Decide.{decLt}
+use mathlib.Core.Path.{_≡_, refl, sym, _∙_, ap, subst}
+use mathlib.Core.Bool.{Bool, false, So, false≢true}
+use borrow.Author.Tests.{lt-ltb}
+use lib.Dec.{eqb}
+use lib.ListN.{List·getD-eq-default}
+use Rattle.table.proofs.Laws.Cases.{isnt-so}
+use Rattle.table.proofs.Keeps.Changed.{getD-replicate, view-put, shaped-put, shape-at, pick, pick-same, process-count, view-put-namespace, shaped-put-namespace}
+use Rattle.table.proofs.Laws.Facts.{Facts, Taken, Stands, Lives, Below, SignalsOk, lives-taken, not-ended}
+use Rattle.table.proofs.Keeps.InitKeeps.{Sane}
+use Rattle.table.proofs.Keeps.NewNamespace.{with-namespace}
+use Rattle.table.proofs.Laws.Quant.{left, both}
+use Rattle.table.proofs.Keeps.Reap.{without, reaped-pre}
+use Rattle.table.proofs.Keeps.Signal.{with-signalled, signalled-pre}
+use Rattle.table.proofs.Keeps.SetChildren.{with-other-children, set-children-pre}
+use Rattle.table.specs.Calls.{new-namespace}
+use Rattle.table.specs.Fresh.{empty-process}
+use Rattle.table.specs.Limits.{levels, namespace-slots, process-slots, signals}
+use Rattle.table.specs.Pids.{free-namespace-slot}
+use Rattle.table.specs.Read.{is-ended, namespace, no-pid, no-process, pid-at, process, unborn, view}
+use Rattle.table.specs.Records.{put, to-pid, with-children}
+use Rattle.table.specs.Sound.{kept-end, shaped}
+use Rattle.table.specs.Tests.{if_then_else_}
+use Rattle.table.specs.declared.Life.the-variants.{Unborn}
+use Rattle.table.specs.declared.Namespace.{Namespace}
+use Rattle.table.specs.declared.Process.{Process}
+use Rattle.table.specs.declared.State.{State}
+use Rattle.table.specs.declared.Table.{Table}
+
+-- ---- children's namespace
+
+module _ (t : Table) (sane : Sane t) (c m : ℕ) (mark : Bool) (c-lives : Lives (view t) c) where
+  abbrev x : Process
+  x = with-children (process t c) m mark
+
+  low : c < process-slots
+  low = sane .facts .in-range c (lives-taken (view t) c c-lives)
+
+  pub set-children-view : view (put t c x) ≡ with-other-children (view t) c m mark
+  set-children-view =
+      view-put t (sane .shape-of) c x low
+      ∙ (λ j. record {
+        own = λ i. pick-same t (sane .shape-of) c (λ p. p .own .0) x refl i j;
+        children = λ i. pick (λ p. p .children .0) (eqb i c) x (process t i) j;
+        parent = λ i. pick-same t (sane .shape-of) c (λ p. p .parent .0) x refl i j;
+        state = λ i. pick-same t (sane .shape-of) c (λ p. p .state) x refl i j;
+        ended = λ i. pick-same t (sane .shape-of) c (λ p. is-ended (p .state)) x refl i j;
+        handled = λ i. pick-same t (sane .shape-of) c (λ p. p .handled) x refl i j;
+        pending = λ i. pick-same t (sane .shape-of) c (λ p. p .pending) x refl i j;
+        unshared = λ i. pick (λ p. p .unshared) (eqb i c) x (process t i) j;
+        pid = λ i l. pick-same t (sane .shape-of) c (λ p. pid-at p l) x refl i j;
+        up = view t .up;
+        level = view t .level;
+        last = view t .last;
+        life = view t .life;
+      })
+
+  pub set-children-sane : Stands (view t) m → Below (view t) m (view t .own c) → (So (unborn (view t) m) → (view t .own c ≡ view t .up m) × ((i : ℕ) → Taken (view t) i → view t .children i ≡ m → i ≡ c)) → Sane (put t c x)
+  set-children-sane a b d = record { shape-of = shaped-put t (sane .shape-of) c x low (shape-at t (sane .shape-of) c low); facts = subst Facts (sym set-children-view) (set-children-pre (view t) (sane .facts) c m mark c-lives a b d) }
+
+-- ---- state and signals
+
+abbrev pub with-all : Process → State → ℕ → ℕ → Process
+with-all p s h q = record { own = p .own; children = p .children; parent = p .parent; state = s; handled = h; pending = q; unshared = p .unshared; pids = p .pids }
+
+module _ (t : Table) (sane : Sane t) (c : ℕ) (c-lives : Lives (view t) c) (s : State) (alive : is-ended s ≡ false) (h q : ℕ) where
+  abbrev y : Process
+  y = with-all (process t c) s h q
+
+  low-c : c < process-slots
+  low-c = sane .facts .in-range c (lives-taken (view t) c c-lives)
+
+  pub signalled-view : view (put t c y) ≡ with-signalled (view t) c s h q
+  signalled-view =
+      view-put t (sane .shape-of) c y low-c
+      ∙ (λ j. record {
+        own = λ i. pick-same t (sane .shape-of) c (λ p. p .own .0) y refl i j;
+        children = λ i. pick-same t (sane .shape-of) c (λ p. p .children .0) y refl i j;
+        parent = λ i. pick-same t (sane .shape-of) c (λ p. p .parent .0) y refl i j;
+        state = λ i. pick (λ p. p .state) (eqb i c) y (process t i) j;
+        ended = λ i. pick-same t (sane .shape-of) c (λ p. is-ended (p .state)) y (alive ∙ sym (isnt-so (not-ended (view t) c c-lives))) i j;
+        handled = λ i. pick (λ p. p .handled) (eqb i c) y (process t i) j;
+        pending = λ i. pick (λ p. p .pending) (eqb i c) y (process t i) j;
+        unshared = λ i. pick-same t (sane .shape-of) c (λ p. p .unshared) y refl i j;
+        pid = λ i l. pick-same t (sane .shape-of) c (λ p. pid-at p l) y refl i j;
+        up = view t .up;
+        level = view t .level;
+        last = view t .last;
+        life = view t .life;
+      })
+
+  pub signalled-sane : So (kept-end s) → SignalsOk h q → h < 2 ^ signals → q < 2 ^ signals → Sane (put t c y)
+  signalled-sane a b d e =
+      record {
+        shape-of = shaped-put t (sane .shape-of) c y low-c (both _ _ (both _ _ (left _ _ (left _ _ (shape-at t (sane .shape-of) c low-c))) (lt-ltb h (2 ^ signals) d)) (lt-ltb q (2 ^ signals) e));
+        facts = subst Facts (sym signalled-view) (signalled-pre (view t) (sane .facts) c s h q c-lives a b);
+      }
+
+-- ---- removal
+
+pub ended-low : (t : Table) → So (shaped t) → (d : ℕ) → So (view t .ended d) → d < process-slots
+ended-low t g d h = go (decLt d process-slots)
+  where
+    go : Dec (d < process-slots) → d < process-slots
+    go (yes l) = l
+    go (no o) = absurd (false≢true (sym (ap (λ p. is-ended (p .state)) (List·getD-eq-default (t .processes) no-process (omega (arith, process-count t g)))) ∙ h))
+
+module _ (t : Table) (sane : Sane t) (d : ℕ) (over : So (view t .ended d)) where
+  low-d : d < process-slots
+  low-d = ended-low t (sane .shape-of) d over
+
+  pub reaped-view : view (put t d empty-process) ≡ without (view t) d
+  reaped-view =
+      view-put t (sane .shape-of) d empty-process low-d
+      ∙ (λ j. record {
+        own = λ i. pick (λ p. p .own .0) (eqb i d) empty-process (process t i) j;
+        children = λ i. pick (λ p. p .children .0) (eqb i d) empty-process (process t i) j;
+        parent = λ i. pick (λ p. p .parent .0) (eqb i d) empty-process (process t i) j;
+        state = λ i. pick (λ p. p .state) (eqb i d) empty-process (process t i) j;
+        ended = λ i. pick (λ p. is-ended (p .state)) (eqb i d) empty-process (process t i) j;
+        handled = λ i. pick (λ p. p .handled) (eqb i d) empty-process (process t i) j;
+        pending = λ i. pick (λ p. p .pending) (eqb i d) empty-process (process t i) j;
+        unshared = λ i. pick (λ p. p .unshared) (eqb i d) empty-process (process t i) j;
+        pid = λ i l. (pick (λ p. pid-at p l) (eqb i d) empty-process (process t i) ∙ ap (λ z. if eqb i d then z else view t .pid i l) (ap (λ p. p .0) (getD-replicate no-pid levels l))) j;
+        up = view t .up;
+        level = view t .level;
+        last = view t .last;
+        life = view t .life;
+      })
+
+  pub reaped-sane : Sane (put t d empty-process)
+  reaped-sane = record { shape-of = shaped-put t (sane .shape-of) d empty-process low-d (both _ _ (both _ _ refl refl) refl); facts = subst Facts (sym reaped-view) (reaped-pre (view t) (sane .facts) d over) }
+
+-- ---- a new namespace
+
+module _ (t : Table) (g : So (shaped t)) (c : ℕ) (low : free-namespace-slot (view t) < namespace-slots) where
+  abbrev j : ℕ
+  j = free-namespace-slot (view t)
+
+  abbrev z : Namespace
+  z = record { parent = record { 0 = view t .own c }; level = suc (view t .level (view t .own c)); last = to-pid 0; life = Unborn }
+
+  pub new-namespace-view : view (new-namespace t c) ≡ with-namespace (view t) (view t .own c) j
+  unfolding new-namespace
+  new-namespace-view =
+      view-put-namespace t g j z low
+      ∙ (λ r. record {
+        own = view t .own;
+        children = view t .children;
+        parent = view t .parent;
+        state = view t .state;
+        ended = view t .ended;
+        handled = view t .handled;
+        pending = view t .pending;
+        unshared = view t .unshared;
+        pid = view t .pid;
+        up = λ m. pick (λ s. s .parent .0) (eqb m j) z (namespace t m) r;
+        level = λ m. pick (λ s. s .level) (eqb m j) z (namespace t m) r;
+        last = λ m. pick (λ s. s .last .0) (eqb m j) z (namespace t m) r;
+        life = λ m. pick (λ s. s .life) (eqb m j) z (namespace t m) r;
+      })
+
+  pub new-namespace-shape : So (shaped (new-namespace t c))
+  unfolding new-namespace
+  new-namespace-shape = shaped-put-namespace t g j z

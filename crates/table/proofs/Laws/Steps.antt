@@ -1,0 +1,54 @@
+-- A call is made by a running caller of a sound table, and refused to any other.
+use Prim.Native.Nat.{ℕ, _<_}
+use native.Mathlib.Decide.{decLt}
+use native.Mathlib.Omega.{arith}
+use mathlib.Core.Bool.{Bool, true, false, not, So, false≢true}
+use mathlib.Core.Path.{_≡_, refl, sym, _∙_, ap}
+use borrow.Author.Tests.{eq-eqb, ne-eqb}
+use lib.IntN.{pos}
+use Rattle.table.specs.Answers.{answers, granted, number-of, refused}
+use Rattle.table.specs.Calls.{clone-new, getpid, own-level}
+use Rattle.table.specs.Limits.{deepest, namespace-slots, process-slots}
+use Rattle.table.specs.Pids.{free-namespace-slot, free-slot, next-pid}
+use Rattle.table.specs.Read.{View, pid-seen, taken, view}
+use Rattle.table.specs.Sound.{SoundTable}
+use Rattle.table.specs.Step.{make, runs, step}
+use Rattle.table.specs.Tests.{_or_}
+use Rattle.table.specs.declared.Answer.the-variants.{Number}
+use Rattle.table.specs.declared.Call.{Call}
+use Rattle.table.specs.declared.Call.the-variants.{Getpid, CloneNew}
+use Rattle.table.specs.declared.Refusal.the-variants.{NotRunning, Enospc}
+use Rattle.table.specs.declared.Table.{Table}
+
+pub step-made : (t : Table) (c : ℕ) (call : Call) → SoundTable t → So (runs (view t) c) → step t c call ≡ make t c call
+unfolding step
+step-made t c call h k = rw (h .rules, k)
+
+pub step-refused : (t : Table) (c : ℕ) (call : Call) → SoundTable t → runs (view t) c ≡ false → step t c call ≡ refused t NotRunning
+unfolding step
+step-refused t c call h k = rw (h .rules, k)
+
+-- what holds of a refusal's table and of what a made call leaves holds of each call's table
+pub made-or-refused : (P : Table → Type 0) (t : Table) (c : ℕ) (call : Call) → SoundTable t → P t → (So (runs (view t) c) → P (make t c call .table)) → P (step t c call .table)
+unfolding refused
+made-or-refused P t c call h p m = go (runs (view t) c) refl
+  where
+    go : (b : Bool) → runs (view t) c ≡ b → P (step t c call .table)
+    go true e = rw (step-made t c call h e) (m e)
+    go false e = rw (step-refused t c call h e) p
+
+-- getpid answers the caller's number in its own namespace
+pub getpid-answers : (t : Table) (c : ℕ) → SoundTable t → So (runs (view t) c) → number-of (step t c Getpid .reply .answer) ≡ pos (view t .pid c (view t .level (view t .own c)))
+unfolding make getpid answers granted number-of pid-seen
+getpid-answers t c h k = rw (step-made t c Getpid h k)
+
+-- the levels' edge, at any depth
+pub too-deep : (t : Table) (c : ℕ) → SoundTable t → So (runs (view t) c) → own-level (view t) c ≡ deepest → step t c CloneNew ≡ refused t Enospc
+unfolding make clone-new
+too-deep t c h k e = step-made t c CloneNew h k ∙ rw (eq-eqb (own-level (view t) c) deepest e, clone-new)
+
+pub deep-enough : (t : Table) (c : ℕ) → SoundTable t → So (runs (view t) c) → (own-level (view t) c ≡ deepest → ⊥) → (free-slot (view t) ≡ process-slots → ⊥) → (free-namespace-slot (view t) ≡ namespace-slots → ⊥) → step t c CloneNew .reply .answer ≡ Number (next-pid (view t) (view t .own c))
+unfolding make clone-new _or_
+deep-enough t c h k e p s =
+    ap (λ r. r .reply .answer) (step-made t c CloneNew h k)
+    ∙ rw (ne-eqb (own-level (view t) c) deepest e, ne-eqb (free-slot (view t)) process-slots p, ne-eqb (free-namespace-slot (view t)) namespace-slots s, clone-new)

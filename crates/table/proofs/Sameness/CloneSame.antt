@@ -1,0 +1,181 @@
+-- plain clone, by twin callers.
+use Prim.Native.Nat.{ℕ, zero, suc, _<_, _≤_}
+use native.Mathlib.Omega.{arith}
+use mathlib.Core.Bool.{Bool, true, false, not, So, false≢true}
+use mathlib.Core.Logic.{_⊎_, inl, inr, ⊎-elim}
+use mathlib.Core.Option.{some}
+use mathlib.Core.Path.{_≡_, refl, sym, _∙_, ap, ap₂, subst, subst₂}
+use borrow.Author.Tests.{eqb-true, eqb-false, eq-eqb, ne-eqb}
+use lib.Dec.{eqb}
+use Rattle.table.proofs.Sameness.Anchor.{anchor, anchor-self, root-alive, is-unborn-name, is-dead-name, name-taken}
+use Rattle.table.proofs.Sameness.BirthPids.{Cradles, Unborns}
+use Rattle.table.proofs.Sameness.BirthSame.{birth-same}
+use Rattle.table.proofs.Sameness.BirthTable.{grown, lights, the-child}
+use Rattle.table.proofs.Sameness.Calls.{both-refuse, owns-twins, own-lives, made-sound, processes-length, namespaces-length, taken-s, taken-r, the-rows}
+use Rattle.table.proofs.Laws.Clauses.{Sound, sound-is}
+use Rattle.table.proofs.Sameness.DeliverSame.{Fits, fits-sound}
+use Rattle.table.proofs.Sameness.ExitSame.{runs-living}
+use Rattle.table.proofs.Sameness.Inside.{Kept, Ready, MadeSame, stands-same}
+use Rattle.table.proofs.Laws.Facts.{Facts, facts}
+use Rattle.table.proofs.Laws.Slots.{seen-taken, seen-below, slot-lt, namespace-lt, below-trans, alive-taken, alive-otherwise, root-only, up-level, alive-not-unborn}
+use Rattle.table.proofs.Sameness.NextPid.{next-twins}
+use Rattle.table.proofs.Laws.Quant.{left, right, both, given, isnt, any-elim, all-elim, or-true}
+use Rattle.table.proofs.Sameness.Readers.{twin-eqb}
+use Rattle.table.proofs.Sameness.Same.{Same}
+use Rattle.table.proofs.Sameness.Namespaces.{children-taken, children-below, name-unborn, anchors-of}
+use Rattle.table.proofs.Sameness.Twins.{Pair, Twin, Twins, bool-ext, twins-level}
+use Rattle.table.specs.Answers.{is-no-room, refused, number-of, refusal-number}
+use Rattle.table.specs.Births.{birth, newborn}
+use Rattle.table.specs.Calls.{born, clone}
+use Rattle.table.specs.Claims.{KeepsSound}
+use Rattle.table.specs.Limits.{namespace-slots, no-slot, process-slots}
+use Rattle.table.specs.Pids.{free-slot, next-pid}
+use Rattle.table.specs.Read.{View, alive, below, dead, is-alive, is-dead, is-unborn, living, namespace-taken, seen, taken, unborn, view}
+use Rattle.table.specs.Sheet.{Name, Row, name, name-by, row}
+use Rattle.table.specs.Sound.{SoundTable, holds, unborn-namespace}
+use Rattle.table.specs.Step.{make}
+use Rattle.table.specs.Tests.{_and_, _implies_, _or_, any, if_then_else_, one}
+use Rattle.table.specs.Sound as S
+use Rattle.table.specs.declared.Answer.the-variants.{Number}
+use Rattle.table.specs.declared.Call.the-variants.{Clone}
+use Rattle.table.specs.declared.Life.{Life}
+use Rattle.table.specs.declared.Life.the-variants.{Unborn, Alive, Dead}
+use Rattle.table.specs.declared.Outcome.{Outcome}
+use Rattle.table.specs.declared.Refusal.the-variants.{Enomem, Eagain}
+use Rattle.table.specs.declared.Table.{Table}
+
+-- an unborn namespace is not the root
+pub one-up : (v : View) (f : Facts v) (n : ℕ) → So (unborn v n) → So (namespace-taken v n) → v .level n ≡ suc (v .level (v .up n))
+one-up v f n h k = go (v .level n) refl
+  where
+    go : (l : ℕ) → v .level n ≡ l → v .level n ≡ suc (v .level (v .up n))
+    go zero e = absurd (false≢true (sym (alive-not-unborn (v .life 0) (root-alive v f)) ∙ ap (unborn v) (sym (root-only v f n k e)) ∙ h))
+    go (suc l) e = e ∙ ap suc (sym (up-level v f n l e))
+
+by-dead : (v : View) (s n : ℕ) (l : Life) → is-dead-name (name-by v s n l) ≡ is-dead l
+unfolding name-by
+by-dead v s n Unborn = refl
+by-dead v s n (Alive i) = refl
+by-dead v s n Dead = refl
+
+module _ (t u : Table) (s r c d : ℕ) (w : Ready t u s r c d) where
+  ft : Facts (view t)
+  ft = facts t (w .sound-t)
+
+  fu : Facts (view u)
+  fu = facts u (w .sound-u)
+
+  lc : So (living (view t) c)
+  lc = runs-living t c (w .runs-t)
+
+  ld : So (living (view u) d)
+  ld = runs-living u d (w .runs-u)
+
+  hn : So (namespace-taken (view t) (view t .children c))
+  hn = children-taken (view t) ft c lc
+
+  hm : So (namespace-taken (view u) (view u .children d))
+  hm = children-taken (view u) fu d ld
+
+  bn : So (below (view t) (view t .children c) s)
+  bn = below-trans (view t) ft _ _ s (children-below (view t) ft c lc) (seen-below (view t) ft s c (w .twin .seen-v))
+
+  bm : So (below (view u) (view u .children d) r)
+  bm = below-trans (view u) fu _ _ r (children-below (view u) fu d ld) (seen-below (view u) fu r d (w .twin .seen-u))
+
+  names : name (view t) s (view t .children c) ≡ name (view u) r (view u .children d)
+  unfolding row
+  names = ap (λ (q : Row). q .children) (the-rows t u s r c d w)
+
+  deads : dead (view t) (view t .children c) ≡ dead (view u) (view u .children d)
+  deads =
+      sym (ap is-dead-name (name-taken (view t) ft s _ hn) ∙ by-dead (view t) s _ _) ∙ ap is-dead-name names ∙ ap is-dead-name (name-taken (view u) fu r _ hm) ∙ by-dead (view u) r _ _
+
+  unborns : unborn (view t) (view t .children c) ≡ unborn (view u) (view u .children d)
+  unborns = sym (name-unborn (view t) ft s _ hn) ∙ ap is-unborn-name names ∙ name-unborn (view u) fu r _ hm
+
+  tc : So (taken (view t) c)
+  tc = seen-taken (view t) ft s c (w .twin .seen-v)
+
+  td : So (taken (view u) d)
+  td = seen-taken (view u) fu r d (w .twin .seen-u)
+
+  cradles : dead (view t) (view t .children c) ≡ false → Cradles (view t) (view u) s r (view t .children c) (view u .children d)
+  cradles nd = go (unborn (view t) (view t .children c)) refl
+    where
+      go : (b : Bool) → unborn (view t) (view t .children c) ≡ b → Cradles (view t) (view u) s r (view t .children c) (view u .children d)
+      go true h =
+          let h′ = sym unborns ∙ h in
+          inr
+          (record {
+            unborn-v = h;
+            unborn-u = h′;
+            lasts = ft .unborn-last _ hn h ∙ sym (fu .unborn-last _ hm h′);
+            ups = subst₂ (λ a b. Twins (view t) (view u) s r a b) (ft .unborn-own _ hn h c tc refl) (fu .unborn-own _ hm h′ d td refl) (owns-twins t u s r c d w);
+            level-v = one-up (view t) ft _ h hn;
+            level-u = one-up (view u) fu _ h′ hm;
+          })
+      go false h =
+          let h′ = sym unborns ∙ h in
+          inl
+          (subst₂ (λ a b. Twins (view t) (view u) s r a b) (anchor-self (view t) ft _ (alive-otherwise (view t .life (view t .children c)) nd h)) (anchor-self (view u) fu _ (alive-otherwise (view u .life (view u .children d)) (sym deads ∙ nd) h′))
+          (anchors-of (view t) (view u) s r (w .pair) _ _ names hn hm bn bm h h′))
+
+  holders : (i j : ℕ) → Twin (view t) (view u) s r i j → So (unborn (view t) (view t .children c)) → eqb (view t .children i) (view t .children c) ≡ eqb (view u .children j) (view u .children d)
+  holders i j x h =
+      let h′ = sym unborns ∙ h in
+      let ti = seen-taken (view t) ft s i (x .seen-v) in
+      let tj = seen-taken (view u) fu r j (x .seen-u) in
+      let e = twin-eqb (view t) (view u) s r (w .pair) i j c d x (w .twin) in
+      bool-ext _ _
+      (λ q. eq-eqb _ _ (ap (view u .children) (eqb-true j d (sym e ∙ eq-eqb i c (ft .unborn-one _ hn h i c ti (eqb-true _ _ q) tc refl)))))
+      (λ q. eq-eqb _ _ (ap (view t .children) (eqb-true i c (e ∙ eq-eqb j d (fu .unborn-one _ hm h′ j d tj (eqb-true _ _ q) td refl)))))
+
+  fits-t : Fits t
+  fits-t = fits-sound t (w .sound-t)
+
+  fits-u : Fits u
+  fits-u = fits-sound u (w .sound-u)
+
+  born-kept : dead (view t) (view t .children c) ≡ false → (free-slot (view t) ≡ process-slots → ⊥) → (free-slot (view u) ≡ process-slots → ⊥) → SoundTable (birth t c (view t .children c)) → SoundTable (birth u d (view u .children d)) → Kept t u s r (born t c (birth t c (view t .children c))) (born u d (birth u d (view u .children d)))
+  unfolding newborn namespace-taken
+  born-kept nd rt ru h g =
+      let a = grown t fits-t c (view t .children c) hn rt in
+      let b = grown u fits-u d (view u .children d) hm ru in
+      let x = the-child t fits-t c (view t .children c) hn rt in
+      let y = the-child u fits-u d (view u .children d) hm ru in
+      inr (
+        ap Number (next-twins (view t) (view u) s r (w .pair) _ _ (owns-twins t u s r c d w)),
+        stands-same t u (birth t c (view t .children c)) (birth u d (view u .children d)) s r h g
+            (ap (λ (l : ℕ → ℕ). eqb s 0 or not (eqb (l s) 0)) (a .levels-same) ∙ taken-s t u s r c d w)
+            (ap (λ (l : ℕ → ℕ). eqb r 0 or not (eqb (l r) 0)) (b .levels-same) ∙ taken-r t u s r c d w)
+            (birth-same (view t) (view u) (view (birth t c (view t .children c))) (view (birth u d (view u .children d))) s r (w .pair) c d (view t .children c) (view u .children d) (free-slot (view t)) (free-slot (view u)) (w .twin) (cradles nd) hn hm bn bm a b (lights t fits-t c (view t .children c) hn rt) (lights u fits-u d (view u .children d) hm ru)
+            (ap (λ p. p .state) x ∙ sym (ap (λ p. p .state) y), ap (λ p. p .handled) x ∙ sym (ap (λ p. p .handled) y), ap (λ p. p .pending) x ∙ sym (ap (λ p. p .pending) y), ap (λ p. p .unshared) x ∙ sym (ap (λ p. p .unshared) y)) holders),
+      )
+
+pub no-room-left : (t u : Table) (s r : ℕ) (y : Outcome) → Kept t u s r (refused t Eagain) y
+unfolding refused is-no-room number-of refusal-number _or_
+no-room-left t u s r y = inl refl
+
+pub no-room-right : (t u : Table) (s r : ℕ) (x : Outcome) → Kept t u s r x (refused u Eagain)
+unfolding refused is-no-room number-of refusal-number
+no-room-right t u s r x = inl (or-true (is-no-room (x .reply .answer)))
+
+module _ (keeps : KeepsSound) where
+  clone-cases : (t u : Table) (s r c d : ℕ) → Ready t u s r c d → SoundTable (clone t c .table) → SoundTable (clone u d .table) → Kept t u s r (clone t c) (clone u d)
+  unfolding clone
+  clone-cases t u s r c d w h g = go (dead (view t) (view t .children c)) refl (eqb (free-slot (view t)) process-slots) refl (eqb (free-slot (view u)) process-slots) refl
+    where
+      same : dead (view t) (view t .children c) ≡ dead (view u) (view u .children d)
+      same = deads t u s r c d w
+
+      go : (a : Bool) → dead (view t) (view t .children c) ≡ a → (b : Bool) → eqb (free-slot (view t)) process-slots ≡ b → (b′ : Bool) → eqb (free-slot (view u)) process-slots ≡ b′ → Kept t u s r (clone t c) (clone u d)
+      go true ea b eb b′ eb′ = rw (ea, sym same ∙ ea, clone) (both-refuse t u s r c d w Enomem)
+      go false ea true eb b′ eb′ = rw (ea, eb, clone) (no-room-left t u s r (clone u d))
+      go false ea false eb true eb′ = rw (sym same ∙ ea, eb′, clone) (no-room-right t u s r (clone t c))
+      go false ea false eb false eb′ =
+          rw (ea, sym same ∙ ea, eb, eb′, clone) (born-kept t u s r c d w ea (eqb-false _ _ eb) (eqb-false _ _ eb′) (rw (ea, eb, clone) at h) (rw (sym same ∙ ea, eb′, clone) at g))
+
+  pub clone-same : MadeSame Clone
+  unfolding MadeSame make
+  clone-same t u s r i j w = clone-cases t u s r i j w (made-sound keeps t i Clone (w .sound-t) (w .runs-t)) (made-sound keeps u j Clone (w .sound-u) (w .runs-u))

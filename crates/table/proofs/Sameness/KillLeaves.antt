@@ -1,0 +1,230 @@
+-- kill by an outsider: a signal to nobody of S, and no end of an init above S.
+use Prim.Native.Nat.{ℕ, pred, _<_}
+use native.Mathlib.Omega.{arith}
+use mathlib.Core.Bool.{Bool, true, false, not, So, false≢true}
+use mathlib.Core.List.{List, [], _∷_}
+use mathlib.Core.Path.{_≡_, refl, sym, _∙_, ap, subst}
+use lib.Dec.{eqb}
+use lib.IntN.{ℤ}
+use lib.ListN.{length}
+use Rattle.table.proofs.Laws.Lists.{some-of-false}
+use Rattle.table.proofs.Sameness.BirthLeaves.{same-trans}
+use Rattle.table.proofs.Sameness.Calls.{made-sound}
+use Rattle.table.proofs.Keeps.Deliver.{Safe, deliver-sane}
+use Rattle.table.proofs.Sameness.DeliverEnded.{deliver-nothing, ended-end}
+use Rattle.table.proofs.Sameness.DeliverSame.{Fits, fits-of, fits-sound, not-living-put, resumed-placed}
+use Rattle.table.proofs.Sameness.EndLeaves.{unlike, end-still, end-dies, end-back, freed-back, lives-on, not-own}
+use Rattle.table.proofs.Keeps.InitKeeps.{Sane}
+use Rattle.table.proofs.Laws.Facts.{Facts, facts}
+use Rattle.table.proofs.Laws.Slots.{namespace-lt, own-taken, living-own-alive, living-taken}
+use Rattle.table.proofs.Sameness.Light.{Placed, put-light, put-other}
+use Rattle.table.proofs.Sameness.Outside.{MadeLeaves, as-it-was}
+use Rattle.table.proofs.Keeps.Premises.{natural-low, targets-safe}
+use Rattle.table.proofs.Laws.Quant.{both, or-false-left, or-false-right}
+use Rattle.table.proofs.Sameness.Remain.{seen-remain}
+use Rattle.table.proofs.Sameness.Same.{Same}
+use Rattle.table.proofs.Sameness.Still.{Still, same-still, stands-still, below-still, near, near-here, near-up, near-own, near-children, freed-after}
+use Rattle.table.proofs.Sameness.SetChildrenSame.{everyone, light-remain}
+use Rattle.table.proofs.Sameness.WaitLeaves.{untouched-made}
+use Rattle.table.specs.Answers.{answers, granted, is-refused, refused}
+use Rattle.table.specs.Calls.{kill, names-group, natural, targets, within}
+use Rattle.table.specs.Claims.{KeepsSound}
+use Rattle.table.specs.Delivery.{act, action-on, deliver, deliver-all, with-pending}
+use Rattle.table.specs.Ends.{end}
+use Rattle.table.specs.Events.{at, follow, is-inside, sheet-of}
+use Rattle.table.specs.Freeing.{freed}
+use Rattle.table.specs.Limits.{namespace-slots, signals}
+use Rattle.table.specs.Read.{View, alive, below, is-init, living, namespace-taken, pid-at, pid-in, process, seen, taken, view}
+use Rattle.table.specs.Records.{put, with-state}
+use Rattle.table.specs.Sheet.{sheet}
+use Rattle.table.specs.Sound.{SoundTable}
+use Rattle.table.specs.Step.{make}
+use Rattle.table.specs.Tests.{_and_, _or_, if_then_else_, some-of}
+use Rattle.table.specs.Touches.{signals-into, touched}
+use Rattle.table.specs.declared.Action.{Action}
+use Rattle.table.specs.declared.Action.the-variants.{Finish, Nothing, Pend, Resume, Stop}
+use Rattle.table.specs.declared.Call.the-variants.{Kill}
+use Rattle.table.specs.declared.End.the-variants.{Signaled}
+use Rattle.table.specs.declared.Process.{Process}
+use Rattle.table.specs.declared.State.the-variants.{Stopped}
+use Rattle.table.specs.declared.Table.{Table}
+
+-- in the middle of the deliveries: S is as it was, and what lives lived before
+record Going (t₀ t : Table) (s : ℕ) : Type 0 where
+  fits : Fits t
+  same : Same (view t) (view t₀) s s
+  stands : So (namespace-taken (view t) s)
+  seens : (i : ℕ) → seen (view t) s i ≡ seen (view t₀) s i
+  aboves : (n : ℕ) → below (view t) s n ≡ below (view t₀) s n
+  backs : (n : ℕ) → So (alive (view t) n) → So (alive (view t₀) n)
+  ended : (i : ℕ) → living (view t₀) i ≡ false → living (view t) i ≡ false
+
+start : (t : Table) (s : ℕ) → Fits t → So (namespace-taken (view t) s) → Going t t s
+start t s w h =
+    record {
+      fits = w;
+      same = record { levels = refl; there = λ i k. (i, k, refl); back = λ i k. (i, k, refl) };
+      stands = h;
+      seens = λ i. refl;
+      aboves = λ n. refl;
+      backs = λ n k. k;
+      ended = λ i k. k;
+    }
+
+onward : (t₀ t t′ : Table) (s : ℕ) → Going t₀ t s → Fits t′ → Still (view t) (view t′) s (near (view t) s) → ((n : ℕ) → So (alive (view t′) n) → So (alive (view t) n)) → ((i : ℕ) → living (view t) i ≡ false → living (view t′) i ≡ false) → Going t₀ t′ s
+onward t₀ t t′ s g w d b z =
+    record {
+      fits = w;
+      same = same-trans (view t′) (view t) (view t₀) s s s (same-still (view t) (view t′) s (near (view t) s) (g .fits .facts) d) (g .same);
+      stands = stands-still (view t) (view t′) s (near (view t) s) (g .fits .facts) d (g .stands);
+      seens = λ i. d .seens i ∙ g .seens i;
+      aboves = λ n. below-still (view t) (view t′) s (near (view t) s) (g .fits .facts) d s n (near-here (view t) (g .fits .facts) s) ∙ g .aboves n;
+      backs = λ n k. g .backs n (b n k);
+      ended = λ i k. z i (g .ended i k);
+    }
+
+-- one outside S changed in its lights
+put-still : (t : Table) (f : Facts (view t)) (c : ℕ) (p : Process) → Placed p (process t c) → (s : ℕ) → seen (view t) s c ≡ false → Still (view t) (view (put t c p)) s (near (view t) s)
+put-still t f c p k s o =
+    record {
+      here = near-here (view t) f s;
+      up-kept = near-up (view t) f s;
+      own-kept = near-own (view t) f s;
+      children-kept = near-children (view t) f s;
+      ups = λ n h. refl;
+      levels = λ n h. refl;
+      lives = λ n h. refl;
+      seens = λ i. seen-remain (view t) (view (put t c p)) everyone everyone f (light-remain (view t) (view (put t c p)) (put-light t c p k)) s i refl;
+      owns = λ i h. ap (λ q. q .own .0) (same i h);
+      pids = λ i l h. ap (λ q. pid-at q l) (same i h);
+      states = λ i h. ap (λ q. q .state) (same i h);
+      handleds = λ i h. ap (λ q. q .handled) (same i h);
+      pendings = λ i h. ap (λ q. q .pending) (same i h);
+      marks = λ i h. ap (λ q. q .unshared) (same i h);
+      childrens = λ i h. ap (λ q. q .children .0) (same i h);
+      parents = λ i h. ap (λ q. pid-in (view t) s (q .parent .0)) (same i h);
+      lasts = λ i h. refl;
+    }
+  where
+    same : (i : ℕ) → So (seen (view t) s i) → process (put t c p) i ≡ process t i
+    same i h = put-other t c p k i (λ e. false≢true (sym o ∙ ap (seen (view t) s) (sym e) ∙ h))
+
+action-zero : (v : View) (f x n : ℕ) → eqb n 0 ≡ true → action-on v f x n ≡ Nothing
+unfolding action-on _or_
+action-zero v f x n e = rw (e, action-on) refl
+
+-- ---- what lives after deliveries lived before
+
+apply-back : (t : Table) (x n : ℕ) (e : Action) (m : ℕ) → So (alive (view (act t x n e)) m) → So (alive (view t) m)
+unfolding act
+apply-back t x n Nothing m k = k
+apply-back t x n Resume m k = k
+apply-back t x n Stop m k = k
+apply-back t x n Finish m k = end-back t x (Signaled n) m k
+apply-back t x n Pend m k = k
+
+all-back : (xs : List ℕ) (t : Table) (f n m : ℕ) → So (alive (view (deliver-all t f xs n)) m) → So (alive (view t) m)
+unfolding deliver-all deliver
+all-back [] t f n m k = k
+all-back (x ∷ xs) t f n m k = apply-back t x n (action-on (view t) f x n) m (all-back xs (deliver t f x n) f n m k)
+
+-- ---- deliveries
+
+-- what lives above S lives on in u
+abbrev Above : Table → ℕ → Table → Type 0
+Above t₀ s u = (m : ℕ) → m < namespace-slots → (m ≡ s → ⊥) → So (below (view t₀) s m) → So (alive (view t₀) m) → alive (view u) m ≡ false → ⊥
+
+module _ (t₀ t : Table) (s x n : ℕ) (g : Going t₀ t s) (o : seen (view t) s x ≡ false) (l : So (living (view t) x)) where
+  f : Facts (view t)
+  f = g .fits .facts
+
+  light : (p : Process) → Placed p (process t x) → Sane (put t x p) → Going t₀ (put t x p) s
+  light p k w = onward t₀ t (put t x p) s g (fits-of (put t x p) w) (put-still t f x p k s o) (λ j h. h) (not-living-put t x p k l)
+
+  finished : Sane (end t x (Signaled n)) → Above t₀ s (end t x (Signaled n)) → Going t₀ (end t x (Signaled n)) s
+  finished w h =
+      onward t₀ t (end t x (Signaled n)) s g (fits-of (end t x (Signaled n)) w) (end-still t (g .fits) x (Signaled n) l s o not-above) (end-back t x (Signaled n))
+      (ended-end t (g .fits) x (Signaled n))
+    where
+      tx : So (taken (view t) x)
+      tx = living-taken (view t) f x l
+
+      not-above : So (is-init (view t) x) → below (view t) s (view t .own x) ≡ false
+      not-above i =
+          unlike _
+          (λ b. h (view t .own x) (namespace-lt (view t) f _ (own-taken (view t) f x tx)) (not-own t s x tx o) (sym (g .aboves (view t .own x)) ∙ b) (g .backs _ (living-own-alive (view t) f x l)) (end-dies t (g .fits) x (Signaled n) tx i))
+
+  applied : (e : Action) → Sane (act t x n e) → Above t₀ s (act t x n e) → Going t₀ (act t x n e) s
+  unfolding act with-pending
+  applied Nothing w h = g
+  applied Resume w h = light _ (resumed-placed (process t x)) w
+  applied Stop w h = light (with-state (process t x) Stopped) (record { owns = refl; parents = refl; pids = refl }) w
+  applied Finish w h = finished w h
+  applied Pend w h = light (with-pending (process t x) n) (record { owns = refl; parents = refl; pids = refl }) w
+
+module _ (from n : ℕ) (low : n < signals) where
+  -- a target outside S, or one that has ended
+  deliver-going : (t₀ t : Table) (s x : ℕ) → (x ≡ 0 → from ≡ 0) → Going t₀ t s → seen (view t₀) s x and living (view t₀) x ≡ false → Above t₀ s (deliver t from x n) → Going t₀ (deliver t from x n) s
+  unfolding deliver
+  deliver-going t₀ t s x safe g o h = go (living (view t) x) refl
+    where
+      lived : So (living (view t) x) → (b : Bool) → living (view t₀) x ≡ b → So (living (view t₀) x)
+      lived l true q = q
+      lived l false q = absurd (false≢true (sym (g .ended x q) ∙ l))
+
+      go : (b : Bool) → living (view t) x ≡ b → Going t₀ (deliver t from x n) s
+      go true l =
+          applied t₀ t s x n g (unlike _ (λ k. false≢true (sym o ∙ both _ _ (sym (g .seens x) ∙ k) (lived l (living (view t₀) x) refl)))) l (action-on (view t) from x n)
+          (deliver-sane t (g .fits .sane-of) x n low from safe) h
+      go false l = subst (λ u. Going t₀ u s) (sym (deliver-nothing t from x n l)) g
+
+  all-going : (xs : List ℕ) (t₀ t : Table) (s : ℕ) → Safe from xs → Going t₀ t s → some-of (λ i. is-inside t₀ (at s) i and living (view t₀) i) xs ≡ false → Above t₀ s (deliver-all t from xs n) → Going t₀ (deliver-all t from xs n) s
+  unfolding deliver-all is-inside
+  all-going [] t₀ t s safe g o h = g
+  all-going (x ∷ xs) t₀ t s safe g o h =
+      all-going xs t₀ (deliver t from x n) s (safe .1)
+      (deliver-going t₀ t s x (safe .0) g (some-of-false _ x xs o .0) (λ m l a b c k. h m l a b c (unlike _ (λ y. false≢true (sym k ∙ all-back xs (deliver t from x n) from n m y)))))
+      (some-of-false _ x xs o .1) h
+
+-- signal 0 does nothing
+all-zero : (xs : List ℕ) (t : Table) (from n : ℕ) → eqb n 0 ≡ true → deliver-all t from xs n ≡ t
+unfolding deliver-all deliver act
+all-zero [] t from n e = refl
+all-zero (x ∷ xs) t from n e = ap (λ y. deliver-all y from xs n) (ap (act t x n) (action-zero (view t) from x n e)) ∙ all-zero xs t from n e
+
+sent : (a b : Bool) → a ≡ false → not a and b ≡ false → b ≡ false
+unfolding _and_
+sent true b e h = absurd (false≢true (sym e))
+sent false b e h = h
+
+module _ (keeps : KeepsSound) where
+  pub kill-leaves : (z n : ℤ) → MadeLeaves (Kill z n)
+  unfolding MadeLeaves make kill answers granted refused is-refused touched signals-into
+  kill-leaves z n t s i h hs k a = go (within 0 signals n) refl (names-group z) refl (eqb (length (targets (view t) i z)) 0) refl (made-sound keeps t i (Kill z n) h k)
+    where
+      xs : List ℕ
+      xs = targets (view t) i z
+
+      t₁ : Table
+      t₁ = deliver-all t (view t .own i) xs (natural n)
+
+      done : natural n < signals → touched t (freed t₁) (at s) i (Kill z n) ≡ false → SoundTable (freed t₁) → (b : Bool) → eqb (natural n) 0 ≡ b → sheet-of (freed t₁) (follow t (freed t₁) (at s)) ≡ sheet (view t) s
+      done low o g true e =
+          let q = all-zero xs t (view t .own i) (natural n) e in
+          let w = start t s (fits-sound t h) hs in
+          subst (λ y. sheet-of (freed y) (follow t (freed y) (at s)) ≡ sheet (view t) s) (sym q) (freed-after t t s h (fits-sound t h) (subst (λ y. SoundTable (freed y)) q g) hs hs (w .same))
+      done low o g false e =
+          freed-after t t₁ s h (w .fits) g hs (w .stands) (w .same)
+        where
+          w : Going t t₁ s
+          w =
+              all-going (view t .own i) (natural n) low xs t t s (targets-safe (view t) (fits-sound t h .sane-of .facts) i z) (start t s (fits-sound t h) hs) (sent (eqb (natural n) 0) (some-of (λ j. is-inside t (at s) j and living (view t) j) xs) e (or-false-left _ _ o))
+              (λ m l c b d y. lives-on t (freed t₁) s (or-false-right _ _ o) m l c b d (unlike _ (λ v. false≢true (sym y ∙ freed-back t₁ m v))))
+
+      go : (x : Bool) → within 0 signals n ≡ x → (y : Bool) → names-group z ≡ y → (b : Bool) → eqb (length (targets (view t) i z)) 0 ≡ b → SoundTable (kill t i z n .table) → sheet-of (kill t i z n .table) (follow t (kill t i z n .table) (at s)) ≡ sheet (view t) s
+      go false ea y eb b ec g = rw (ea, kill) (as-it-was t s hs)
+      go true ea true eb b ec g = rw (ea, eb, kill) (as-it-was t s hs)
+      go true ea false eb true ec g = rw (ea, eb, ec, kill) (as-it-was t s hs)
+      go true ea false eb false ec g =
+          rw (ea, eb, ec, kill)
+          (done (natural-low n ea) (untouched-made t s i (Kill z n) h k a (answers (freed t₁) 0) (rw (ea, eb, ec, kill) refl) refl) (rw (ea, eb, ec, kill) at g) (eqb (natural n) 0) refl)

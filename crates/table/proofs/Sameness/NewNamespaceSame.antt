@@ -1,0 +1,309 @@
+-- A fresh namespace below the callers' own: unshare, and clone with a new one.
+use Prim.Native.Nat.{ℕ, zero, suc, _<_, _≤_}
+use native.Mathlib.Omega.{arith}
+use native.Mathlib.Decide.{ℕ-discrete}
+use mathlib.Core.Bool.{Bool, true, false, not, So, false≢true}
+use mathlib.Core.Logic.{_⊎_, inl, inr, ⊎-elim}
+use mathlib.Core.Option.{some}
+use mathlib.Core.Path.{_≡_, refl, sym, _∙_, ap, ap₂, subst, subst₂}
+use borrow.Author.Tests.{eqb-true, eqb-false, eq-eqb, ne-eqb}
+use lib.Dec.{eqb}
+use lib.ListN.{length, length-set}
+use lib.Seq.{getD-set-same, getD-set-other}
+use Rattle.table.proofs.Sameness.BirthPids.{Cradles, Unborns}
+use Rattle.table.proofs.Sameness.BirthSame.{birth-same}
+use Rattle.table.proofs.Sameness.BirthTable.{grown, lights, the-child}
+use Rattle.table.proofs.Sameness.Calls.{Shown, shown, both-refuse, both-change, owns-twins, own-lives, made-sound, processes-length, namespaces-length, taken-s, taken-r, the-rows, lt-t, lt-u}
+use Rattle.table.proofs.Sameness.CloneSame.{no-room-left, no-room-right, one-up}
+use Rattle.table.proofs.Keeps.Changes.{namespace-sane}
+use Rattle.table.proofs.Sameness.DeliverSame.{Fits, fits-of, fits-sound}
+use Rattle.table.proofs.Sameness.ExitSame.{runs-living}
+use Rattle.table.proofs.Sameness.Find.{lowest-cases}
+use Rattle.table.proofs.Sameness.Inside.{Kept, Ready, MadeSame, stands-same}
+use Rattle.table.proofs.Laws.Facts.{Facts, facts}
+use Rattle.table.proofs.Laws.Slots.{seen-taken, seen-below, slot-lt, namespace-lt, own-taken, up-taken, alive-taken, children-of, below-trans}
+use Rattle.table.proofs.Sameness.Light.{Placed, put-light}
+use Rattle.table.proofs.Sameness.NextPid.{next-twins}
+use Rattle.table.proofs.Laws.Quant.{left, right, both, isnt, or-true, or-left, or-right, or-false-left, or-false-right}
+use Rattle.table.proofs.Sameness.Remain.{Remain, Lit, same-remain, standing, pid-in-remain, name-remain, seen-remain, pid-remain, below-remain}
+use Rattle.table.proofs.Sameness.Same.{Same}
+use Rattle.table.proofs.Laws.Tree.{below-refl}
+use Rattle.table.proofs.Sameness.SetChildrenSame.{everyone, name-no-slot, same-set-children, remain-set-children, alive-kept}
+use Rattle.table.proofs.Sameness.Twins.{Pair, Twin, Twins, twin-rows, twins-level, owns}
+use Rattle.table.proofs.Sameness.Anchor.{up-below}
+use Rattle.table.specs.Answers.{answers, granted, refused}
+use Rattle.table.specs.Births.{birth, newborn}
+use Rattle.table.specs.Calls.{born, clone-new, new-namespace, own-level, set-children, unshare}
+use Rattle.table.specs.Claims.{KeepsSound}
+use Rattle.table.specs.Freeing.{freed}
+use Rattle.table.specs.Limits.{deepest, namespace-slots, no-slot, process-slots}
+use Rattle.table.specs.Pids.{free-namespace-slot, free-slot, next-pid}
+use Rattle.table.specs.Read.{View, alive, below, init, is-alive, is-init, is-unborn, namespace, namespace-taken, no-namespace, pid-in, pid-seen, process, seen, taken, unborn, view}
+use Rattle.table.specs.Records.{put, put-namespace, to-pid, with-children}
+use Rattle.table.specs.Sheet.{Row, name, name-by, row, unborn-name}
+use Rattle.table.specs.Sound.{SoundTable}
+use Rattle.table.specs.Step.{make}
+use Rattle.table.specs.Tests.{_and_, _or_, if_then_else_, lowest}
+use Rattle.table.specs.declared.Answer.the-variants.{Number}
+use Rattle.table.specs.declared.Call.the-variants.{CloneNew, Unshare}
+use Rattle.table.specs.declared.Life.the-variants.{Unborn}
+use Rattle.table.specs.declared.Refusal.the-variants.{Einval, Enospc, Eagain}
+use Rattle.table.specs.declared.Table.{Table}
+
+namespace-slot-free : (v : View) → (free-namespace-slot v ≡ namespace-slots → ⊥) → So (not (namespace-taken v (free-namespace-slot v))) × (free-namespace-slot v < namespace-slots)
+unfolding free-namespace-slot
+namespace-slot-free v h = ⊎-elim (λ x. (x .0, x .1)) (λ x. absurd (h (x .0))) (lowest-cases (λ n. not (namespace-taken v n)) namespace-slots 0)
+
+module _ (t : Table) (f : Fits t) (c : ℕ) (room : free-namespace-slot (view t) ≡ namespace-slots → ⊥) where
+  abbrev pub x : ℕ
+  x = free-namespace-slot (view t)
+
+  abbrev pub t₁ : Table
+  t₁ = new-namespace t c
+
+  pub same-process : (i : ℕ) → process t₁ i ≡ process t i
+  unfolding new-namespace
+  same-process i = refl
+
+  other-namespace : (n : ℕ) → (n ≡ x → ⊥) → namespace t₁ n ≡ namespace t n
+  unfolding new-namespace
+  other-namespace n o = getD-set-other (t .namespaces) x n _ no-namespace o
+
+  pub the-namespace : namespace t₁ x ≡ record { parent = record { 0 = view t .own c }; level = suc (view t .level (view t .own c)); last = to-pid 0; life = Unborn }
+  unfolding new-namespace
+  the-namespace = getD-set-same (t .namespaces) x _ no-namespace (omega (arith, f .length-namespaces, namespace-slot-free (view t) room .1))
+
+  pub taken-other : (n : ℕ) → So (namespace-taken (view t) n) → n ≡ x → ⊥
+  taken-other n h e = false≢true (sym (isnt _ (namespace-slot-free (view t) room .0)) ∙ ap (namespace-taken (view t)) (sym e) ∙ h)
+
+  abbrev pub K : ℕ → Bool
+  K n = not (eqb n x)
+
+  kept : (n : ℕ) → So (namespace-taken (view t) n) → So (K n)
+  kept n h = ap not (ne-eqb n x (taken-other n h))
+
+  apart : (n : ℕ) → So (K n) → n ≡ x → ⊥
+  apart n h = eqb-false n x (isnt _ h)
+
+  pub namespace-remain : Remain (view t) (view t₁) K everyone
+  unfolding new-namespace
+  namespace-remain =
+      record {
+        owns = λ i q. refl;
+        pids = λ i l q. refl;
+        gone = λ i q. absurd (false≢true (sym q));
+        ups = λ n h. ap (λ s. s .parent .0) (other-namespace n (apart n h));
+        levels = λ n h. ap (λ s. s .level) (other-namespace n (apart n h));
+        lives = λ n h. ap (λ s. s .life) (other-namespace n (apart n h));
+        up-kept = λ n k h e. kept (view t .up n) (up-taken (view t) (f .facts) n k e);
+        own-kept = λ i q h. kept (view t .own i) (own-taken (view t) (f .facts) i h);
+        init-kept = λ n h a. refl;
+      }
+
+  pub alive-kept-there : (s : ℕ) → So (alive (view t) s) → So (K s)
+  alive-kept-there s a = kept s (alive-taken (view t) (f .facts) s a)
+
+  pub children-name : (s i : ℕ) → So (alive (view t) s) → So (taken (view t) i) → name (view t₁) s (view t₁ .children i) ≡ name (view t) s (view t .children i)
+  children-name s i a h =
+      ap (λ p. name (view t₁) s (p .children .0)) (same-process i)
+      ∙ ⊎-elim (λ y. name-remain (view t) (view t₁) K everyone (f .facts) namespace-remain s (view t .children i) (alive-kept-there s a) (kept _ y) y) (λ e. name-no-slot (view t₁) s _ e ∙ sym (name-no-slot (view t) s _ e)) (children-of (view t) (f .facts) i h)
+
+  pub last-there : (i : ℕ) → So (taken (view t) i) → (if is-init (view t) i then view t₁ .last (view t .own i) else 0) ≡ (if is-init (view t) i then view t .last (view t .own i) else 0)
+  last-there i h = ap (λ (n : ℕ). if is-init (view t) i then n else 0) (ap (λ s. s .last .0) (other-namespace (view t .own i) (taken-other _ (own-taken (view t) (f .facts) i h))))
+
+  pub not-held : (i : ℕ) → So (taken (view t) i) → eqb (view t₁ .children i) x ≡ false
+  not-held i h = ne-eqb (view t₁ .children i) x (λ e. ⊎-elim (λ y. taken-other _ y (ap (λ p. p .children .0) (sym (same-process i)) ∙ e)) (λ y. omega (arith, namespace-slot-free (view t) room .1, sym (ap (λ p. p .children .0) (sym (same-process i)) ∙ e) ∙ y)) (children-of (view t) (f .facts) i h))
+
+  pub unborn-there : So (unborn (view t₁) x)
+  unborn-there = ap (λ s. is-unborn (s .life)) the-namespace
+
+  pub x-taken : So (namespace-taken (view t₁) x)
+  unfolding namespace-taken
+  x-taken = or-right _ _ (ap not (ap (λ s. eqb (s .level) 0) the-namespace ∙ ne-eqb (suc (view t .level (view t .own c))) 0 (λ z. omega arith)))
+
+  pub x-name : (s : ℕ) → name (view t₁) s x ≡ unborn-name
+  unfolding name name-by
+  x-name s = rw (ne-eqb x no-slot (λ e. omega (arith, namespace-slot-free (view t) room .1)), ap (λ q. q .life) the-namespace) refl
+
+-- the processes are the same
+same-free : (t : Table) (c : ℕ) → free-slot (view (new-namespace t c)) ≡ free-slot (view t)
+unfolding free-slot taken new-namespace
+same-free t c = refl
+
+still-there : (t : Table) (c i : ℕ) → So (taken (view (new-namespace t c)) i) → So (taken (view t) i)
+unfolding taken new-namespace
+still-there t c i h = h
+
+-- ---- two tables
+
+module _ (t u : Table) (s r c d : ℕ) (w : Ready t u s r c d) (ot : own-level (view t) c ≡ deepest → ⊥) (ou : own-level (view u) d ≡ deepest → ⊥) (rt : free-namespace-slot (view t) ≡ namespace-slots → ⊥) (ru : free-namespace-slot (view u) ≡ namespace-slots → ⊥) where
+  ft : Fits t
+  ft = fits-sound t (w .sound-t)
+
+  fu : Fits u
+  fu = fits-sound u (w .sound-u)
+
+  abbrev tn : Table
+  tn = new-namespace t c
+
+  abbrev un : Table
+  un = new-namespace u d
+
+  gt : Fits tn
+  gt = fits-of tn (namespace-sane t (ft .sane-of) c (runs-living t c (w .runs-t)) ot rt)
+
+  gu : Fits un
+  gu = fits-of un (namespace-sane u (fu .sane-of) d (runs-living u d (w .runs-u)) ou ru)
+
+  new-lit : (i j : ℕ) → Twin (view t) (view u) s r i j → Lit (view t) (view u) (view tn) (view un) s r i j
+  unfolding row
+  new-lit i j m =
+      let z = shown t u s r (w .pair) i j m in
+      let ti = seen-taken (view t) (ft .facts) s i (m .seen-v) in
+      let tj = seen-taken (view u) (fu .facts) r j (m .seen-u) in
+      let rows = twin-rows (view t) (view u) s r (w .pair) i j m in
+      record {
+        states = ap (λ p. p .state) (same-process t ft c rt i) ∙ z .states ∙ sym (ap (λ p. p .state) (same-process u fu d ru j));
+        handleds = ap (λ p. p .handled) (same-process t ft c rt i) ∙ z .handleds ∙ sym (ap (λ p. p .handled) (same-process u fu d ru j));
+        pendings = ap (λ p. p .pending) (same-process t ft c rt i) ∙ z .pendings ∙ sym (ap (λ p. p .pending) (same-process u fu d ru j));
+        marks = ap (λ p. p .unshared) (same-process t ft c rt i) ∙ z .marks ∙ sym (ap (λ p. p .unshared) (same-process u fu d ru j));
+        parents = parent-there t ft c rt s i (w .pair .alive-v) ∙ ap (λ (o : Row). o .parent) rows ∙ sym (parent-there u fu d ru r j (w .pair .alive-u));
+        childrens = children-name t ft c rt s i (w .pair .alive-v) ti ∙ ap (λ (o : Row). o .children) rows ∙ sym (children-name u fu d ru r j (w .pair .alive-u) tj);
+        lasts = last-there t ft c rt i ti ∙ ap (λ (o : Row). o .last) rows ∙ sym (last-there u fu d ru j tj);
+      }
+    where
+      parent-there : (z : Table) (f : Fits z) (e : ℕ) (room : free-namespace-slot (view z) ≡ namespace-slots → ⊥) (q i : ℕ) → So (alive (view z) q) → pid-in (view (new-namespace z e)) q (view (new-namespace z e) .parent i) ≡ pid-in (view z) q (view z .parent i)
+      parent-there z f e room q i a =
+          ap (λ p. pid-in (view (new-namespace z e)) q (p .parent .0)) (same-process z f e room i)
+          ∙ pid-in-remain (view z) (view (new-namespace z e)) (K z f e room) everyone (f .facts) (namespace-remain z f e room) q (view z .parent i) (alive-kept-there z f e room q a) refl
+
+  new-pair : Pair (view tn) (view un) s r
+  new-pair =
+      let kt = alive-kept-there t ft c rt s (w .pair .alive-v) in
+      let ku = alive-kept-there u fu d ru r (w .pair .alive-u) in
+      record {
+        facts-v = gt .facts;
+        facts-u = gu .facts;
+        alive-v = ap is-alive (namespace-remain t ft c rt .lives s kt) ∙ w .pair .alive-v;
+        alive-u = ap is-alive (namespace-remain u fu d ru .lives r ku) ∙ w .pair .alive-u;
+        same = same-remain (view t) (view u) (view tn) (view un) s r (w .pair) (K t ft c rt) everyone (K u fu d ru) everyone (namespace-remain t ft c rt) (namespace-remain u fu d ru) kt ku (λ i j m. refl) (λ i j m q. new-lit i j m);
+      }
+
+  new-twin : (i j : ℕ) → Twin (view t) (view u) s r i j → Twin (view tn) (view un) s r i j
+  new-twin i j m =
+      record {
+        seen-v = seen-remain (view t) (view tn) (K t ft c rt) everyone (ft .facts) (namespace-remain t ft c rt) s i refl ∙ m .seen-v;
+        seen-u = seen-remain (view u) (view un) (K u fu d ru) everyone (fu .facts) (namespace-remain u fu d ru) r j refl ∙ m .seen-u;
+        pids = pid-remain (view t) (view tn) (K t ft c rt) everyone (ft .facts) (namespace-remain t ft c rt) s i (alive-kept-there t ft c rt s (w .pair .alive-v)) refl ∙ m .pids ∙ sym (pid-remain (view u) (view un) (K u fu d ru) everyone (fu .facts) (namespace-remain u fu d ru) r j (alive-kept-there u fu d ru r (w .pair .alive-u)) refl);
+      }
+
+  -- ---- unshare
+
+  stands-here : (z : Table) (f : Fits z) (e : ℕ) (room : free-namespace-slot (view z) ≡ namespace-slots → ⊥) (q : ℕ) → So (alive (view z) q) → So (namespace-taken (view (new-namespace z e)) q)
+  stands-here z f e room q a = standing (view z) (view (new-namespace z e)) (K z f e room) everyone (namespace-remain z f e room) q (alive-kept-there z f e room q a) (alive-taken (view z) (f .facts) q a)
+
+  unshared-kept : SoundTable (set-children tn c (free-namespace-slot (view t)) true) → SoundTable (set-children un d (free-namespace-slot (view u)) true) → Kept t u s r (answers (set-children tn c (free-namespace-slot (view t)) true) 0) (answers (set-children un d (free-namespace-slot (view u)) true) 0)
+  unfolding set-children
+  unshared-kept h g =
+      let a : Placed (with-children (process tn c) (free-namespace-slot (view t)) true) (process tn c) = record { owns = refl; parents = refl; pids = refl } in
+      let b : Placed (with-children (process un d) (free-namespace-slot (view u)) true) (process un d) = record { owns = refl; parents = refl; pids = refl } in
+      let k = new-twin c d (w .twin) in
+      let z = shown tn un s r new-pair c d k in
+      both-change t u s r c d w _ _ 0 0 refl h g
+      (standing _ _ _ _ (remain-set-children tn (gt .facts) c _ a) s (alive-kept (view tn) (gt .facts) (put tn c _) (put-light tn c _ a) s (new-pair .alive-v)) (stands-here t ft c rt s (w .pair .alive-v)))
+      (standing _ _ _ _ (remain-set-children un (gu .facts) d _ b) r (alive-kept (view un) (gu .facts) (put un d _) (put-light un d _ b) r (new-pair .alive-u)) (stands-here u fu d ru r (w .pair .alive-u)))
+      (same-set-children tn un s r c d new-pair k (omega (arith, gt .length-processes, slot-lt (view t) (ft .facts) c (seen-taken (view t) (ft .facts) s c (w .twin .seen-v)))) (omega (arith, gu .length-processes, slot-lt (view u) (fu .facts) d (seen-taken (view u) (fu .facts) r d (w .twin .seen-u)))) _ _ a b
+      (record { states = z .states; handleds = z .handleds; pendings = z .pendings; marks = refl; childrens = x-name t ft c rt s ∙ sym (x-name u fu d ru r) })
+      (inl (x-taken t ft c rt)) (inl (x-taken u fu d ru)))
+
+  -- ---- clone with a new namespace
+
+  new-owns : Twins (view tn) (view un) s r (view t .own c) (view u .own d)
+  new-owns =
+      subst₂ (λ a b. Twins (view tn) (view un) s r a b) (namespace-remain t ft c rt .owns c refl) (namespace-remain u fu d ru .owns d refl)
+      (owns (view tn) (view un) s r new-pair c d (new-twin c d (w .twin)) (subst (λ n. So (alive (view tn) n)) (sym (namespace-remain t ft c rt .owns c refl)) (ap is-alive (namespace-remain t ft c rt .lives (view t .own c) (alive-kept-there t ft c rt _ (own-lives t u s r c d w))) ∙ own-lives t u s r c d w)))
+
+  new-cradles : Cradles (view tn) (view un) s r (free-namespace-slot (view t)) (free-namespace-slot (view u))
+  new-cradles =
+      inr
+      (record {
+        unborn-v = unborn-there t ft c rt;
+        unborn-u = unborn-there u fu d ru;
+        lasts = ap (λ q. q .last .0) (the-namespace t ft c rt) ∙ sym (ap (λ q. q .last .0) (the-namespace u fu d ru));
+        ups = subst₂ (λ a b. Twins (view tn) (view un) s r a b) (sym (ap (λ q. q .parent .0) (the-namespace t ft c rt))) (sym (ap (λ q. q .parent .0) (the-namespace u fu d ru))) new-owns;
+        level-v = one-up (view tn) (gt .facts) _ (unborn-there t ft c rt) (x-taken t ft c rt);
+        level-u = one-up (view un) (gu .facts) _ (unborn-there u fu d ru) (x-taken u fu d ru);
+      })
+
+  -- the fresh namespace lies below S
+  fresh-below : (z : Table) (f : Fits z) (e : ℕ) (room : free-namespace-slot (view z) ≡ namespace-slots → ⊥) (g : Facts (view (new-namespace z e))) (q : ℕ) → So (below (view (new-namespace z e)) (view z .own e) q) → So (below (view (new-namespace z e)) (free-namespace-slot (view z)) q)
+  fresh-below z f e room g q h =
+      below-trans (view (new-namespace z e)) g _ (view z .own e) q
+      (subst (λ n. So (below (view (new-namespace z e)) (free-namespace-slot (view z)) n)) (ap (λ q. q .parent .0) (the-namespace z f e room)) (up-below (view (new-namespace z e)) g (free-namespace-slot (view z)) _ (ap (λ q. q .level) (the-namespace z f e room)))) h
+
+  cloned-kept : (free-slot (view t) ≡ process-slots → ⊥) → (free-slot (view u) ≡ process-slots → ⊥) → SoundTable (birth tn c (free-namespace-slot (view t))) → SoundTable (birth un d (free-namespace-slot (view u))) → Kept t u s r (born t c (birth tn c (free-namespace-slot (view t)))) (born u d (birth un d (free-namespace-slot (view u))))
+  unfolding newborn namespace-taken
+  cloned-kept pt pu h g =
+      let qt : (free-slot (view tn) ≡ process-slots → ⊥) = λ e. pt (sym (same-free t c) ∙ e) in
+      let qu : (free-slot (view un) ≡ process-slots → ⊥) = λ e. pu (sym (same-free u d) ∙ e) in
+      let a = grown tn gt c (free-namespace-slot (view t)) (x-taken t ft c rt) qt in
+      let b = grown un gu d (free-namespace-slot (view u)) (x-taken u fu d ru) qu in
+      let x = the-child tn gt c (free-namespace-slot (view t)) (x-taken t ft c rt) qt in
+      let y = the-child un gu d (free-namespace-slot (view u)) (x-taken u fu d ru) qu in
+      inr (
+        ap Number (next-twins (view t) (view u) s r (w .pair) _ _ (owns-twins t u s r c d w)),
+        stands-same t u (birth tn c (free-namespace-slot (view t))) (birth un d (free-namespace-slot (view u))) s r h g
+            (ap (λ (l : ℕ → ℕ). eqb s 0 or not (eqb (l s) 0)) (a .levels-same) ∙ stands-here t ft c rt s (w .pair .alive-v))
+            (ap (λ (l : ℕ → ℕ). eqb r 0 or not (eqb (l r) 0)) (b .levels-same) ∙ stands-here u fu d ru r (w .pair .alive-u))
+            (birth-same (view tn) (view un) (view (birth tn c (free-namespace-slot (view t)))) (view (birth un d (free-namespace-slot (view u)))) s r new-pair c d (free-namespace-slot (view t)) (free-namespace-slot (view u)) (free-slot (view tn)) (free-slot (view un)) (new-twin c d (w .twin)) new-cradles (x-taken t ft c rt) (x-taken u fu d ru) (fresh-below t ft c rt (gt .facts) s (new-owns .below-v)) (fresh-below u fu d ru (gu .facts) r (new-owns .below-u)) a b (lights tn gt c (free-namespace-slot (view t)) (x-taken t ft c rt) qt) (lights un gu d (free-namespace-slot (view u)) (x-taken u fu d ru) qu)
+            (ap (λ p. p .state) x ∙ sym (ap (λ p. p .state) y), ap (λ p. p .handled) x ∙ sym (ap (λ p. p .handled) y), ap (λ p. p .pending) x ∙ sym (ap (λ p. p .pending) y), ap (λ p. p .unshared) x ∙ sym (ap (λ p. p .unshared) y))
+            (λ i j m z. not-held t ft c rt i (still-there t c i (seen-taken (view tn) (gt .facts) s i (m .seen-v))) ∙ sym (not-held u fu d ru j (still-there u d j (seen-taken (view un) (gu .facts) r j (m .seen-u)))))),
+      )
+
+-- ---- the two calls
+
+module _ (keeps : KeepsSound) where
+  levels-alike : (t u : Table) (s r c d : ℕ) → Ready t u s r c d → own-level (view t) c ≡ own-level (view u) d
+  levels-alike t u s r c d w = twins-level (view t) (view u) s r (w .pair) _ _ (owns-twins t u s r c d w)
+
+  unshare-cases : (t u : Table) (s r c d : ℕ) → Ready t u s r c d → SoundTable (unshare t c .table) → SoundTable (unshare u d .table) → Kept t u s r (unshare t c) (unshare u d)
+  unfolding unshare answers granted
+  unshare-cases t u s r c d w h g = go (process t c .unshared) refl (eqb (own-level (view t) c) deepest) refl (eqb (free-namespace-slot (view t)) namespace-slots) refl (eqb (free-namespace-slot (view u)) namespace-slots) refl
+    where
+      mark : process t c .unshared ≡ process u d .unshared
+      mark = shown t u s r (w .pair) c d (w .twin) .marks
+
+      deep : eqb (own-level (view t) c) deepest ≡ eqb (own-level (view u) d) deepest
+      deep = ap (λ n. eqb n deepest) (levels-alike t u s r c d w)
+
+      go : (m : Bool) → process t c .unshared ≡ m → (a : Bool) → eqb (own-level (view t) c) deepest ≡ a → (b : Bool) → eqb (free-namespace-slot (view t)) namespace-slots ≡ b → (b′ : Bool) → eqb (free-namespace-slot (view u)) namespace-slots ≡ b′ → Kept t u s r (unshare t c) (unshare u d)
+      go true em a ea b eb b′ eb′ = rw (em, sym mark ∙ em, unshare) (both-refuse t u s r c d w Einval)
+      go false em true ea b eb b′ eb′ = rw (em, sym mark ∙ em, ea, sym deep ∙ ea, unshare) (both-refuse t u s r c d w Enospc)
+      go false em false ea true eb b′ eb′ = rw (em, ea, eb, unshare) (no-room-left t u s r (unshare u d))
+      go false em false ea false eb true eb′ = rw (sym mark ∙ em, sym deep ∙ ea, eb′, unshare) (no-room-right t u s r (unshare t c))
+      go false em false ea false eb false eb′ =
+          rw (em, sym mark ∙ em, ea, sym deep ∙ ea, eb, eb′, unshare)
+          (unshared-kept t u s r c d w (eqb-false _ _ ea) (eqb-false _ _ (sym deep ∙ ea)) (eqb-false _ _ eb) (eqb-false _ _ eb′) (rw (em, ea, eb, unshare) at h) (rw (sym mark ∙ em, sym deep ∙ ea, eb′, unshare) at g))
+
+  pub unshare-same : MadeSame Unshare
+  unfolding MadeSame make
+  unshare-same t u s r i j w = unshare-cases t u s r i j w (made-sound keeps t i Unshare (w .sound-t) (w .runs-t)) (made-sound keeps u j Unshare (w .sound-u) (w .runs-u))
+
+  clone-new-cases : (t u : Table) (s r c d : ℕ) → Ready t u s r c d → SoundTable (clone-new t c .table) → SoundTable (clone-new u d .table) → Kept t u s r (clone-new t c) (clone-new u d)
+  unfolding clone-new
+  clone-new-cases t u s r c d w h g = go (eqb (own-level (view t) c) deepest) refl (eqb (free-slot (view t)) process-slots or eqb (free-namespace-slot (view t)) namespace-slots) refl (eqb (free-slot (view u)) process-slots or eqb (free-namespace-slot (view u)) namespace-slots) refl
+    where
+      deep : eqb (own-level (view t) c) deepest ≡ eqb (own-level (view u) d) deepest
+      deep = ap (λ n. eqb n deepest) (levels-alike t u s r c d w)
+
+      go : (a : Bool) → eqb (own-level (view t) c) deepest ≡ a → (b : Bool) → eqb (free-slot (view t)) process-slots or eqb (free-namespace-slot (view t)) namespace-slots ≡ b → (b′ : Bool) → eqb (free-slot (view u)) process-slots or eqb (free-namespace-slot (view u)) namespace-slots ≡ b′ → Kept t u s r (clone-new t c) (clone-new u d)
+      go true ea b eb b′ eb′ = rw (ea, sym deep ∙ ea, clone-new) (both-refuse t u s r c d w Enospc)
+      go false ea true eb b′ eb′ = rw (ea, eb, clone-new) (no-room-left t u s r (clone-new u d))
+      go false ea false eb true eb′ = rw (sym deep ∙ ea, eb′, clone-new) (no-room-right t u s r (clone-new t c))
+      go false ea false eb false eb′ =
+          rw (ea, sym deep ∙ ea, eb, eb′, clone-new)
+          (cloned-kept t u s r c d w (eqb-false _ _ ea) (eqb-false _ _ (sym deep ∙ ea)) (eqb-false _ _ (or-false-right _ _ eb)) (eqb-false _ _ (or-false-right _ _ eb′)) (eqb-false _ _ (or-false-left _ _ eb)) (eqb-false _ _ (or-false-left _ _ eb′)) (rw (ea, eb, clone-new) at h) (rw (sym deep ∙ ea, eb′, clone-new) at g))
+
+  pub clone-new-same : MadeSame CloneNew
+  unfolding MadeSame make
+  clone-new-same t u s r i j w = clone-new-cases t u s r i j w (made-sound keeps t i CloneNew (w .sound-t) (w .runs-t)) (made-sound keeps u j CloneNew (w .sound-u) (w .runs-u))

@@ -1,0 +1,179 @@
+-- A change after which some processes and namespaces stand as they stood, and the other processes are gone.
+use Prim.Native.Nat.{ℕ, zero, suc, pred, _-_, _<_, _≤_}
+use native.Mathlib.Omega.{arith}
+use mathlib.Core.Bool.{Bool, true, false, not, So, false≢true}
+use mathlib.Core.Logic.{_⊎_, inl, inr, ⊎-elim}
+use mathlib.Core.Path.{_≡_, refl, sym, _∙_, ap, ap₂, subst, fun-ext}
+use borrow.Author.Tests.{ne-eqb}
+use lib.Dec.{eqb}
+use Rattle.table.proofs.Sameness.Anchor.{anchor, anchor-alive}
+use Rattle.table.proofs.Laws.Facts.{Facts}
+use Rattle.table.proofs.Laws.Slots.{up-level, up-taken, own-taken, seen-taken, namespace-lt}
+use Rattle.table.proofs.Laws.Quant.{left, right, both, and-false}
+use Rattle.table.proofs.Sameness.Readers.{pid-in-unseen}
+use Rattle.table.proofs.Sameness.Same.{Same}
+use Rattle.table.proofs.Sameness.Twins.{Pair, Twin, twin-rows, twin-there, flip-pair, flip-twin, bool-ext}
+use Rattle.table.specs.Limits.{levels, no-slot}
+use Rattle.table.specs.Read.{View, alive, below, climb, init, init-of, is-alive, is-init, namespace-taken, pid-in, pid-seen, seen, taken}
+use Rattle.table.specs.Sheet.{Name, Row, by-init, dead-at, name, name-by, nearest, nearest-alive, no-name, row, unborn-name}
+use Rattle.table.specs.Tests.{_and_, _or_, if_then_else_, values}
+use Rattle.table.specs.declared.Life.{Life}
+use Rattle.table.specs.declared.Life.the-variants.{Unborn, Alive, Dead}
+use Rattle.table.specs.declared.State.{State}
+
+pub record Remain (v v′ : View) (K Q : ℕ → Bool) : Type 0 where
+  pub owns : (i : ℕ) → So (Q i) → v′ .own i ≡ v .own i
+  pub pids : (i l : ℕ) → So (Q i) → v′ .pid i l ≡ v .pid i l
+  pub gone : (i : ℕ) → Q i ≡ false → taken v′ i ≡ false
+  pub ups : (n : ℕ) → So (K n) → v′ .up n ≡ v .up n
+  pub levels : (n : ℕ) → So (K n) → v′ .level n ≡ v .level n
+  pub lives : (n : ℕ) → So (K n) → v′ .life n ≡ v .life n
+  pub up-kept : (n k : ℕ) → So (K n) → v .level n ≡ suc k → So (K (v .up n))
+  pub own-kept : (i : ℕ) → So (Q i) → So (taken v i) → So (K (v .own i))
+  pub init-kept : (n : ℕ) → So (K n) → So (alive v n) → So (Q (init v n))
+
+-- a row by what may change
+abbrev pub lit : View → ℕ → ℕ → State → ℕ → ℕ → Bool → ℕ → Name → ℕ → Row
+lit v s i st h q m p c z = record { pids = values (v .pid i) (levels - v .level s) (v .level s); state = st; handled = h; pending = q; unshared = m; parent = p; own = name v s (v .own i); children = c; last = z }
+
+module _ (v v′ : View) (K Q : ℕ → Bool) (f : Facts v) (w : Remain v v′ K Q) where
+  climb-remain : (k a b : ℕ) → So (K a) → v .level a ≡ k → climb (v′ .up) k a b ≡ climb (v .up) k a b
+  unfolding climb
+  climb-remain zero a b h e = refl
+  climb-remain (suc k) a b h e =
+      ap (λ (x : Bool). elim (eqb a b) [ true ↦ true | false ↦ x ])
+      (ap (λ x. climb (v′ .up) k x b) (w .ups a h) ∙ climb-remain k (v .up a) b (w .up-kept a k h e) (up-level v f a k e))
+
+  pub below-remain : (a b : ℕ) → So (K a) → below v′ a b ≡ below v a b
+  unfolding below
+  below-remain a b h = ap (λ k. climb (v′ .up) k a b) (w .levels a h) ∙ climb-remain (v .level a) a b h refl
+
+  pub taken-remain : (i : ℕ) → So (Q i) → taken v′ i ≡ taken v i
+  unfolding taken
+  taken-remain i h = ap (λ x. not (eqb x 0)) (w .pids i 0 h)
+
+  pub seen-remain : (n i : ℕ) → So (Q i) → seen v′ n i ≡ seen v n i
+  unfolding seen
+  seen-remain n i h = go (taken v i) refl
+    where
+      go : (b : Bool) → taken v i ≡ b → taken v′ i and below v′ (v′ .own i) n ≡ taken v i and below v (v .own i) n
+      go true e = ap₂ _and_ (taken-remain i h) (ap (λ x. below v′ x n) (w .owns i h) ∙ below-remain (v .own i) n (w .own-kept i h e))
+      go false e = rw (taken-remain i h ∙ e, e) (and-false (below v′ (v′ .own i) n) ∙ sym (and-false (below v (v .own i) n)))
+
+  pub seen-gone : (n i : ℕ) → Q i ≡ false → seen v′ n i ≡ false
+  unfolding seen
+  seen-gone n i h = rw (w .gone i h) (and-false (below v′ (v′ .own i) n))
+
+  -- who is seen then, remains
+  pub remains : (n i : ℕ) → So (seen v′ n i) → So (Q i)
+  remains n i h = go (Q i) refl
+    where
+      go : (b : Bool) → Q i ≡ b → b ≡ true
+      go true e = refl
+      go false e = absurd (false≢true (sym (seen-gone n i e) ∙ h))
+
+  pub pid-remain : (n i : ℕ) → So (K n) → So (Q i) → pid-seen v′ n i ≡ pid-seen v n i
+  unfolding pid-seen
+  pid-remain n i k h = ap (v′ .pid i) (w .levels n k) ∙ w .pids i (v .level n) h
+
+  pub pid-in-remain : (n i : ℕ) → So (K n) → So (Q i) → pid-in v′ n i ≡ pid-in v n i
+  unfolding pid-in
+  pid-in-remain n i k h = ap₂ (λ (b : Bool) (x : ℕ). if b then x else 0) (seen-remain n i h) (pid-remain n i k h)
+
+  near-remain : (k n : ℕ) → So (K n) → v .level n ≡ k → nearest (v′ .life) (v′ .up) k n ≡ nearest (v .life) (v .up) k n
+  unfolding nearest
+  near-remain zero n h e = refl
+  near-remain (suc k) n h e =
+      ap₂ (λ (b : Bool) (x : ℕ). elim b [ true ↦ n | false ↦ x ]) (ap is-alive (w .lives n h))
+      (ap (λ x. nearest (v′ .life) (v′ .up) k x) (w .ups n h) ∙ near-remain k (v .up n) (w .up-kept n k h e) (up-level v f n k e))
+
+  near-kept : (k n : ℕ) → So (K n) → v .level n ≡ k → So (K (nearest (v .life) (v .up) k n))
+  unfolding nearest
+  near-kept zero n h e = h
+  near-kept (suc k) n h e = go (is-alive (v .life n)) (near-kept k (v .up n) (w .up-kept n k h e) (up-level v f n k e))
+    where
+      go : (b : Bool) → So (K (nearest (v .life) (v .up) k (v .up n))) → So (K (elim b [ true ↦ n | false ↦ nearest (v .life) (v .up) k (v .up n) ]))
+      go true r = h
+      go false r = r
+
+  pub anchor-remain : (n : ℕ) → So (K n) → anchor v′ n ≡ anchor v n
+  anchor-remain n h = ap (λ k. nearest (v′ .life) (v′ .up) k n) (w .levels n h) ∙ near-remain (v .level n) n h refl
+
+  pub anchor-kept : (n : ℕ) → So (K n) → So (K (anchor v n))
+  anchor-kept n h = near-kept (v .level n) n h refl
+
+  by-remain : (s n : ℕ) → So (K s) → So (K n) → So (namespace-taken v n) → (l : Life) → v .life n ≡ l → name-by v′ s n l ≡ name-by v s n l
+  unfolding name-by
+  by-remain s n hs hn ht Unborn e = refl
+  by-remain s n hs hn ht (Alive i) e =
+      ap by-init (pid-in-remain s (i .0) hs (subst (λ x. So (Q x)) (ap init-of e) (w .init-kept n hn (ap is-alive e))))
+  by-remain s n hs hn ht Dead e =
+      ap₂ dead-at (w .levels n hn)
+      (ap (pid-in v′ s) (ap init-of (ap (v′ .life) (anchor-remain n hn) ∙ w .lives (anchor v n) (anchor-kept n hn)))
+      ∙ pid-in-remain s (init v (anchor v n)) hs (w .init-kept (anchor v n) (anchor-kept n hn) (anchor-alive v f n ht)))
+
+  pub name-remain : (s n : ℕ) → So (K s) → So (K n) → So (namespace-taken v n) → name v′ s n ≡ name v s n
+  unfolding name
+  name-remain s n hs hn ht =
+      ap (λ y. if eqb n no-slot then no-name else y) (ap (name-by v′ s n) (w .lives n hn) ∙ by-remain s n hs hn ht (v .life n) refl)
+
+  -- the row of one that remains, but for what may change
+  pub row-remain : (s i : ℕ) → So (K s) → So (Q i) → So (taken v i) → row v′ s i ≡ lit v s i (v′ .state i) (v′ .handled i) (v′ .pending i) (v′ .unshared i) (pid-in v′ s (v′ .parent i)) (name v′ s (v′ .children i)) (if is-init v i then v′ .last (v .own i) else 0)
+  unfolding row is-init
+  row-remain s i hs h ht =
+      λ k. record {
+        pids = values (fun-ext (λ l. w .pids i l h) k) (levels - w .levels s hs k) (w .levels s hs k);
+        state = v′ .state i;
+        handled = v′ .handled i;
+        pending = v′ .pending i;
+        unshared = v′ .unshared i;
+        parent = pid-in v′ s (v′ .parent i);
+        own = (ap (name v′ s) (w .owns i h) ∙ name-remain s (v .own i) hs (w .own-kept i h ht) (own-taken v f i ht)) k;
+        children = name v′ s (v′ .children i);
+        last = (ap (λ (n : ℕ). if eqb (init v′ n) i then v′ .last n else 0) (w .owns i h) ∙ ap (λ (x : Life). if eqb (init-of x) i then v′ .last (v .own i) else 0) (w .lives (v .own i) (w .own-kept i h ht))) k;
+      }
+
+-- ---- two tables
+
+-- what may change is the same for a pair of twins that remain
+pub record Lit (v u v′ u′ : View) (s r i j : ℕ) : Type 0 where
+  pub states : v′ .state i ≡ u′ .state j
+  pub handleds : v′ .handled i ≡ u′ .handled j
+  pub pendings : v′ .pending i ≡ u′ .pending j
+  pub marks : v′ .unshared i ≡ u′ .unshared j
+  pub parents : pid-in v′ s (v′ .parent i) ≡ pid-in u′ r (u′ .parent j)
+  pub childrens : name v′ s (v′ .children i) ≡ name u′ r (u′ .children j)
+  pub lasts : (if is-init v i then v′ .last (v .own i) else 0) ≡ (if is-init u j then u′ .last (u .own j) else 0)
+
+lit-same : (v u : View) (s r i j : ℕ) → row v s i ≡ row u r j → {st st′ : State} {h h′ q q′ p p′ z z′ : ℕ} {m m′ : Bool} {c c′ : Name} → st ≡ st′ → h ≡ h′ → q ≡ q′ → m ≡ m′ → p ≡ p′ → c ≡ c′ → z ≡ z′ → lit v s i st h q m p c z ≡ lit u r j st′ h′ q′ m′ p′ c′ z′
+unfolding row
+lit-same v u s r i j e es eh eq em ep ec ez =
+    λ k. record { pids = e k .pids; state = es k; handled = eh k; pending = eq k; unshared = em k; parent = ep k; own = e k .own; children = ec k; last = ez k }
+
+module _ (v u v′ u′ : View) (s r : ℕ) (w : Pair v u s r) (K Q K′ Q′ : ℕ → Bool) (a : Remain v v′ K Q) (b : Remain u u′ K′ Q′) (hs : So (K s)) (hr : So (K′ r)) (both-remain : (i j : ℕ) → Twin v u s r i j → Q i ≡ Q′ j) (h : (i j : ℕ) → Twin v u s r i j → So (Q i) → Lit v u v′ u′ s r i j) where
+  remain-rows : (i j : ℕ) → Twin v u s r i j → So (Q i) → row v′ s i ≡ row u′ r j
+  remain-rows i j k q =
+      row-remain v v′ K Q (w .facts-v) a s i hs q (seen-taken v (w .facts-v) s i (k .seen-v))
+      ∙ lit-same v u s r i j (twin-rows v u s r w i j k) (h i j k q .states) (h i j k q .handleds) (h i j k q .pendings) (h i j k q .marks) (h i j k q .parents) (h i j k q .childrens) (h i j k q .lasts)
+      ∙ sym (row-remain u u′ K′ Q′ (w .facts-u) b r j hr (sym (both-remain i j k) ∙ q) (seen-taken u (w .facts-u) r j (k .seen-u)))
+
+  pub same-remain : Same v′ u′ s r
+  same-remain =
+      record {
+        levels = a .levels s hs ∙ w .same .levels ∙ sym (b .levels r hr);
+        there =
+            λ i k.
+            let q = remains v v′ K Q (w .facts-v) a s i k in
+            let (j, p) = twin-there v u s r w i (sym (seen-remain v v′ K Q (w .facts-v) a s i q) ∙ k) in
+            (j, seen-remain u u′ K′ Q′ (w .facts-u) b r j (sym (both-remain i j p) ∙ q) ∙ p .seen-u, remain-rows i j p q);
+        back =
+            λ j k.
+            let q = remains u u′ K′ Q′ (w .facts-u) b r j k in
+            let (i, p) = twin-there u v r s (flip-pair v u s r w) j (sym (seen-remain u u′ K′ Q′ (w .facts-u) b r j q) ∙ k) in
+            let p′ = flip-twin u v r s j i p in
+            (i, seen-remain v v′ K Q (w .facts-v) a s i (both-remain i j p′ ∙ q) ∙ p .seen-u, remain-rows i j p′ (both-remain i j p′ ∙ q));
+      }
+
+pub standing : (v v′ : View) (K Q : ℕ → Bool) → Remain v v′ K Q → (n : ℕ) → So (K n) → So (namespace-taken v n) → So (namespace-taken v′ n)
+unfolding namespace-taken
+standing v v′ K Q w n h k = ap (λ x. eqb n 0 or not (eqb x 0)) (w .levels n h) ∙ k
