@@ -7,3 +7,13 @@ pub mod Refused
 pub mod Laws
 pub mod Keeps
 pub mod Sameness
+-- Laws of chains of tests and of loops, each kind once.
+pub mod Chains
+pub mod AllLoops
+pub mod AnyLoops
+pub mod FirstLoops
+pub mod SeekLoops
+pub mod FoldLoops
+pub mod MapLoops
+-- Slots read and put.
+pub mod Slots
