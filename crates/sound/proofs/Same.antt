@@ -10,8 +10,8 @@ use lib.Dec.{eqb, leb}
 use Rattle.table.proofs.Laws.Below as Below
 use Rattle.table.proofs.Laws.Clauses.{sound-is, is-sound}
 use Rattle.table.proofs.Laws.Facts.{Facts, Held, Past, Taken, Stands, Lives, Seen, Other, SignalsOk, pid-ok, facts-of, held-of, is-sound-view, lives-taken, not-ended, is-living, seen-taken, seen-below, is-seen, holder-of, is-held, held-namespace}
-use Rattle.table.proofs.Laws.Iff.{tests, and-iff, not-iff, or-iff}
-use Rattle.table.proofs.Laws.Quant.{left, right, both, cases, all-intro, all-elim}
+use Rattle.table.proofs.Laws.Tests.{tests, and-iff, not-iff, or-iff}
+use Rattle.table.proofs.Laws.Tests.{left, right, both, cases, all-intro, all-elim}
 use Rattle.table.proofs.Laws.Reach.{reach-zero, reach-step}
 use Rattle.table.proofs.Laws.Tree.{Stepwise, below-refl, climb-cases}
 use Rattle.table.specs.Limits.{process-slots, namespace-slots, levels, deepest, greatest-pid, no-slot, signals}
@@ -300,6 +300,7 @@ module _ (v : View) (r : Past v) (q : So (quick v)) where
   facts-from : Facts v
   facts-from =
       record {
+        ended-is = r .ended-is;
         in-range = range;
         in-namespace = namespace-range;
         root-init = root .0 .0 .0 .0;
