@@ -1,10 +1,9 @@
 -- For the calls that give birth: with the slot that the definitions choose, `birth` and `new_namespace` are the
 -- definitions' own. r is a callee's result.
-use Prim.Native.Nat.{ℕ, suc, _<_, _+_}
-use mathlib.Core.Path.{_≡_, refl, sym, ap, _∙_}
-use lib.ListN.{length, replicate}
+use Prim.Native.Nat.{ℕ, _<_, _+_}
+use mathlib.Core.Path.{_≡_, sym, ap, _∙_}
+use lib.ListN.{replicate}
 use native.Mathlib.Numerals.{add-one}
-use native.Mathlib.Omega.{arith}
 use borrow.Author.Tests.{le-leb}
 use lib.Dec.{leb}
 use Rattle.births.specs.Births.{birth-at, namespace-at}

@@ -180,6 +180,8 @@ module _ (t : Table) (child n left at : ℕ) (ps : List Pid) (ns : List Namespac
         joins = w .joins ∙ ap (λ k. joins-on (view t) child k at ns) z ∙ sym (ap₂ (joins-on (view t) child (left - 1)) f r');
       }
 
+pub ruleset walks = (walk-starts, walk-goes-on)
+
 -- p is the child's record and u the table with it
 pub walk-done : (t u : Table) (child caller n left at : ℕ) (ps : List Pid) (ns : List Namespace) (p : Process) → Walking t child n left at ps ns → left ≤ 0 → length (t .namespaces) ≡ namespace-slots → p ≡ child-with caller n ps → u ≡ put t child p → record { processes = u .processes; namespaces = ns } ≡ birth-at t child caller n
 unfolding birth-at newborn numbers-on joins-on
@@ -190,5 +192,3 @@ walk-done t u child caller n left at ps ns p w h long e q =
     sym (w .joins ∙ ap (λ k. joins-on (view t) child k at ns) z) ∙ joins-all (view t) child n (t .namespaces) long in
     ap₂ (λ x y. record { processes = x; namespaces = y })
     (ap (λ x. x .processes) q ∙ ap (λ x. set (t .processes) child x) (e ∙ ap (child-with caller n) a) ∙ sym (changed-none no-process process-slots _)) b
-
-pub ruleset walks = (walk-starts, walk-goes-on, walk-done)

@@ -93,10 +93,10 @@ pub fn birth(t: Table, slot: ProcSlot, caller: ProcSlot, n: NsSlot) -> Table
     while 0 < left {
         left -= 1;
         let pid = next_pid(t, at);
-        let more = with_pid(pids, left, pid);
-        pids = more;
-        let now = joined_at(namespaces, at, slot, pid);
-        namespaces = now;
+        let numbered = with_pid(pids, left, pid);
+        pids = numbered;
+        let changed = joined_at(namespaces, at, slot, pid);
+        namespaces = changed;
         at = parent_of(up, at);
     }
     let mut u = t.with_process(slot, newborn(caller, n, pids));

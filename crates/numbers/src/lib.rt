@@ -17,10 +17,10 @@ ghost use Rattle.table.specs.Tests.{lowest};
 // The greatest process number, and where the search starts again.
 pub const GREATEST_PID: u16 = 32767;
 
-pub const RESTART_PID: u16 = 300;
+const RESTART_PID: u16 = 300;
 
-// The lowest number from `from` to GREATEST_PID that nobody seen from n has there. Where there is none, the first
-// number past both ends.
+// The lowest number from `from` to GREATEST_PID that nobody seen from n has there. Where there is none, a number past
+// GREATEST_PID.
 fn free_from(t: Table, n: NsSlot, from: Pid) -> Pid
     ensures { λ r. ⌜ r .0 ≡ lowest (free-pid (view t) (n .0)) (suc greatest-pid - from .0) (from .0) ⌝ }
 {

@@ -46,7 +46,7 @@ loop-less : tie.Need-loop-less Inv-loop μ-loop
 loop-less c = search needs
 
 loop-again : tie.Need-loop-again Inv-loop μ-loop
-loop-again c = search walks
+loop-again c = search (walks, needs)
 
 newborn-requires : tie.Need-newborn-requires Inv-loop μ-loop
 newborn-requires c κs = search needs
@@ -56,7 +56,9 @@ with-process-requires c κs = search needs
 
 returns : tie.Need-returns Inv-loop μ-loop
 returns c =
-    walk-done _ _ _ _ _ _ _ _ _ _ (c .before .before .before .loop .inv) (search needs) (search (length-mapped, c .before .before .before .before .before .before .before .before .good .0)) (c .before .newborn .ensures) (c .with-process .ensures)
+    let entry = c .before .before .before .before .before .before .before .before in
+    walk-done _ _ _ _ _ _ _ _ _ _ (c .before .before .before .loop .inv) (search needs)
+    (search (length-mapped, entry .good .0)) (c .before .newborn .ensures) (c .with-process .ensures)
 
 pub birth-spec : {M : Type 1} → statement M
 birth-spec =

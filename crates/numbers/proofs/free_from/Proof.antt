@@ -1,5 +1,5 @@
 -- `free_from` gives the lowest free number, by the laws of the candidate loop and of the loop over slots in it.
-use Prim.Native.Nat.{suc, _-_, _≤_}
+use Prim.Native.Nat.{suc, _-_}
 use mathlib.Core.Path.{_≡_}
 use borrow.Author.Needs.{needs}
 use lib.Dec.{eqb}
@@ -59,7 +59,7 @@ candidates-less c = search needs
 
 candidates-again : tie.Need-candidates-again Inv-loop μ-loop Inv-candidates μ-candidates
 unfolding free-pid
-candidates-again c = search (seeks, any-loops, named-test)
+candidates-again c = search (seeks, any-loops, named-test, needs)
 
 add-i : tie.Need-add-i Inv-loop μ-loop Inv-candidates μ-candidates
 add-i c = search needs
@@ -76,7 +76,7 @@ returns c = search seeks
 
 returns-2 : tie.Need-returns-2 Inv-loop μ-loop Inv-candidates μ-candidates
 unfolding free-pid
-returns-2 c = search (seeks, any-loops, named-test)
+returns-2 c = search (seeks, any-loops, named-test, needs)
 
 pub free-from-spec : {M : Type 1} → statement M
 free-from-spec =
