@@ -7,9 +7,8 @@ pub mod NewPid
 pub mod Birth
 pub mod BirthKeeps
 pub mod NewNamespace
-pub mod SetChildren
+pub mod Lights
 pub mod Reap
-pub mod Signal
 pub mod PutKeeps
 pub mod Deliver
 pub mod Premises

@@ -5,21 +5,21 @@ use mathlib.Core.Bool.{Bool, true, false, not, So}
 use mathlib.Core.List.{List, _∷_, []}
 use mathlib.Core.Logic.{_⊎_, inr}
 use mathlib.Core.Path.{_≡_, refl, sym, _∙_, ap, subst}
-use borrow.Author.Tests.{eqb-false, le-leb, lt-ltb, ltb-true}
+use borrow.Author.Tests.{eqb-false, le-leb, lt-ltb}
 use lib.Dec.{eqb}
 use lib.ListN.{length}
-use Rattle.table.proofs.Keeps.Changed.{shape-at}
 use Rattle.table.proofs.Keeps.Deliver.{Safe, Good, action-good, pend-ok, deliver-sane}
 use Rattle.table.proofs.Keeps.End.{end-sane}
 use Rattle.table.proofs.Keeps.Freed.{freed-keeps}
+use Rattle.table.proofs.Keeps.Lights.{MayHold}
 use Rattle.table.proofs.Keeps.NewNamespace.{namespace-pre}
 use Rattle.table.proofs.Keeps.Premises as K
-use Rattle.table.proofs.Keeps.PutKeeps.{with-all, signalled-sane, set-children-sane, reaped-sane, new-namespace-view, new-namespace-shape}
+use Rattle.table.proofs.Keeps.PutKeeps.{with-all, signalled-sane, set-children-sane, reaped-sane, new-namespace-view, new-namespace-shape, sets}
 use Rattle.table.proofs.Laws.Below.{level-deepest}
 use Rattle.table.proofs.Laws.Facts.{Facts, Holder, Taken, Stands, Lives, Below, Seen, Other, SignalsOk, lives-taken, not-ended, seen-taken, seen-below, facts, held-in, Sane, sane}
 use Rattle.table.proofs.Laws.Signals.{with-signal-lt, without-signal-le, poll-ok, on-ok, off-ok}
 use Rattle.table.proofs.Laws.Steps.{made-or-refused, runs-lives, remainder}
-use Rattle.table.proofs.Laws.Tests.{isnt-so, no-so, choose, left, right, both, isnt-not, or-false-left, or-false-right}
+use Rattle.table.proofs.Laws.Tests.{isnt-so, no-so, choose, both, isnt-not, or-false-left, or-false-right}
 use Rattle.table.specs.Answers.{answers, granted, refused}
 use Rattle.table.specs.Births.{birth}
 use Rattle.table.specs.Calls.{clone, clone-new, exit, first-ended, getpid, getppid, handle, handle-off, handle-on, kill, named, names-group, natural, new-namespace, own-level, poll, reap, set-children, setns, status, targets, unshare, wait, within}
@@ -50,8 +50,8 @@ use Rattle.table.specs.declared.Table.{Table}
 -- the changes that add no process
 pub data Change (t : Table) : Table → Type 0 where
   ends : (p : ℕ) (e : End) → Lives (view t) p → Other p → So (kept-end (Ended e)) → Change t (end t p e)
-  signals-of : (c : ℕ) → Lives (view t) c → (x : State) → is-ended x ≡ false → So (kept-end x) → (h q : ℕ) → SignalsOk h q → h < 2 ^ signals → q < 2 ^ signals → Change t (put t c (with-all (process t c) x h q))
-  turns : (c m : ℕ) (mark : Bool) → Lives (view t) c → Stands (view t) m → Below (view t) m (view t .own c) → (So (unborn (view t) m) → (view t .own c ≡ view t .up m) × ((i : ℕ) → Taken (view t) i → view t .children i ≡ m → i ≡ c)) → Change t (put t c (with-children (process t c) m mark))
+  signals-of : (c : ℕ) → Lives (view t) c → (x : State) → is-ended x ≡ false → So (kept-end x) → (h q : ℕ) → SignalsOk h q → h < 2 ^ signals → q < 2 ^ signals → Change t (put t c (with-all (process t c) x h q (view t .children c) (view t .unshared c)))
+  turns : (c m : ℕ) (mark : Bool) → Lives (view t) c → MayHold (view t) c m → Change t (put t c (with-children (process t c) m mark))
   reaps : (d : ℕ) → So (view t .ended d) → Change t (put t d empty-process)
   makes-namespace : (c : ℕ) → Lives (view t) c → (view t .level (view t .own c) ≡ deepest → ⊥) → (free-namespace-slot (view t) ≡ namespace-slots → ⊥) → Change t (new-namespace t c)
 
@@ -69,7 +69,7 @@ namespace-sane t s c l a b =
 pub change-sane : (t u : Table) → Sane t → Change t u → Sane u
 change-sane t u s (ends p e l o ok) = end-sane t s p e l o ok
 change-sane t u s (signals-of c l x o k h q ok a b) = signalled-sane t s c l x o h q k ok a b
-change-sane t u s (turns c m mark l a b d) = set-children-sane t s c m mark l a b d
+change-sane t u s (turns c m mark l k) = set-children-sane t s c m mark l k
 change-sane t u s (reaps d o) = reaped-sane t s d o
 change-sane t u s (makes-namespace c l a b) = namespace-sane t s c l a b
 
@@ -114,13 +114,6 @@ made-sound t u h (born c n m) = birth-keeps t (sane t h) c n m
 made-sound t u h (born-in-new c n x l m) = birth-keeps (new-namespace t c) (change-sane t (new-namespace t c) (sane t h) x) c n m
 
 -- ---- deliveries are runs
-
--- the sets of signals of a living process
-sets : (t : Table) → Sane t → (i : ℕ) → Lives (view t) i → (view t .handled i < 2 ^ signals) × (view t .pending i < 2 ^ signals) × SignalsOk (view t .handled i) (view t .pending i)
-sets t s i l =
-    let x = lives-taken (view t) i l in
-    let g = shape-at t (s .shape-of) i (s .facts .in-range i x) in
-    (ltb-true _ _ (right _ _ (left _ _ g)), ltb-true _ _ (right _ _ g), s .facts .signal-sets i x)
 
 resumed-run : (t u : Table) → Run t u → Sane u → (i : ℕ) → Lives (view u) i → (b : Bool) → has (view u .handled i) 18 ≡ b → Run t (put u i (resumed (process u i)))
 unfolding resumed with-pending
@@ -197,12 +190,12 @@ module _ (t : Table) (c : ℕ) (h : SoundTable t) (r : So (runs (view t) c)) whe
       let deep = eqb-false (own-level v c) deepest b in
       let room = eqb-false (free-namespace-slot v) namespace-slots d in
       let q = K.ready-next t c h r deep room in
-      freed-after _ (more (more start (makes-namespace c lives deep room)) (turns c (free-namespace-slot v) true (q .lives) (q .namespace) (q .below) (λ u. (q .up-own u, q .alone)))))))
+      freed-after _ (more (more start (makes-namespace c lives deep room)) (turns c (free-namespace-slot v) true (q .lives) (record { here = q .namespace; below = q .below; alone = λ u. (q .up-own u, q .alone) }))))))
   call-made (Setns n) =
       choose (Gives t) (eqb (named v c n) process-slots or v .ended (named v c n)) (λ a. nothing-done) (λ a.
       let s : Seen v (v .own c) (named v c n) = K.named-seen v c n (eqb-false _ process-slots (or-false-left _ _ a)) in
       let m = f .members (named v c n) (seen-taken v (v .own c) _ s) in
-      freed-after _ (more start (turns c (v .own (named v c n)) (process t c .unshared) lives (m .0 .0) (seen-below v (v .own c) _ s) (λ u. absurd (m .1 u)))))
+      freed-after _ (more start (turns c (v .own (named v c n)) (process t c .unshared) lives (record { here = m .0 .0; below = seen-below v (v .own c) _ s; alone = λ u. absurd (m .1 u) }))))
   call-made (Kill n s) =
       choose (Gives t) (not (within 0 signals s)) (λ a. nothing-done) (λ a.
       choose (Gives t) (names-group n) (λ b. nothing-done) (λ b.
@@ -225,12 +218,12 @@ module _ (t : Table) (c : ℕ) (h : SoundTable t) (r : So (runs (view t) c)) whe
 pub setns-sane : (t : Table) → SoundTable t → (c i : ℕ) (mark : Bool) → Lives (view t) c → Seen (view t) (view t .own c) i → Sane (put t c (with-children (process t c) (view t .own i) mark))
 setns-sane t h c i mark l s =
     let m = facts t h .members i (seen-taken (view t) (view t .own c) i s) in
-    set-children-sane t (sane t h) c (view t .own i) mark l (m .0 .0) (seen-below (view t) (view t .own c) i s) (λ u. absurd (m .1 u))
+    set-children-sane t (sane t h) c (view t .own i) mark l (record { here = m .0 .0; below = seen-below (view t) (view t .own c) i s; alone = λ u. absurd (m .1 u) })
 
 pub unshare-sane : (t : Table) (h : SoundTable t) (c : ℕ) (r : So (runs (view t) c)) → (own-level (view t) c ≡ deepest → ⊥) → (free-namespace-slot (view t) ≡ namespace-slots → ⊥) → Sane (put (new-namespace t c) c (with-children (process (new-namespace t c) c) (free-namespace-slot (view t)) true))
 unshare-sane t h c r deep room =
     let q = K.ready-next t c h r deep room in
-    set-children-sane (new-namespace t c) (namespace-sane t (sane t h) c (lives t c h r) deep room) c (free-namespace-slot (view t)) true (q .lives) (q .namespace) (q .below) (λ u. (q .up-own u, q .alone))
+    set-children-sane (new-namespace t c) (namespace-sane t (sane t h) c (lives t c h r) deep room) c (free-namespace-slot (view t)) true (q .lives) (record { here = q .namespace; below = q .below; alone = λ u. (q .up-own u, q .alone) })
 
 -- a call by a running caller leaves a sound table sound
 pub make-sound : (t : Table) (c : ℕ) (call : Call) → SoundTable t → So (runs (view t) c) → SoundTable (make t c call .table)

@@ -73,7 +73,7 @@ change-stays : (t u : Table) → Sane t → Change t u → Stay (view t) (view u
 unfolding namespace-taken
 change-stays t u s (ends p e l o ok) = end-stays t s p e l
 change-stays t u s (signals-of c l x o k h q ok a b) = λ m h. (h, (refl, λ o. inl refl))
-change-stays t u s (turns c m mark l a b d) = λ m h. (h, (refl, λ o. inl refl))
+change-stays t u s (turns c m mark l k) = λ m h. (h, (refl, λ o. inl refl))
 change-stays t u s (reaps d o) = λ m h. (h, (refl, λ o. inl refl))
 change-stays t u s (makes-namespace c l a b) = new-stays t s c b
 

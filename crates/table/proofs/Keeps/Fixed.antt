@@ -11,7 +11,7 @@ use Rattle.table.proofs.Keeps.End.{end-view}
 use Rattle.table.proofs.Keeps.Freed.{freed-view}
 use Rattle.table.proofs.Keeps.InitEnds.{gone, subtree-gone}
 use Rattle.table.proofs.Keeps.Premises as K
-use Rattle.table.proofs.Keeps.PutKeeps.{signalled-view, set-children-view, reaped-view, new-namespace-view}
+use Rattle.table.proofs.Keeps.PutKeeps.{reaped-view, new-namespace-view, lights-view}
 use Rattle.table.proofs.Keeps.Reap.{without}
 use Rattle.table.proofs.Laws.Facts.{Taken, Lives, Other, lives-taken, not-ended, facts, Sane, sane}
 use Rattle.table.proofs.Laws.Steps.{made-or-refused}
@@ -57,8 +57,8 @@ end-shrinks t s p e l o ok = subst (Shrinks (view t)) (sym (end-view t s p e (li
 pub change-shrinks : (t u : Table) → Sane t → Change t u → Shrinks (view t) (view u)
 unfolding taken
 change-shrinks t u s (ends p e l o ok) = end-shrinks t s p e l o ok
-change-shrinks t u s (signals-of c l x o k h q ok a b) = subst (Shrinks (view t)) (sym (signalled-view t s c l x o h q)) (λ j y. (y, refl))
-change-shrinks t u s (turns c m mark l a b d) = subst (Shrinks (view t)) (sym (set-children-view t s c m mark l)) (λ j y. (y, refl))
+change-shrinks t u s (signals-of c l x o k h q ok a b) = subst (Shrinks (view t)) (sym (lights-view t s c l x o h q (view t .children c) (view t .unshared c))) (λ j y. (y, refl))
+change-shrinks t u s (turns c m mark l k) = subst (Shrinks (view t)) (sym (lights-view t s c l (view t .state c) (isnt-so (not-ended (view t) c l)) (view t .handled c) (view t .pending c) m mark)) (λ j y. (y, refl))
 change-shrinks t u s (reaps d o) = subst (Shrinks (view t)) (sym (reaped-view t s d o)) (without-shrinks (view t) d)
 change-shrinks t u s (makes-namespace c l a b) = subst (Shrinks (view t)) (sym (new-namespace-view t (s .shape-of) c (K.free-namespace-is (view t) b .0))) (λ j y. (y, refl))
 

@@ -11,9 +11,9 @@ use lib.IntN.{ℤ, pos, negsuc}
 use Rattle.table.proofs.Keeps.Birth.{born-pre, born-held}
 use Rattle.table.proofs.Keeps.BirthKeeps.{birth-view, birth-shape}
 use Rattle.table.proofs.Keeps.Deliver.{Each, Safe}
+use Rattle.table.proofs.Keeps.Lights.{lights-held, holds-still}
 use Rattle.table.proofs.Keeps.NewNamespace.{Ready, ready, with-namespace}
-use Rattle.table.proofs.Keeps.PutKeeps.{signalled-sane, signalled-view, new-namespace-view}
-use Rattle.table.proofs.Keeps.Signal.{signalled-held}
+use Rattle.table.proofs.Keeps.PutKeeps.{signalled-sane, new-namespace-view, lights-view}
 use Rattle.table.proofs.Laws.Below.{shallow-below, level-deepest}
 use Rattle.table.proofs.Laws.Facts.{Holder, Facts, Held, Taken, Stands, Lives, Below, Seen, SignalsOk, lives-taken, not-ended, seen-below, facts, held-in, sound-from, sane}
 use Rattle.table.proofs.Laws.Lowest.{lowest-is}
@@ -119,7 +119,7 @@ signalled-sound t c h lives a b la lb ok =
     let o = isnt-so (not-ended (view t) c lives) in
     let k = facts t h .ends-kept c (lives-taken (view t) c lives) in
     let s = signalled-sane t (sane t h) c lives (view t .state c) o a b k ok la lb in
-    sound-from _ (s .shape-of) (s .facts) (subst Held (sym (signalled-view t (sane t h) c lives (view t .state c) o a b)) (signalled-held (view t) (facts t h) c (view t .state c) a b lives o k ok (held-in t h)))
+    sound-from _ (s .shape-of) (s .facts) (subst Held (sym (lights-view t (sane t h) c lives (view t .state c) o a b (view t .children c) (view t .unshared c))) (lights-held (view t) (facts t h) c (view t .state c) a b (view t .children c) (view t .unshared c) lives o k ok (holds-still (view t) (facts t h) c lives) refl (held-in t h)))
 
 module _ (t : Table) (c : ℕ) (h : SoundTable t) (r : So (runs (view t) c)) where
   abbrev v : View
