@@ -8,7 +8,7 @@ use mathlib.Core.Path.{_≡_, refl, sym, _∙_, ap, subst}
 use borrow.Author.Tests.{eqb-false, le-leb, lt-ltb}
 use lib.Dec.{eqb}
 use lib.ListN.{length}
-use Rattle.table.proofs.Keeps.Deliver.{Safe, Good, action-good, pend-ok, deliver-sane}
+use Rattle.table.proofs.Keeps.Deliver.{Safe, Good, action-good, pend-ok}
 use Rattle.table.proofs.Keeps.End.{end-sane}
 use Rattle.table.proofs.Keeps.Freed.{freed-keeps}
 use Rattle.table.proofs.Keeps.Lights.{MayHold}
@@ -130,12 +130,22 @@ act-run t u r s i k l Pend g =
     let (a, b, f) = sets u s i (g .0) in
     more r (signals-of i (g .0) (view u .state i) (isnt-so (not-ended (view u) i (g .0))) (s .facts .ends-kept i (lives-taken (view u) i (g .0))) _ _ (pend-ok _ _ k f (g .1)) a (with-signal-lt signals _ k b l))
 
-deliver-run : (t u : Table) → Run t u → Sane u → (from k : ℕ) → k < signals → (is : List ℕ) → Safe from is → Run t (deliver-all u from is k)
+pub act-sane : (t : Table) → Sane t → (i k : ℕ) → k < signals → (e : Action) → Good (view t) i k e → Sane (act t i k e)
+act-sane t s i k l e g = run-sane t (act t i k e) s (act-run t t start s i k l e g)
+
+pub deliver-sane : (t : Table) → Sane t → (i k : ℕ) → k < signals → (from : ℕ) → (i ≡ 0 → from ≡ 0) → Sane (deliver t from i k)
+unfolding deliver
+deliver-sane t s i k l from safe = act-sane t s i k l (action-on (view t) from i k) (action-good (view t) i k from (s .facts) safe)
+
+pub deliver-run : (t u : Table) → Run t u → Sane u → (from k : ℕ) → k < signals → (is : List ℕ) → Safe from is → Run t (deliver-all u from is k)
 unfolding deliver deliver-all
 deliver-run t u r s from k l [] h = r
 deliver-run t u r s from k l (i ∷ is) h =
     let x = act-run t u r s i k l (action-on (view u) from i k) (action-good (view u) i k from (s .facts) (h .0)) in
     deliver-run t (deliver u from i k) x (deliver-sane u s i k l from (h .0)) from k l is (h .1)
+
+pub deliver-all-sane : (t : Table) → Sane t → (from k : ℕ) → k < signals → (is : List ℕ) → Safe from is → Sane (deliver-all t from is k)
+deliver-all-sane t s from k l is h = run-sane t (deliver-all t from is k) s (deliver-run t t start s from k l is h)
 
 -- ---- each call
 

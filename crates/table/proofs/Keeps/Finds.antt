@@ -10,8 +10,8 @@ use lib.Dec.{eqb}
 use lib.IntN.{ℤ, pos, negsuc}
 use lib.ListN.{length}
 use Rattle.table.proofs.Keeps.Changed.{changed-at, stored, process-count}
-use Rattle.table.proofs.Keeps.Changes.{start, act-run}
-use Rattle.table.proofs.Keeps.Deliver.{Each, Safe, Good, action-good, deliver-sane, deliver-all-sane}
+use Rattle.table.proofs.Keeps.Changes.{start, act-run, deliver-sane, deliver-all-sane}
+use Rattle.table.proofs.Keeps.Deliver.{Each, Safe, Good, action-good}
 use Rattle.table.proofs.Keeps.End.{end-tree}
 use Rattle.table.proofs.Keeps.Fixed.{Shrinks, shrinks-trans, run-shrinks}
 use Rattle.table.proofs.Keeps.NewPid.{found, free-is}

@@ -11,7 +11,8 @@ use lib.Dec.{eqb}
 use lib.IntN.{ℤ, pos, negsuc}
 use lib.ListN.{length}
 use Rattle.table.proofs.Keeps.Changed.{process-count}
-use Rattle.table.proofs.Keeps.Deliver.{Good, action-good, act-sane}
+use Rattle.table.proofs.Keeps.Changes.{act-sane}
+use Rattle.table.proofs.Keeps.Deliver.{Good, action-good}
 use Rattle.table.proofs.Keeps.Premises.{natural-low}
 use Rattle.table.proofs.Laws.Below.{below-taken, below-level}
 use Rattle.table.proofs.Laws.Facts.{Facts, Sane, lives-taken, sane}

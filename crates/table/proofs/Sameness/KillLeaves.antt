@@ -6,7 +6,8 @@ use mathlib.Core.Path.{_≡_, refl, sym, _∙_, ap, subst}
 use lib.Dec.{eqb}
 use lib.IntN.{ℤ}
 use lib.ListN.{length}
-use Rattle.table.proofs.Keeps.Deliver.{Safe, deliver-sane, Good, action-good, deliver-all-sane}
+use Rattle.table.proofs.Keeps.Changes.{deliver-sane, deliver-all-sane}
+use Rattle.table.proofs.Keeps.Deliver.{Safe, Good, action-good}
 use Rattle.table.proofs.Keeps.End.{end-view}
 use Rattle.table.proofs.Keeps.Premises.{natural-low, targets-safe}
 use Rattle.table.proofs.Laws.Facts.{Facts, facts, Sane, sane, lives-taken}
