@@ -5,8 +5,8 @@ pub mod Signals
 pub mod Steps
 pub mod Facts
 pub mod Below
-pub mod Lowest
 pub mod Lists
 pub mod Reach
 pub mod Slots
 pub mod Follows
+pub mod Find

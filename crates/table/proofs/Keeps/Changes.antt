@@ -17,6 +17,7 @@ use Rattle.table.proofs.Keeps.Premises as K
 use Rattle.table.proofs.Keeps.PutKeeps.{with-all, signalled-sane, set-children-sane, reaped-sane, new-namespace-view, new-namespace-shape, sets}
 use Rattle.table.proofs.Laws.Below.{level-deepest}
 use Rattle.table.proofs.Laws.Facts.{Facts, Holder, Taken, Stands, Lives, Below, Seen, Other, SignalsOk, lives-taken, not-ended, seen-taken, seen-below, facts, held-in, Sane, sane}
+use Rattle.table.proofs.Laws.Find.{named-seen}
 use Rattle.table.proofs.Laws.Signals.{with-signal-lt, without-signal-le, poll-ok, on-ok, off-ok}
 use Rattle.table.proofs.Laws.Steps.{made-or-refused, runs-lives, remainder}
 use Rattle.table.proofs.Laws.Tests.{isnt-so, no-so, choose, both, isnt-not, or-false-left, or-false-right}
@@ -203,7 +204,7 @@ module _ (t : Table) (c : ℕ) (h : SoundTable t) (r : So (runs (view t) c)) whe
       freed-after _ (more (more start (makes-namespace c lives deep room)) (turns c (free-namespace-slot v) true (q .lives) (record { here = q .namespace; below = q .below; alone = λ u. (q .up-own u, q .alone) }))))))
   call-made (Setns n) =
       choose (Gives t) (eqb (named v c n) process-slots or v .ended (named v c n)) (λ a. nothing-done) (λ a.
-      let s : Seen v (v .own c) (named v c n) = K.named-seen v c n (eqb-false _ process-slots (or-false-left _ _ a)) in
+      let s : Seen v (v .own c) (named v c n) = named-seen v c n (eqb-false _ process-slots (or-false-left _ _ a)) in
       let m = f .members (named v c n) (seen-taken v (v .own c) _ s) in
       freed-after _ (more start (turns c (v .own (named v c n)) (process t c .unshared) lives (record { here = m .0 .0; below = seen-below v (v .own c) _ s; alone = λ u. absurd (m .1 u) }))))
   call-made (Kill n s) =

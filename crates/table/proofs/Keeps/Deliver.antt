@@ -4,10 +4,12 @@ use native.Mathlib.Decide.{ℕ-discrete}
 use native.Mathlib.Omega.{arith}
 use mathlib.Core.Bool.{not, So}
 use mathlib.Core.List.{List, _∷_, []}
-use mathlib.Core.Path.{_≡_, sym, _∙_, ap, subst}
+use mathlib.Core.Logic.{inl, inr}
+use mathlib.Core.Path.{_≡_, sym, _∙_, ap, subst, refl}
 use borrow.Author.Tests.{eq-eqb, eqb-false}
 use lib.Dec.{eqb}
 use Rattle.table.proofs.Laws.Facts.{Facts, Lives, Other, SignalsOk}
+use Rattle.table.proofs.Laws.Lists.{In}
 use Rattle.table.proofs.Laws.Signals.{has-with-other}
 use Rattle.table.proofs.Laws.Tests.{no-so, choose, both, isnt-not, or-false-left, or-false-right}
 use Rattle.table.specs.Delivery.{action-on, default-action}
@@ -60,3 +62,7 @@ Each P (i ∷ is) = P i × Each P is
 
 abbrev pub Safe : ℕ → List ℕ → Type 0
 Safe from is = Each (λ i. i ≡ 0 → from ≡ 0) is
+
+pub each-of : (P : ℕ → Type 0) (is : List ℕ) → ((i : ℕ) → In i is → P i) → Each P is
+each-of P [] h = tt
+each-of P (i ∷ is) h = (h i (inl refl), each-of P is (λ j m. h j (inr m)))

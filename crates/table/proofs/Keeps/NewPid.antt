@@ -6,16 +6,16 @@ use mathlib.Core.Bool.{Bool, true, false, So, false≢true}
 use mathlib.Core.Logic.{_⊎_, inl, inr, ⊎-elim}
 use mathlib.Core.Path.{_≡_, refl, sym, _∙_, ap}
 use borrow.Author.Tests.{eqb-true, leb-true}
-use lib.Dec.{eqb, leb}
+use lib.Dec.{leb}
 use Rattle.table.proofs.Laws.Below.{last-step}
 use Rattle.table.proofs.Laws.Facts.{Facts, Stands, Seen, seen-taken, seen-below}
-use Rattle.table.proofs.Laws.Lowest.{Lowest, lowest-is}
+use Rattle.table.proofs.Laws.Find.{Lowest, lowest-is, find-cases}
 use Rattle.table.proofs.Laws.Reach.{pigeon}
 use Rattle.table.proofs.Laws.Tests.{tests, left, right, any-elim, isnt-not}
 use Rattle.table.specs.Limits.{greatest-pid, process-slots, restart-pid}
 use Rattle.table.specs.Pids.{free-pid, next-pid}
-use Rattle.table.specs.Read.{View, find, pid-seen, seen, unborn}
-use Rattle.table.specs.Tests.{_and_, if_then_else_, lowest}
+use Rattle.table.specs.Read.{View, find, pid-seen, unborn}
+use Rattle.table.specs.Tests.{if_then_else_, lowest}
 
 less : (a b : ℕ) → (a < b) ⊎ (b ≤ a)
 less a b = go (decLt a b)
@@ -34,15 +34,9 @@ unfolding free-pid
 is-free v n k h = simp tests (λ (i, l, x). h i (x .0) (x .1))
 
 -- where somebody has it, it is found
-pub found : (v : View) (n k : ℕ) → free-pid v n k ≡ false → (find v n k < process-slots) × Seen v n (find v n k) × (pid-seen v n (find v n k) ≡ k)
-unfolding free-pid find
-found v n k h = ⊎-elim (λ l. let x = r .holds (omega arith) in (l, left _ _ x, eqb-true _ k (right _ _ x))) (λ o. let (i, l, x) = any-elim process-slots _ (isnt-not _ h) in absurd (false≢true (sym (r .none-before i (omega arith) (omega arith)) ∙ x))) (less _ _)
-  where
-    at : ℕ → Bool
-    at i = seen v n i and eqb (pid-seen v n i) k
-
-    r : Lowest at process-slots 0 (lowest at process-slots 0)
-    r = lowest-is at process-slots 0
+found : (v : View) (n k : ℕ) → free-pid v n k ≡ false → (find v n k < process-slots) × Seen v n (find v n k) × (pid-seen v n (find v n k) ≡ k)
+unfolding free-pid
+found v n k h = ⊎-elim (λ x. (x .2, x .0, x .1)) (λ x. let (i, l, y) = any-elim process-slots _ (isnt-not _ h) in absurd (x .1 i l (left _ _ y) (eqb-true _ k (right _ _ y)))) (find-cases v n k)
 
 pub record Fresh (v : View) (n k : ℕ) : Type 0 where
   pub above : 1 ≤ k

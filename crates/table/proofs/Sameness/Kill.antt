@@ -1,12 +1,12 @@
 -- kill, by twin callers: the same targets in the same order, and the same to each.
-use Prim.Native.Nat.{ℕ, zero, suc, _<_, _≤_}
+use Prim.Native.Nat.{ℕ, suc, _<_, _≤_}
 use native.Mathlib.Decide.{ℕ-discrete}
 use native.Mathlib.Omega.{arith}
 use mathlib.Core.Bool.{Bool, true, false, not, So, false≢true}
 use mathlib.Core.List.{List, _∷_, map, []}
-use mathlib.Core.Logic.{_⊎_, inl, inr}
+use mathlib.Core.Logic.{inl, inr}
 use mathlib.Core.Path.{_≡_, refl, sym, _∙_, ap, ap₂, subst, subst₂}
-use borrow.Author.Tests.{eqb-false, eq-eqb, ne-eqb, eqb-true, le-leb, lt-ltb}
+use borrow.Author.Tests.{eq-eqb, ne-eqb, eqb-true, le-leb, lt-ltb}
 use lib.Dec.{eqb}
 use lib.IntN.{ℤ, pos, negsuc}
 use lib.ListN.{length}
@@ -16,6 +16,7 @@ use Rattle.table.proofs.Keeps.Deliver.{Good, action-good}
 use Rattle.table.proofs.Keeps.Premises.{natural-low}
 use Rattle.table.proofs.Laws.Below.{below-taken, below-level}
 use Rattle.table.proofs.Laws.Facts.{Facts, Sane, lives-taken, sane}
+use Rattle.table.proofs.Laws.Find.{targets-seen}
 use Rattle.table.proofs.Laws.Lists.{In, in-map, map-in, ascending-sorted, Sorted, map-sorted, sorted-unique, heads-equal, tails-equal, not-empty}
 use Rattle.table.proofs.Laws.Slots.{pid-unique, alive-taken, living-own-alive, root-only, own-taken}
 use Rattle.table.proofs.Laws.Tests.{left, right, both, or-true}
@@ -25,7 +26,7 @@ use Rattle.table.proofs.Sameness.Freeing.{freed-alike}
 use Rattle.table.proofs.Sameness.Inside.{Ready, Kept, MadeSame}
 use Rattle.table.proofs.Sameness.Light.{relight, Placed, put-light, put-other}
 use Rattle.table.proofs.Sameness.Readers.{seen-above, twin-eqb, is-init-twins, living-twins}
-use Rattle.table.proofs.Sameness.Same.{seen-listed, listed-seen, Found, find-cases}
+use Rattle.table.proofs.Sameness.Same.{seen-listed, listed-seen}
 use Rattle.table.proofs.Sameness.Setns.{Named, named-twins}
 use Rattle.table.proofs.Sameness.Twins.{Pair, Twin, Twins, flip-pair, flip-twins, twin-there, seen-twins, pid-twins, bool-ext, owns, twins-unique}
 use Rattle.table.specs.Answers.{answers, granted}
@@ -33,7 +34,7 @@ use Rattle.table.specs.Calls.{named, others, targets, kill, names-group,
 use Rattle.table.specs.Delivery.{act, action-on, default-action, deliver, deliver-all, resumed, with-pending}
 use Rattle.table.specs.Ends.{end}
 use Rattle.table.specs.Limits.{process-slots, signals}
-use Rattle.table.specs.Read.{View, alive, all-seen, find, pid-seen, seen, view, below, is-ended, is-init, living, pid-at, process, taken}
+use Rattle.table.specs.Read.{View, alive, all-seen, pid-seen, seen, view, below, is-ended, is-init, living, pid-at, process, taken}
 use Rattle.table.specs.Records.{put, with-state}
 use Rattle.table.specs.SignalSets.{has, with-signal}
 use Rattle.table.specs.Step.{make}
@@ -123,35 +124,6 @@ targets-twins t u s r i j w (pos k) = go (named-twins t u s r i j w (pos k))
     go (inr (p, l, m)) = rw (ne-eqb (named (view t) i (pos k)) process-slots (λ e. omega (arith, e)), ne-eqb (named (view u) j (pos k)) process-slots (λ e. omega (arith, e))) (p, tt)
 
 -- all of them are seen
-
-only-in : (p : ℕ → Bool) (x : ℕ) (xs : List ℕ) → In x (only p xs) → In x xs
-unfolding only
-only-in p x [] h = h
-only-in p x (y ∷ ys) h = go (p y) (λ m. only-in p x ys m) h
-  where
-    go : (b : Bool) → (In x (only p ys) → In x ys) → In x (elim b [ true ↦ y ∷ only p ys | false ↦ only p ys ]) → (x ≡ y) ⊎ In x ys
-    go true r (inl e) = inl e
-    go true r (inr m) = inr (r m)
-    go false r m = inr (r m)
-
-named-seen : (v : View) (c k : ℕ) → (named v c (pos k) ≡ process-slots → ⊥) → So (seen v (v .own c) (named v c (pos k)))
-unfolding named
-named-seen v c zero n = absurd (n refl)
-named-seen v c (suc k) n = go (find-cases v (v .own c) (suc k))
-  where
-    go : Found v (v .own c) (suc k) (find v (v .own c) (suc k)) → So (seen v (v .own c) (find v (v .own c) (suc k)))
-    go (inl (a, b, l)) = a
-    go (inr (e, h)) = absurd (n e)
-
-pub targets-seen : (v : View) (c : ℕ) (z : ℤ) (x : ℕ) → In x (targets v c z) → So (seen v (v .own c) x)
-unfolding targets others
-targets-seen v c (negsuc k) x h = listed-seen v (v .own c) x (only-in _ x _ h)
-targets-seen v c (pos k) x h = go (eqb (named v c (pos k)) process-slots) refl h
-  where
-    go : (b : Bool) → eqb (named v c (pos k)) process-slots ≡ b → In x (if b then [] else named v c (pos k) ∷ []) → So (seen v (v .own c) x)
-    go true e m = absurd m
-    go false e (inl q) = subst (λ y. So (seen v (v .own c) y)) (sym q) (named-seen v c k (eqb-false _ _ e))
-    go false e (inr m) = absurd m
 
 pub along-with : (R S : ℕ → ℕ → Type 0) (xs ys : List ℕ) → ((x y : ℕ) → In x xs → R x y → S x y) → Along R xs ys → Along S xs ys
 along-with R S [] [] h k = k
