@@ -3,9 +3,6 @@ pub mod Changed
 pub mod MemberEnds
 pub mod InitEnds
 pub mod End
-pub mod NewPid
-pub mod Birth
-pub mod BirthKeeps
 pub mod NewNamespace
 pub mod Lights
 pub mod Reap
@@ -16,3 +13,4 @@ pub mod Fixed
 pub mod Finds
 pub mod Changes
 pub mod Refusals
+pub mod Birth

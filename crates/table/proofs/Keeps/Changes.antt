@@ -12,7 +12,7 @@ use Rattle.table.proofs.Keeps.Deliver.{Safe, Good, action-good, pend-ok
 use Rattle.table.proofs.Keeps.End.{end-sane}
 use Rattle.table.proofs.Keeps.Freed.{freed-keeps}
 use Rattle.table.proofs.Keeps.Lights.{MayHold}
-use Rattle.table.proofs.Keeps.NewNamespace.{namespace-pre}
+use Rattle.table.proofs.Keeps.NewNamespace.{namespace-facts}
 use Rattle.table.proofs.Keeps.Premises as K
 use Rattle.table.proofs.Keeps.PutKeeps.{with-all, signalled-sane, set-children-sane, reaped-sane, new-namespace-view, new-namespace-shape, sets}
 use Rattle.table.proofs.Laws.Below.{level-deepest}
@@ -64,7 +64,7 @@ namespace-sane t s c l a b =
     let d : view t .level (view t .own c) < deepest = omega (arith, level-deepest (view t) f (view t .own c) (m .0 .0)) in
     record {
       shape-of = new-namespace-shape t (s .shape-of) c low;
-      facts = subst Facts (sym (new-namespace-view t (s .shape-of) c low)) (namespace-pre (view t) f (view t .own c) _ (m .0 .0) d (λ x. not-ended (view t) c l (m .0 .1 x)) (m .1) low free);
+      facts = subst Facts (sym (new-namespace-view t (s .shape-of) c low)) (namespace-facts (view t) f (view t .own c) _ (m .0 .0) d (λ x. not-ended (view t) c l (m .0 .1 x)) (m .1) low free);
     }
 
 pub change-sane : (t u : Table) → Sane t → Change t u → Sane u

@@ -1,4 +1,4 @@
--- Signals keep a table sound up to freeing.
+-- What a signal does to a process may be done to it.
 use Prim.Native.Nat.{ℕ, _<_, _≤_}
 use native.Mathlib.Decide.{ℕ-discrete}
 use native.Mathlib.Omega.{arith}

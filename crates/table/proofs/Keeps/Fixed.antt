@@ -4,8 +4,7 @@ use mathlib.Core.Bool.{So, false≢true, Bool, true, false}
 use mathlib.Core.Logic.{⊎-elim, _⊎_, inl, inr}
 use mathlib.Core.Path.{_≡_, refl, sym, _∙_, subst, ap}
 use borrow.Author.Tests.{eq-eqb, ne-eqb, eqb-true}
-use Rattle.table.proofs.Keeps.Birth.{with-born}
-use Rattle.table.proofs.Keeps.BirthKeeps.{birth-view}
+use Rattle.table.proofs.Keeps.Birth.{with-born, birth-view}
 use Rattle.table.proofs.Keeps.Changes.{Change, ends, signals-of, turns, reaps, makes-namespace, change-sane, Run, start, more, run-sane, MayBear, Made, nothing-done, freed-after, signalled, born, born-in-new, call-made, made-sound}
 use Rattle.table.proofs.Keeps.End.{end-view}
 use Rattle.table.proofs.Keeps.Freed.{freed-view, restrict, kept-root}

@@ -59,9 +59,9 @@ module _ (v : View) (f : Facts v) (c : ℕ) (s : State) (h q m : ℕ) (mark : Bo
   unfolding zero-process
   empty-w i o = rw (ne-eqb i c (λ x. o (subst (Taken v) (sym x) (lives-taken v c c-lives)))) (f .empty-process i o)
 
-  pub lights-pre : Facts w
+  pub lights-facts : Facts w
   unfolding taken living namespace-taken below seen pid-seen zero-namespace
-  lights-pre =
+  lights-facts =
       record {
         ended-is = λ i. ⊎-elim (λ x. rw (eq-eqb i c x) (ap (v .ended) x ∙ isnt-so (not-ended v c c-lives) ∙ sym runs)) (λ y. rw y (f .ended-is i)) (same-or i c);
         in-range = f .in-range;

@@ -6,8 +6,7 @@ use mathlib.Core.Logic.{_⊎_}
 use mathlib.Core.Path.{_≡_, refl, sym, _∙_, ap, subst}
 use borrow.Author.Tests.{leb-true, ltb-true}
 use lib.IntN.{ℤ, pos, negsuc}
-use Rattle.table.proofs.Keeps.Birth.{born-pre, born-held}
-use Rattle.table.proofs.Keeps.BirthKeeps.{birth-view, birth-shape}
+use Rattle.table.proofs.Keeps.Birth.{born-facts, born-held, birth-view, birth-shape}
 use Rattle.table.proofs.Keeps.Deliver.{Safe, each-of}
 use Rattle.table.proofs.Keeps.Lights.{lights-held, holds-still}
 use Rattle.table.proofs.Keeps.NewNamespace.{Ready, ready, with-namespace}
@@ -54,7 +53,7 @@ pub birth-sound : (t : Table) (g : So (shaped t)) (f : Facts (view t)) (c n : �
     → ((m : ℕ) → Stands (view t) m → So (unborn (view t) m) → (m ≡ n → ⊥) → (i : ℕ) × Taken (view t) i × (view t .children i ≡ m)) → ((m : ℕ) → Stands (view t) m → (m ≡ n) ⊎ Holder (view t) m) → SoundTable (birth t c n)
 birth-sound t g f c n l s b d low free u x y =
     let e = birth-view t g f c n s low in
-    sound-from (birth t c n) (birth-shape t g f c n s low) (subst Facts (sym e) (born-pre (view t) f c n _ l s b d low free u)) (subst Held (sym e) (born-held (view t) f c n _ l s b d low free u x y))
+    sound-from (birth t c n) (birth-shape t g f c n s low) (subst Facts (sym e) (born-facts (view t) f c n _ l s b d low free u)) (subst Held (sym e) (born-held (view t) f c n _ l s b d low free u x y))
 
 pub natural-within : (s : ℤ) → So (within 1 signals s) → (1 ≤ natural s) × (natural s < signals)
 natural-within (pos k) h = (leb-true 1 k (left _ _ h), omega (arith, ltb-true k signals (right _ _ h)))

@@ -8,9 +8,9 @@ use borrow.Author.Tests.{lt-ltb, ltb-true}
 use lib.Dec.{eqb}
 use lib.ListN.{List·getD-eq-default}
 use Rattle.table.proofs.Keeps.Changed.{getD-replicate, view-put, shaped-put, shape-at, pick, pick-same, process-count, view-put-namespace, shaped-put-namespace}
-use Rattle.table.proofs.Keeps.Lights.{with-lights, MayHold, holds-still, lights-pre}
+use Rattle.table.proofs.Keeps.Lights.{with-lights, MayHold, holds-still, lights-facts}
 use Rattle.table.proofs.Keeps.NewNamespace.{with-namespace}
-use Rattle.table.proofs.Keeps.Reap.{without, reaped-pre}
+use Rattle.table.proofs.Keeps.Reap.{without, reaped-facts}
 use Rattle.table.proofs.Laws.Facts.{Facts, Lives, SignalsOk, lives-taken, not-ended, Sane}
 use Rattle.table.proofs.Laws.Tests.{isnt-so, left, both, right}
 use Rattle.table.specs.Calls.{new-namespace}
@@ -62,7 +62,7 @@ module _ (t : Table) (sane : Sane t) (c : ℕ) (c-lives : Lives (view t) c) (s :
   lights-sane a b d e hold =
       record {
         shape-of = shaped-put t (sane .shape-of) c y low-c (both _ _ (both _ _ (left _ _ (left _ _ (shape-at t (sane .shape-of) c low-c))) (lt-ltb h (2 ^ signals) d)) (lt-ltb q (2 ^ signals) e));
-        facts = subst Facts (sym lights-view) (lights-pre (view t) (sane .facts) c s h q m mark c-lives runs a b hold);
+        facts = subst Facts (sym lights-view) (lights-facts (view t) (sane .facts) c s h q m mark c-lives runs a b hold);
       }
 
 -- the sets of signals of a living process
@@ -114,7 +114,7 @@ module _ (t : Table) (sane : Sane t) (d : ℕ) (over : So (view t .ended d)) whe
       })
 
   pub reaped-sane : Sane (put t d empty-process)
-  reaped-sane = record { shape-of = shaped-put t (sane .shape-of) d empty-process low-d (both _ _ (both _ _ refl refl) refl); facts = subst Facts (sym reaped-view) (reaped-pre (view t) (sane .facts) d over) }
+  reaped-sane = record { shape-of = shaped-put t (sane .shape-of) d empty-process low-d (both _ _ (both _ _ refl refl) refl); facts = subst Facts (sym reaped-view) (reaped-facts (view t) (sane .facts) d over) }
 
 -- ---- a new namespace
 

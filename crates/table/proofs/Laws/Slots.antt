@@ -1,4 +1,4 @@
--- What a sound table's clauses say of a slot, as facts.
+-- What follows from the facts for a slot: namespaces above one another, living ones and their inits, numbers.
 use Prim.Native.Nat.{ℕ, zero, suc, pred, _-_, _<_, _≤_}
 use native.Mathlib.Decide.{ℕ-discrete}
 use native.Mathlib.Omega.{arith}

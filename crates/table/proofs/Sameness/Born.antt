@@ -7,8 +7,7 @@ use mathlib.Core.Logic.{_⊎_, inl, inr}
 use mathlib.Core.Path.{_≡_, refl, sym, _∙_, ap, ap₂, fun-ext, subst}
 use borrow.Author.Tests.{eq-eqb, eqb-true, ne-eqb, le-leb}
 use lib.Dec.{eqb, leb}
-use Rattle.table.proofs.Keeps.Birth.{with-born}
-use Rattle.table.proofs.Keeps.NewPid.{next-fresh}
+use Rattle.table.proofs.Keeps.Birth.{with-born, next-fresh}
 use Rattle.table.proofs.Laws.Below.{above-is, below-level}
 use Rattle.table.proofs.Laws.Facts.{Facts, seen-taken, seen-below}
 use Rattle.table.proofs.Laws.Slots.{init-own, below-same, below-up-by, up-by-level, up-by-end, init-taken, no-heirs, own-not-unborn}

@@ -157,7 +157,7 @@ action-twins t u s r f g w x y n k = go (living (view t) x) refl
     go : (b : Bool) → living (view t) x ≡ b → action-on (view t) f x n ≡ action-on (view u) g y n
     go false e = action-none (view t) f x n e ∙ sym (action-none (view u) g y n (sym (living-twins (view t) (view u) s r p x y k) ∙ e))
     go true e =
-        rw (living-twins (view t) (view u) s r p x y k, is-init-twins (view t) (view u) s r p x y k (living-own-alive (view t) (w .fits-t .facts) x e), twins-eqb (view t) (view u) s r p _ _ f g (owns (view t) (view u) s r p x y k (living-own-alive (view t) (w .fits-t .facts) x e)) (w .from), shown t u s r p x y k .handleds, action-on)
+        rw (living-twins (view t) (view u) s r p x y k, is-init-twins (view t) (view u) s r p x y k (living-own-alive (view t) (w .sane-t .facts) x e), twins-eqb (view t) (view u) s r p _ _ f g (owns (view t) (view u) s r p x y k (living-own-alive (view t) (w .sane-t .facts) x e)) (w .from), shown t u s r p x y k .handleds, action-on)
         refl
 
 -- ---- a change of lights keeps who is where
@@ -193,11 +193,11 @@ module _ (t u : Table) (s r f g : ℕ) (w : Midway t u s r f g) (x y : ℕ) (k :
   pub light-onward : (p q : Process) → Placed p (process t x) → Placed q (process u y) → Shown t u s r p q → Sane (put t x p) → Sane (put u y q) → Onward t u s r f g (put t x p) (put u y q)
   light-onward p q a b h ft fu = (
     record {
-      fits-t = ft;
-      fits-u = fu;
+      sane-t = ft;
+      sane-u = fu;
       alive-s = w .alive-s;
       alive-r = w .alive-r;
-      same = same-put t u s r x y z k (omega (arith, process-count t (w .fits-t .shape-of), w .fits-t .facts .in-range x (lives-taken (view t) x lx))) (omega (arith, process-count u (w .fits-u .shape-of), w .fits-u .facts .in-range y (lives-taken (view u) y ly))) p q a b h;
+      same = same-put t u s r x y z k (omega (arith, process-count t (w .sane-t .shape-of), w .sane-t .facts .in-range x (lives-taken (view t) x lx))) (omega (arith, process-count u (w .sane-u .shape-of), w .sane-u .facts .in-range y (lives-taken (view u) y ly))) p q a b h;
       from = light-twins (view t) (view u) (view (put t x p)) (view (put u y q)) s r (put-light t x p a) (put-light u y q b) f g (w .from);
     },
     λ i j. elim [
@@ -270,13 +270,13 @@ module _ (t u : Table) (s r f g : ℕ) (w : Midway t u s r f g) (x y n : ℕ) (l
   z = shown t u s r (pair-of t u s r f g w) x y k
 
   good : (e : Action) → action-on (view t) f x n ≡ e → Good (view t) x n e
-  good e q = subst (Good (view t) x n) q (action-good (view t) x n f (w .fits-t .facts) (root-safe (view t) (w .fits-t .facts) f x hx))
+  good e q = subst (Good (view t) x n) q (action-good (view t) x n f (w .sane-t .facts) (root-safe (view t) (w .sane-t .facts) f x hx))
 
-  sane-t : (e : Action) → Good (view t) x n e → Sane (act t x n e)
-  sane-t e a = act-sane t (w .fits-t) x n low e a
+  acted-t : (e : Action) → Good (view t) x n e → Sane (act t x n e)
+  acted-t e a = act-sane t (w .sane-t) x n low e a
 
-  sane-u : (e : Action) → Good (view u) y n e → Sane (act u y n e)
-  sane-u e a = act-sane u (w .fits-u) y n low e a
+  acted-u : (e : Action) → Good (view u) y n e → Sane (act u y n e)
+  acted-u e a = act-sane u (w .sane-u) y n low e a
 
   stop-onward : Sane (act t x n Stop) → Sane (act u y n Stop) → Onward t u s r f g (act t x n Stop) (act u y n Stop)
   unfolding act
@@ -297,7 +297,7 @@ module _ (t u : Table) (s r f g : ℕ) (w : Midway t u s r f g) (x y n : ℕ) (l
   unfolding act
   resume-action =
       light-onward t u s r f g w x y k lx _ _ (resumed-placed (process t x)) (resumed-placed (process u y)) (resumed-shown t u s r (process t x) (process u y) z)
-      (sane-t Resume lx) (sane-u Resume (ly t u s r f g w x y k lx))
+      (acted-t Resume lx) (acted-u Resume (ly t u s r f g w x y k lx))
 
   good-u : Good (view t) x n Pend → Good (view u) y n Pend
   good-u a = (ly t u s r f g w x y k lx, subst (λ h. So (has h n)) (z .handleds) (a .1))
@@ -306,9 +306,9 @@ module _ (t u : Table) (s r f g : ℕ) (w : Midway t u s r f g) (x y n : ℕ) (l
   unfolding act
   action-onward Nothing e = (w, λ a b h. h)
   action-onward Resume e = resume-action
-  action-onward Stop e = stop-onward (sane-t Stop lx) (sane-u Stop (ly t u s r f g w x y k lx))
+  action-onward Stop e = stop-onward (acted-t Stop lx) (acted-u Stop (ly t u s r f g w x y k lx))
   action-onward Finish e = finish-onward e
-  action-onward Pend e = pend-onward (sane-t Pend (good Pend e)) (sane-u Pend (good-u (good Pend e)))
+  action-onward Pend e = pend-onward (acted-t Pend (good Pend e)) (acted-u Pend (good-u (good Pend e)))
 
 module _ (n : ℕ) (low : n < signals) where
   deliver-onward : (t u : Table) (s r f g : ℕ) → Midway t u s r f g → (x y : ℕ) → Target (view t) (view u) s r f x y → Onward t u s r f g (deliver t f x n) (deliver u g y n)
@@ -342,8 +342,8 @@ module _ (t u : Table) (s r i j : ℕ) (w : Ready t u s r i j) where
   held : Midway t u s r (view t .own i) (view u .own j)
   held =
       record {
-        fits-t = sane t (w .sound-t);
-        fits-u = sane u (w .sound-u);
+        sane-t = sane t (w .sound-t);
+        sane-u = sane u (w .sound-u);
         alive-s = w .pair .alive-v;
         alive-r = w .pair .alive-u;
         same = w .pair .same;
@@ -368,4 +368,4 @@ kill-same z n t u s r i j w h g = go (within 0 signals n) refl (names-group z) r
     go true ea false eb false ec =
         let d = kill-after t u s r i j w z (natural n) (natural-low n ea) in
         rw (ea, eb, ec, sym (ap (λ x. eqb x 0) lengths) ∙ ec, kill)
-        (inr (refl, freed-alike t u _ _ (d .fits-t) (d .fits-u) s r (pair-of _ _ s r _ _ d)))
+        (inr (refl, freed-alike t u _ _ (d .sane-t) (d .sane-u) s r (pair-of _ _ s r _ _ d)))

@@ -7,7 +7,7 @@ use mathlib.Core.Path.{_≡_, refl, sym, _∙_, ap, subst, subst₂}
 use borrow.Author.Tests.{eqb-false, ne-eqb}
 use lib.Dec.{eqb}
 use lib.Seq.{getD-set-same, getD-set-other}
-use Rattle.table.proofs.Keeps.BirthKeeps.{birth-view}
+use Rattle.table.proofs.Keeps.Birth.{birth-view}
 use Rattle.table.proofs.Keeps.Changed.{process-count, namespace-count}
 use Rattle.table.proofs.Keeps.Changes.{namespace-sane, unshare-sane}
 use Rattle.table.proofs.Keeps.Premises.{free-slot-is, free-namespace-is}
@@ -139,10 +139,10 @@ module _ (t u : Table) (s r c d : ℕ) (w : Ready t u s r c d) (ot : own-level (
   un = new-namespace u d
 
   gt : Sane tn
-  gt = (namespace-sane t (ft) c (runs-lives t c (w .runs-t)) ot rt)
+  gt = namespace-sane t ft c (runs-lives t c (w .runs-t)) ot rt
 
   gu : Sane un
-  gu = (namespace-sane u (fu) d (runs-lives u d (w .runs-u)) ou ru)
+  gu = namespace-sane u fu d (runs-lives u d (w .runs-u)) ou ru
 
   new-lit : (i j : ℕ) → Twin (view t) (view u) s r i j → Lit (view t) (view u) (view tn) (view un) s r i j
   unfolding row

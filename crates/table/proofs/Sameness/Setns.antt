@@ -1,4 +1,4 @@
--- setns, by twin callers.
+-- setns: by twin callers, and by an outsider.
 use Prim.Native.Nat.{ℕ, zero, suc, _<_}
 use native.Mathlib.Omega.{arith}
 use mathlib.Core.Bool.{Bool, true, false, So}
