@@ -14,7 +14,7 @@ use Rattle.table.proofs.Keeps.Freed.{freed-keeps}
 use Rattle.table.proofs.Keeps.Lights.{MayHold}
 use Rattle.table.proofs.Keeps.NewNamespace.{namespace-facts}
 use Rattle.table.proofs.Keeps.Premises as K
-use Rattle.table.proofs.Keeps.PutKeeps.{with-all, signalled-sane, set-children-sane, reaped-sane, new-namespace-view, new-namespace-shape, sets}
+use Rattle.table.proofs.Keeps.Puts.{with-all, signalled-sane, set-children-sane, reaped-sane, new-namespace-view, new-namespace-shape, sets}
 use Rattle.table.proofs.Laws.Below.{level-deepest}
 use Rattle.table.proofs.Laws.Facts.{Facts, Holder, Taken, Stands, Lives, Below, Seen, Other, SignalsOk, lives-taken, not-ended, seen-taken, seen-below, facts, held-in, Sane, sane}
 use Rattle.table.proofs.Laws.Find.{named-seen}

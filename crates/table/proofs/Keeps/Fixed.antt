@@ -10,7 +10,7 @@ use Rattle.table.proofs.Keeps.End.{end-view}
 use Rattle.table.proofs.Keeps.Freed.{freed-view, restrict, kept-root}
 use Rattle.table.proofs.Keeps.InitEnds.{gone, subtree-gone}
 use Rattle.table.proofs.Keeps.Premises as K
-use Rattle.table.proofs.Keeps.PutKeeps.{reaped-view, new-namespace-view, lights-view}
+use Rattle.table.proofs.Keeps.Puts.{reaped-view, new-namespace-view, lights-view}
 use Rattle.table.proofs.Keeps.Reap.{without}
 use Rattle.table.proofs.Laws.Below.{deep-namespace, not-root, up-level}
 use Rattle.table.proofs.Laws.Facts.{Taken, Lives, Other, lives-taken, not-ended, facts, Sane, sane, Facts, Stands, Below, Seen, seen-taken, seen-below}

@@ -10,7 +10,7 @@ use Rattle.table.proofs.Keeps.Birth.{born-facts, born-held, birth-view,
 use Rattle.table.proofs.Keeps.Deliver.{Safe, each-of}
 use Rattle.table.proofs.Keeps.Lights.{lights-held, holds-still}
 use Rattle.table.proofs.Keeps.NewNamespace.{Ready, ready, with-namespace}
-use Rattle.table.proofs.Keeps.PutKeeps.{signalled-sane, new-namespace-view, lights-view}
+use Rattle.table.proofs.Keeps.Puts.{signalled-sane, new-namespace-view, lights-view}
 use Rattle.table.proofs.Laws.Below.{shallow-below, level-deepest}
 use Rattle.table.proofs.Laws.Facts.{Holder, Facts, Held, Taken, Stands, Lives, Below, Seen, SignalsOk, lives-taken, not-ended, seen-below, facts, held-in, sound-from, sane}
 use Rattle.table.proofs.Laws.Find.{lowest-is, targets-seen}

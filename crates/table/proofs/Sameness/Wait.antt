@@ -10,7 +10,7 @@ use lib.Dec.{eqb, ltb}
 use lib.ListN.{List·getD-eq-default}
 use Rattle.table.proofs.Keeps.Changed.{process-count}
 use Rattle.table.proofs.Keeps.Freed.{freed-view}
-use Rattle.table.proofs.Keeps.PutKeeps.{reaped-sane, reaped-view}
+use Rattle.table.proofs.Keeps.Puts.{reaped-sane, reaped-view}
 use Rattle.table.proofs.Keeps.Reap.{without}
 use Rattle.table.proofs.Laws.Facts.{Facts, seen-taken, facts, sane}
 use Rattle.table.proofs.Laws.Slots.{children-of, init-living, parent-living, child-seen}
