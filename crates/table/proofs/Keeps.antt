@@ -1,20 +1,21 @@
-pub mod Freed
+-- Each call leaves a sound table sound, and what else a call leaves or changes.
+
+-- each change, on what is read of a table and as a table
 pub mod Changed
+pub mod Freed
 pub mod MemberEnds
 pub mod InitEnds
 pub mod End
-pub mod NewPid
 pub mod Birth
-pub mod BirthKeeps
 pub mod NewNamespace
-pub mod SetChildren
+pub mod Lights
 pub mod Reap
-pub mod Signal
-pub mod PutKeeps
+pub mod Puts
+-- each call as a run of changes
 pub mod Deliver
 pub mod Premises
+pub mod Changes
+-- what follows
 pub mod Fixed
 pub mod Finds
-pub mod Changes
-pub mod Falls
 pub mod Refusals

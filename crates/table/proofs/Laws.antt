@@ -1,12 +1,17 @@
+-- Laws of tests, lists and sets; a sound table as a record of facts, and what follows from it.
+
+-- tests, lists, sets of signals, chains
 pub mod Tests
-pub mod Clauses
-pub mod Tree
+pub mod Lists
 pub mod Signals
-pub mod Steps
+pub mod Reach
+-- "below", the sentences of soundness, the facts
+pub mod Tree
+pub mod Clauses
 pub mod Facts
 pub mod Below
-pub mod Lowest
-pub mod Lists
-pub mod Reach
 pub mod Slots
 pub mod Follows
+-- whom a number names; a call by a running caller
+pub mod Find
+pub mod Steps

@@ -4,6 +4,7 @@ pub mod Tables
 pub mod Edges
 pub mod Levels
 pub mod Refused
+-- The theorems: laws, what each call keeps, demand 3, and the promises one by one.
 pub mod Laws
 pub mod Keeps
 pub mod Sameness

@@ -1,8 +1,7 @@
 -- The promises of specs/Claims.antt, each proved.
 use Rattle.table.proofs.Keeps.Changes as Changes
-use Rattle.table.proofs.Keeps.Falls as Falls
-use Rattle.table.proofs.Keeps.Finds as Finds
 use Rattle.table.proofs.Keeps.Fixed as Fixed
+use Rattle.table.proofs.Keeps.Finds as Finds
 use Rattle.table.proofs.Keeps.Refusals as Refusals
 use Rattle.table.proofs.Sameness.Demand3 as Demand3
 use Rattle.table.specs.Claims.{RefusalLeaves, KeepsSound, NamespaceFixed, SignalFinds, SubtreeFalls, OutsideLeaves, Sameness}
@@ -25,7 +24,7 @@ signal-finds = Finds.signal-finds
 
 -- A namespace's first process takes its whole subtree down.
 pub subtree-falls : SubtreeFalls
-subtree-falls = Falls.subtree-falls
+subtree-falls = Fixed.subtree-falls
 
 -- An outside call that makes no touch leaves the sheet as it was.
 pub outside-leaves : OutsideLeaves

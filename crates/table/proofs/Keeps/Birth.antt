@@ -1,27 +1,113 @@
 -- A birth keeps a table sound.
-use Prim.Native.Nat.{ℕ, zero, suc, _<_, _≤_}
+use Prim.Native.Nat.{ℕ, suc, _<_, _≤_, _+_, _-_, zero}
+use native.Mathlib.Decide.{decLt}
 use native.Mathlib.Omega.{arith}
-use mathlib.Core.Bool.{true, false, So, false≢true, Bool}
+use mathlib.Core.Bool.{Bool, true, false, So, false≢true}
 use mathlib.Core.Logic.{_⊎_, inl, inr, ⊎-elim}
 use mathlib.Core.Path.{_≡_, refl, sym, _∙_, ap, subst}
-use borrow.Author.Tests.{eq-eqb, ne-eqb, eqb-true, le-leb, leb-true}
-use lib.Dec.{eqb, leb}
-use Rattle.table.proofs.Keeps.Changed.{pick}
+use borrow.Author.Tests.{eqb-true, leb-true, eq-eqb, ne-eqb, le-leb, lt-leb}
+use lib.Dec.{leb, eqb}
+use lib.ListN.{replicate}
+use Rattle.table.proofs.Keeps.Changed.{pick, getD-replicate, view-changed, shaped-changed, process-shaped, view-put, shaped-put, changed-at, length-changed}
 use Rattle.table.proofs.Keeps.MemberEnds.{reaches}
-use Rattle.table.proofs.Keeps.NewPid.{Fresh, next-fresh, next-first, nobody, free-is}
-use Rattle.table.proofs.Laws.Below.{last-step, below-taken, above-is, above-same, below-level, root-above}
-use Rattle.table.proofs.Laws.Facts.{Holder, root, member, for-children, child, Facts, Held, Taken, Stands, Lives, Below, Seen, Other, lives-taken, is-seen}
-use Rattle.table.proofs.Laws.Reach.{reach-bounded, reach-zero, reach-step, reach-cases}
+use Rattle.table.proofs.Laws.Below.{last-step, below-taken, above-is, above-same, below-level, root-above, level-deepest}
+use Rattle.table.proofs.Laws.Facts.{Facts, Stands, Seen, seen-taken, seen-below, Holder, root, member, for-children, child, Held, Taken, Lives, Below, Other, lives-taken, is-seen}
+use Rattle.table.proofs.Laws.Find.{Lowest, lowest-is, find-cases}
+use Rattle.table.proofs.Laws.Reach.{pigeon, reach-bounded, reach-zero, reach-step, reach-cases}
 use Rattle.table.proofs.Laws.Signals.{no-signals}
-use Rattle.table.proofs.Laws.Tests.{yes-or-no, no-so, isnt-so, zero-or, same-or, life-cases, alive-unborn, dead-unborn, not-iff, left, right, both}
+use Rattle.table.proofs.Laws.Tests.{tests, left, right, any-elim, isnt-not, yes-or-no, no-so, isnt-so, zero-or, same-or, life-cases, alive-unborn, dead-unborn, not-iff, both}
 use Rattle.table.proofs.Laws.Tree.{below-refl}
-use Rattle.table.specs.Limits.{greatest-pid, namespace-slots, process-slots}
-use Rattle.table.specs.Pids.{next-pid}
-use Rattle.table.specs.Read.{View, above-at, alive, below, dead, init, init-of, is-alive, is-dead, living, namespace-taken, pid-seen, seen, taken, unborn, is-ended}
-use Rattle.table.specs.Sound.{reaches-root, zero-namespace, zero-process}
-use Rattle.table.specs.Tests.{_and_, if_then_else_}
+use Rattle.table.specs.Births.{birth, joined, new-pids, newborn}
+use Rattle.table.specs.Limits.{greatest-pid, process-slots, restart-pid, namespace-slots, levels}
+use Rattle.table.specs.Pids.{free-pid, next-pid, free-slot}
+use Rattle.table.specs.Read.{View, find, pid-seen, unborn, above-at, alive, below, dead, init, init-of, is-alive, is-dead, living, namespace-taken, seen, taken, is-ended, is-unborn, namespace, no-pid, pid-at, process, view}
+use Rattle.table.specs.Records.{put, to-pid}
+use Rattle.table.specs.Sound.{reaches-root, zero-namespace, zero-process, shaped}
+use Rattle.table.specs.Tests.{if_then_else_, lowest, _and_}
 use Rattle.table.specs.declared.Life.the-variants.{Alive}
+use Rattle.table.specs.declared.Namespace.{Namespace}
+use Rattle.table.specs.declared.Process.{Process}
 use Rattle.table.specs.declared.State.the-variants.{Running}
+use Rattle.table.specs.declared.Table.{Table}
+
+-- ---- the number that a new process gets is free
+
+less : (a b : ℕ) → (a < b) ⊎ (b ≤ a)
+less a b = go (decLt a b)
+  where
+    go : Dec (a < b) → (a < b) ⊎ (b ≤ a)
+    go (yes l) = inl l
+    go (no l) = inr (omega arith)
+
+-- nobody has the number
+pub free-is : (v : View) → Facts v → (n k : ℕ) → So (free-pid v n k) → (i : ℕ) → Seen v n i → pid-seen v n i ≡ k → ⊥
+unfolding free-pid
+free-is v p n k h i s e = (simp tests at h) (i, p .in-range i (seen-taken v n i s), (s, e))
+
+pub is-free : (v : View) (n k : ℕ) → ((i : ℕ) → Seen v n i → pid-seen v n i ≡ k → ⊥) → So (free-pid v n k)
+unfolding free-pid
+is-free v n k h = simp tests (λ (i, l, x). h i (x .0) (x .1))
+
+-- where somebody has it, it is found
+found : (v : View) (n k : ℕ) → free-pid v n k ≡ false → (find v n k < process-slots) × Seen v n (find v n k) × (pid-seen v n (find v n k) ≡ k)
+unfolding free-pid
+found v n k h = ⊎-elim (λ x. (x .2, x .0, x .1)) (λ x. let (i, l, y) = any-elim process-slots _ (isnt-not _ h) in absurd (x .1 i l (left _ _ y) (eqb-true _ k (right _ _ y)))) (find-cases v n k)
+
+pub record Fresh (v : View) (n k : ℕ) : Type 0 where
+  pub above : 1 ≤ k
+  pub within : k ≤ greatest-pid
+  pub free : So (free-pid v n k)
+
+-- The number that the search gives, in any table: 64 processes cannot hold all that it tries.
+module _ (v : View) (n : ℕ) where
+  abbrev low : ℕ
+  low = lowest (free-pid v n) (greatest-pid - v .last n) (suc (v .last n))
+
+  abbrev again : ℕ
+  again = lowest (free-pid v n) (suc greatest-pid - restart-pid) restart-pid
+
+  -- 65 numbers are not all held by 64 processes
+  crowded : ((j : ℕ) → restart-pid ≤ j → j < suc greatest-pid → free-pid v n j ≡ false) → ⊥
+  crowded h =
+      let (i, j, a, b, e) = pigeon process-slots (λ j. find v n (restart-pid + j)) (λ j l. held j l .0) in
+      omega (arith, held i (omega arith) .2, held j b .2, ap (pid-seen v n) e)
+    where
+      held : (j : ℕ) → j ≤ process-slots → (find v n (restart-pid + j) < process-slots) × Seen v n (find v n (restart-pid + j)) × (pid-seen v n (find v n (restart-pid + j)) ≡ restart-pid + j)
+      held j l = found v n (restart-pid + j) (h (restart-pid + j) (omega arith) (omega arith))
+
+  pub next-fresh : Fresh v n (next-pid v n)
+  unfolding next-pid
+  next-fresh = go (leb low greatest-pid) refl
+    where
+      r : Lowest (free-pid v n) (greatest-pid - v .last n) (suc (v .last n)) low
+      r = lowest-is _ _ _
+
+      q : Lowest (free-pid v n) (suc greatest-pid - restart-pid) restart-pid again
+      q = lowest-is _ _ _
+
+      below-end : again < suc greatest-pid
+      below-end = ⊎-elim (λ l. l) (λ o. absurd (crowded (λ j a b. q .none-before j a (omega arith)))) (less again (suc greatest-pid))
+
+      go : (b : Bool) → leb low greatest-pid ≡ b → Fresh v n (if b then low else again)
+      go true e = let l : low ≤ greatest-pid = leb-true low greatest-pid e in record { above = omega (arith, r .from); within = l; free = r .holds (omega (arith, r .from)) }
+      go false e = record { above = omega (arith, q .from); within = omega (arith, below-end); free = q .holds (omega (arith, below-end)) }
+
+module _ (v : View) (p : Facts v) (n : ℕ) (s : Stands v n) where
+  -- nobody is seen from an unborn one
+  pub nobody : So (unborn v n) → (i : ℕ) → Seen v n i → ⊥
+  nobody u i h =
+      let t = seen-taken v n i h in
+      ⊎-elim (λ e. p .unborn-empty n s u i t e) (λ (m, x, o, e, b). p .unborn-leaf n s u m x o e) (last-step v p (v .own i) n (p .members i t .0 .0) (seen-below v n i h))
+
+  pub next-first : So (unborn v n) → next-pid v n ≡ 1
+  unfolding next-pid
+  next-first u =
+      let z : v .last n ≡ 0 = p .unborn-last n s u in
+      let r : Lowest (free-pid v n) (greatest-pid - v .last n) (suc (v .last n)) (low v n) = lowest-is _ _ _ in
+      let one : low v n ≡ 1 = ⊎-elim (λ l. absurd (false≢true (sym (r .none-before 1 (omega arith) l) ∙ is-free v n 1 (λ i h e. nobody u i h)))) (λ o. omega (arith, r .from)) (less 1 (low v n)) in
+      rw one
+
+-- ---- a birth keeps a table sound
 
 -- the view with a child of c, at slot k, in n
 abbrev pub with-born : View → ℕ → ℕ → ℕ → View
@@ -59,7 +145,7 @@ module _ (v : View) (f : Facts v) (c n k : ℕ) (c-lives : Lives v c) (here : St
   born-pid m b = let l : v .level m ≤ v .level n = below-level v f n m b in let e = le-leb (v .level m) (v .level n) l in rw (self, e) (ap (next-pid v) (above-same v f n m b))
 
   fresh : (m : ℕ) → Below v n m → Fresh v m (next-pid v m)
-  fresh m b = next-fresh v f m (below-taken v f n m here b)
+  fresh m b = next-fresh v m
 
   k-taken : Taken w k
   unfolding taken
@@ -198,9 +284,9 @@ module _ (v : View) (f : Facts v) (c n k : ℕ) (c-lives : Lives v c) (here : St
       rw (e, old-c) (⊎-elim up-own (λ u. absurd (not-first n (below-refl v n) (life-cases (v .life n) (no-so u) not-dead) one)) (yes-or-no (unborn v n))))
       (λ (y, z). rw (y, old-parent i z o) (f .first-parents i z o (sym (pid-w _ i y) ∙ (rw y at x)))) (taken-w i t)
 
-  pub born-pre : Facts w
+  pub born-facts : Facts w
   unfolding namespace-taken below
-  born-pre =
+  born-facts =
       record {
         ended-is = λ i. ap (λ (b : Bool). if eqb i k then false else b) (f .ended-is i) ∙ sym (pick is-ended (eqb i k) Running (v .state i));
         in-range = range-w;
@@ -278,3 +364,71 @@ module _ (v : View) (f : Facts v) (c n k : ℕ) (c-lives : Lives v c) (here : St
       same m (member i t e) = member i (is-taken i t) (rw (old i t) e)
       same m (for-children i t e) = for-children i (is-taken i t) (rw (old i t) e)
       same m (child a s o e) = child a s o e
+
+-- ---- a birth, as a table
+
+module _ (t : Table) (g : So (shaped t)) (f : Facts (view t)) (c n : ℕ) (here : Stands (view t) n) (low : free-slot (view t) < process-slots) where
+  abbrev v : View
+  v = view t
+
+  abbrev k : ℕ
+  k = free-slot v
+
+  abbrev x : Process
+  x = newborn v c n
+
+  abbrev mid : Table
+  mid = put t k x
+
+  no-pids : (l : ℕ) → levels ≤ l → leb l (v .level n) ≡ false
+  no-pids l h = lt-leb l (v .level n) (omega (arith, level-deepest v f n here))
+
+  -- the number at a level
+  pids-are : (l : ℕ) → pid-at x l ≡ (if leb l (v .level n) then next-pid v (above-at v n l) else 0)
+  unfolding newborn new-pids
+  pids-are l =
+      ap (λ p. p .0) (changed-at (λ l p. if leb l (v .level n) then to-pid (next-pid v (above-at v n l)) else p) no-pid levels (replicate levels no-pid) refl (λ l h. rw (no-pids l h)) l)
+      ∙ ap (λ p. (if leb l (v .level n) then to-pid (next-pid v (above-at v n l)) else p) .0) (getD-replicate no-pid levels l)
+      ∙ pick (λ p. p .0) (leb l (v .level n)) (to-pid (next-pid v (above-at v n l))) no-pid
+
+  x-shaped : So (process-shaped x)
+  unfolding newborn new-pids
+  x-shaped = both _ _ (both _ _ (eq-eqb _ _ (length-changed (λ l p. if leb l (v .level n) then to-pid (next-pid v (above-at v n l)) else p) no-pid levels (replicate levels no-pid))) refl) refl
+
+  mid-shaped : So (shaped mid)
+  mid-shaped = shaped-put t g k x low x-shaped
+
+  out : (m : ℕ) → namespace-slots ≤ m → below v n m ≡ false
+  out m l = isnt-so (λ b. omega (arith, f .in-namespace m (below-taken v f n m here b)))
+
+  kept-of : {B : Type 0} (r : Namespace → B) (b : Bool) (y s : Namespace) → r y ≡ r s → r (if b then y else s) ≡ r s
+  kept-of r true y s h = h
+  kept-of r false y s h = refl
+
+  abbrev new : (m : ℕ) → Namespace → Namespace
+  new m s = record { parent = s .parent; level = s .level; last = to-pid (next-pid v m); life = if is-unborn (s .life) then Alive (record { 0 = k }) else s .life }
+
+  pub birth-view : view (birth t c n) ≡ with-born v c n k
+  unfolding birth joined newborn
+  birth-view =
+      view-changed mid (λ i p. p) (joined v k n) mid-shaped (λ i l. refl) (λ m l. rw (out m l))
+      ∙ ap (λ (u : View). record { own = u .own; children = u .children; parent = u .parent; state = u .state; ended = u .ended; handled = u .handled; pending = u .pending; unshared = u .unshared; pid = u .pid; up = λ m. joined v k n m (namespace t m) .parent .0; level = λ m. joined v k n m (namespace t m) .level; last = λ m. joined v k n m (namespace t m) .last .0; life = λ m. joined v k n m (namespace t m) .life }) (view-put t g k x low)
+      ∙ (λ j. record {
+        own = λ i. pick (λ p. p .own .0) (eqb i k) x (process t i) j;
+        children = λ i. pick (λ p. p .children .0) (eqb i k) x (process t i) j;
+        parent = λ i. pick (λ p. p .parent .0) (eqb i k) x (process t i) j;
+        state = λ i. pick (λ p. p .state) (eqb i k) x (process t i) j;
+        ended = λ i. pick (λ p. is-ended (p .state)) (eqb i k) x (process t i) j;
+        handled = λ i. pick (λ p. p .handled) (eqb i k) x (process t i) j;
+        pending = λ i. pick (λ p. p .pending) (eqb i k) x (process t i) j;
+        unshared = λ i. pick (λ p. p .unshared) (eqb i k) x (process t i) j;
+        pid = λ i l. (pick (λ p. pid-at p l) (eqb i k) x (process t i) ∙ ap (λ z. if eqb i k then z else v .pid i l) (pids-are l)) j;
+        up = λ m. kept-of (λ s. s .parent .0) (below v n m) (new m (namespace t m)) (namespace t m) refl j;
+        level = λ m. kept-of (λ s. s .level) (below v n m) (new m (namespace t m)) (namespace t m) refl j;
+        last = λ m. pick (λ s. s .last .0) (below v n m) (new m (namespace t m)) (namespace t m) j;
+        life = λ m. pick (λ s. s .life) (below v n m) (new m (namespace t m)) (namespace t m) j;
+      })
+
+  pub birth-shape : So (shaped (birth t c n))
+  unfolding birth
+  birth-shape = shaped-changed mid (λ i p. p) (joined v k n) mid-shaped (λ i p h. h)

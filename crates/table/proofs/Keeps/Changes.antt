@@ -5,21 +5,22 @@ use mathlib.Core.Bool.{Bool, true, false, not, So}
 use mathlib.Core.List.{List, _∷_, []}
 use mathlib.Core.Logic.{_⊎_, inr}
 use mathlib.Core.Path.{_≡_, refl, sym, _∙_, ap, subst}
-use borrow.Author.Tests.{eqb-false, le-leb, lt-ltb, ltb-true}
+use borrow.Author.Tests.{eqb-false, le-leb, lt-ltb}
 use lib.Dec.{eqb}
 use lib.ListN.{length}
-use Rattle.table.proofs.Keeps.Changed.{shape-at}
-use Rattle.table.proofs.Keeps.Deliver.{Safe, Good, action-good, pend-ok, deliver-sane}
+use Rattle.table.proofs.Keeps.Deliver.{Safe, Good, action-good, pend-ok}
 use Rattle.table.proofs.Keeps.End.{end-sane}
 use Rattle.table.proofs.Keeps.Freed.{freed-keeps}
-use Rattle.table.proofs.Keeps.NewNamespace.{namespace-pre}
+use Rattle.table.proofs.Keeps.Lights.{MayHold}
+use Rattle.table.proofs.Keeps.NewNamespace.{namespace-facts}
 use Rattle.table.proofs.Keeps.Premises as K
-use Rattle.table.proofs.Keeps.PutKeeps.{with-all, signalled-sane, set-children-sane, reaped-sane, new-namespace-view, new-namespace-shape}
+use Rattle.table.proofs.Keeps.Puts.{with-all, signalled-sane, set-children-sane, reaped-sane, new-namespace-view, new-namespace-shape, sets}
 use Rattle.table.proofs.Laws.Below.{level-deepest}
 use Rattle.table.proofs.Laws.Facts.{Facts, Holder, Taken, Stands, Lives, Below, Seen, Other, SignalsOk, lives-taken, not-ended, seen-taken, seen-below, facts, held-in, Sane, sane}
+use Rattle.table.proofs.Laws.Find.{named-seen}
 use Rattle.table.proofs.Laws.Signals.{with-signal-lt, without-signal-le, poll-ok, on-ok, off-ok}
 use Rattle.table.proofs.Laws.Steps.{made-or-refused, runs-lives, remainder}
-use Rattle.table.proofs.Laws.Tests.{isnt-so, no-so, choose, left, right, both, isnt-not, or-false-left, or-false-right}
+use Rattle.table.proofs.Laws.Tests.{isnt-so, no-so, choose, both, isnt-not, or-false-left, or-false-right}
 use Rattle.table.specs.Answers.{answers, granted, refused}
 use Rattle.table.specs.Births.{birth}
 use Rattle.table.specs.Calls.{clone, clone-new, exit, first-ended, getpid, getppid, handle, handle-off, handle-on, kill, named, names-group, natural, new-namespace, own-level, poll, reap, set-children, setns, status, targets, unshare, wait, within}
@@ -50,8 +51,8 @@ use Rattle.table.specs.declared.Table.{Table}
 -- the changes that add no process
 pub data Change (t : Table) : Table → Type 0 where
   ends : (p : ℕ) (e : End) → Lives (view t) p → Other p → So (kept-end (Ended e)) → Change t (end t p e)
-  signals-of : (c : ℕ) → Lives (view t) c → (x : State) → is-ended x ≡ false → So (kept-end x) → (h q : ℕ) → SignalsOk h q → h < 2 ^ signals → q < 2 ^ signals → Change t (put t c (with-all (process t c) x h q))
-  turns : (c m : ℕ) (mark : Bool) → Lives (view t) c → Stands (view t) m → Below (view t) m (view t .own c) → (So (unborn (view t) m) → (view t .own c ≡ view t .up m) × ((i : ℕ) → Taken (view t) i → view t .children i ≡ m → i ≡ c)) → Change t (put t c (with-children (process t c) m mark))
+  signals-of : (c : ℕ) → Lives (view t) c → (x : State) → is-ended x ≡ false → So (kept-end x) → (h q : ℕ) → SignalsOk h q → h < 2 ^ signals → q < 2 ^ signals → Change t (put t c (with-all (process t c) x h q (view t .children c) (view t .unshared c)))
+  turns : (c m : ℕ) (mark : Bool) → Lives (view t) c → MayHold (view t) c m → Change t (put t c (with-children (process t c) m mark))
   reaps : (d : ℕ) → So (view t .ended d) → Change t (put t d empty-process)
   makes-namespace : (c : ℕ) → Lives (view t) c → (view t .level (view t .own c) ≡ deepest → ⊥) → (free-namespace-slot (view t) ≡ namespace-slots → ⊥) → Change t (new-namespace t c)
 
@@ -63,13 +64,13 @@ namespace-sane t s c l a b =
     let d : view t .level (view t .own c) < deepest = omega (arith, level-deepest (view t) f (view t .own c) (m .0 .0)) in
     record {
       shape-of = new-namespace-shape t (s .shape-of) c low;
-      facts = subst Facts (sym (new-namespace-view t (s .shape-of) c low)) (namespace-pre (view t) f (view t .own c) _ (m .0 .0) d (λ x. not-ended (view t) c l (m .0 .1 x)) (m .1) low free);
+      facts = subst Facts (sym (new-namespace-view t (s .shape-of) c low)) (namespace-facts (view t) f (view t .own c) _ (m .0 .0) d (λ x. not-ended (view t) c l (m .0 .1 x)) (m .1) low free);
     }
 
 pub change-sane : (t u : Table) → Sane t → Change t u → Sane u
 change-sane t u s (ends p e l o ok) = end-sane t s p e l o ok
 change-sane t u s (signals-of c l x o k h q ok a b) = signalled-sane t s c l x o h q k ok a b
-change-sane t u s (turns c m mark l a b d) = set-children-sane t s c m mark l a b d
+change-sane t u s (turns c m mark l k) = set-children-sane t s c m mark l k
 change-sane t u s (reaps d o) = reaped-sane t s d o
 change-sane t u s (makes-namespace c l a b) = namespace-sane t s c l a b
 
@@ -115,13 +116,6 @@ made-sound t u h (born-in-new c n x l m) = birth-keeps (new-namespace t c) (chan
 
 -- ---- deliveries are runs
 
--- the sets of signals of a living process
-sets : (t : Table) → Sane t → (i : ℕ) → Lives (view t) i → (view t .handled i < 2 ^ signals) × (view t .pending i < 2 ^ signals) × SignalsOk (view t .handled i) (view t .pending i)
-sets t s i l =
-    let x = lives-taken (view t) i l in
-    let g = shape-at t (s .shape-of) i (s .facts .in-range i x) in
-    (ltb-true _ _ (right _ _ (left _ _ g)), ltb-true _ _ (right _ _ g), s .facts .signal-sets i x)
-
 resumed-run : (t u : Table) → Run t u → Sane u → (i : ℕ) → Lives (view u) i → (b : Bool) → has (view u .handled i) 18 ≡ b → Run t (put u i (resumed (process u i)))
 unfolding resumed with-pending
 resumed-run t u r s i l true e = let (a, b, f) = sets u s i l in rw (e, resumed) (more r (signals-of i l Running refl refl _ _ (pend-ok _ _ 18 f e) a (with-signal-lt signals _ 18 b (omega arith))))
@@ -137,12 +131,22 @@ act-run t u r s i k l Pend g =
     let (a, b, f) = sets u s i (g .0) in
     more r (signals-of i (g .0) (view u .state i) (isnt-so (not-ended (view u) i (g .0))) (s .facts .ends-kept i (lives-taken (view u) i (g .0))) _ _ (pend-ok _ _ k f (g .1)) a (with-signal-lt signals _ k b l))
 
-deliver-run : (t u : Table) → Run t u → Sane u → (from k : ℕ) → k < signals → (is : List ℕ) → Safe from is → Run t (deliver-all u from is k)
+pub act-sane : (t : Table) → Sane t → (i k : ℕ) → k < signals → (e : Action) → Good (view t) i k e → Sane (act t i k e)
+act-sane t s i k l e g = run-sane t (act t i k e) s (act-run t t start s i k l e g)
+
+pub deliver-sane : (t : Table) → Sane t → (i k : ℕ) → k < signals → (from : ℕ) → (i ≡ 0 → from ≡ 0) → Sane (deliver t from i k)
+unfolding deliver
+deliver-sane t s i k l from safe = act-sane t s i k l (action-on (view t) from i k) (action-good (view t) i k from (s .facts) safe)
+
+pub deliver-run : (t u : Table) → Run t u → Sane u → (from k : ℕ) → k < signals → (is : List ℕ) → Safe from is → Run t (deliver-all u from is k)
 unfolding deliver deliver-all
 deliver-run t u r s from k l [] h = r
 deliver-run t u r s from k l (i ∷ is) h =
     let x = act-run t u r s i k l (action-on (view u) from i k) (action-good (view u) i k from (s .facts) (h .0)) in
     deliver-run t (deliver u from i k) x (deliver-sane u s i k l from (h .0)) from k l is (h .1)
+
+pub deliver-all-sane : (t : Table) → Sane t → (from k : ℕ) → k < signals → (is : List ℕ) → Safe from is → Sane (deliver-all t from is k)
+deliver-all-sane t s from k l is h = run-sane t (deliver-all t from is k) s (deliver-run t t start s from k l is h)
 
 -- ---- each call
 
@@ -197,12 +201,12 @@ module _ (t : Table) (c : ℕ) (h : SoundTable t) (r : So (runs (view t) c)) whe
       let deep = eqb-false (own-level v c) deepest b in
       let room = eqb-false (free-namespace-slot v) namespace-slots d in
       let q = K.ready-next t c h r deep room in
-      freed-after _ (more (more start (makes-namespace c lives deep room)) (turns c (free-namespace-slot v) true (q .lives) (q .namespace) (q .below) (λ u. (q .up-own u, q .alone)))))))
+      freed-after _ (more (more start (makes-namespace c lives deep room)) (turns c (free-namespace-slot v) true (q .lives) (record { here = q .namespace; below = q .below; alone = λ u. (q .up-own u, q .alone) }))))))
   call-made (Setns n) =
       choose (Gives t) (eqb (named v c n) process-slots or v .ended (named v c n)) (λ a. nothing-done) (λ a.
-      let s : Seen v (v .own c) (named v c n) = K.named-seen v c n (eqb-false _ process-slots (or-false-left _ _ a)) in
+      let s : Seen v (v .own c) (named v c n) = named-seen v c n (eqb-false _ process-slots (or-false-left _ _ a)) in
       let m = f .members (named v c n) (seen-taken v (v .own c) _ s) in
-      freed-after _ (more start (turns c (v .own (named v c n)) (process t c .unshared) lives (m .0 .0) (seen-below v (v .own c) _ s) (λ u. absurd (m .1 u)))))
+      freed-after _ (more start (turns c (v .own (named v c n)) (process t c .unshared) lives (record { here = m .0 .0; below = seen-below v (v .own c) _ s; alone = λ u. absurd (m .1 u) }))))
   call-made (Kill n s) =
       choose (Gives t) (not (within 0 signals s)) (λ a. nothing-done) (λ a.
       choose (Gives t) (names-group n) (λ b. nothing-done) (λ b.
@@ -225,12 +229,12 @@ module _ (t : Table) (c : ℕ) (h : SoundTable t) (r : So (runs (view t) c)) whe
 pub setns-sane : (t : Table) → SoundTable t → (c i : ℕ) (mark : Bool) → Lives (view t) c → Seen (view t) (view t .own c) i → Sane (put t c (with-children (process t c) (view t .own i) mark))
 setns-sane t h c i mark l s =
     let m = facts t h .members i (seen-taken (view t) (view t .own c) i s) in
-    set-children-sane t (sane t h) c (view t .own i) mark l (m .0 .0) (seen-below (view t) (view t .own c) i s) (λ u. absurd (m .1 u))
+    set-children-sane t (sane t h) c (view t .own i) mark l (record { here = m .0 .0; below = seen-below (view t) (view t .own c) i s; alone = λ u. absurd (m .1 u) })
 
 pub unshare-sane : (t : Table) (h : SoundTable t) (c : ℕ) (r : So (runs (view t) c)) → (own-level (view t) c ≡ deepest → ⊥) → (free-namespace-slot (view t) ≡ namespace-slots → ⊥) → Sane (put (new-namespace t c) c (with-children (process (new-namespace t c) c) (free-namespace-slot (view t)) true))
 unshare-sane t h c r deep room =
     let q = K.ready-next t c h r deep room in
-    set-children-sane (new-namespace t c) (namespace-sane t (sane t h) c (lives t c h r) deep room) c (free-namespace-slot (view t)) true (q .lives) (q .namespace) (q .below) (λ u. (q .up-own u, q .alone))
+    set-children-sane (new-namespace t c) (namespace-sane t (sane t h) c (lives t c h r) deep room) c (free-namespace-slot (view t)) true (q .lives) (record { here = q .namespace; below = q .below; alone = λ u. (q .up-own u, q .alone) })
 
 -- a call by a running caller leaves a sound table sound
 pub make-sound : (t : Table) (c : ℕ) (call : Call) → SoundTable t → So (runs (view t) c) → SoundTable (make t c call .table)

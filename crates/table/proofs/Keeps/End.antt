@@ -6,8 +6,8 @@ use mathlib.Core.Path.{_≡_, refl, _∙_, ap, sym, subst, ap₂}
 use borrow.Author.Tests.{ne-eqb}
 use lib.Dec.{eqb}
 use Rattle.table.proofs.Keeps.Changed.{getD-replicate, view-changed, shaped-changed, process-shaped, pick}
-use Rattle.table.proofs.Keeps.InitEnds.{gone, subtree-gone, subtree-pre}
-use Rattle.table.proofs.Keeps.MemberEnds.{member-gone, member-pre}
+use Rattle.table.proofs.Keeps.InitEnds.{gone, subtree-gone, subtree-facts}
+use Rattle.table.proofs.Keeps.MemberEnds.{member-gone, member-facts}
 use Rattle.table.proofs.Laws.Below.{shallow-below, no-level}
 use Rattle.table.proofs.Laws.Facts.{Facts, Lives, Other, lives-taken, seen-taken, facts, Sane, Taken}
 use Rattle.table.proofs.Laws.Tests.{false-and, isnt-so, choose, left, both}
@@ -211,5 +211,5 @@ end-sane t s p e lives other ok =
     let here = lives-taken (view t) p lives in
     record {
       shape-of = end-shape t s p e here;
-      facts = subst Facts (sym (end-view t s p e here)) (choose Facts (is-init (view t) p) (λ i. subtree-pre (view t) (s .facts) p e lives i other ok) (λ i. member-pre (view t) (s .facts) p e lives i ok));
+      facts = subst Facts (sym (end-view t s p e here)) (choose Facts (is-init (view t) p) (λ i. subtree-facts (view t) (s .facts) p e lives i other ok) (λ i. member-facts (view t) (s .facts) p e lives i ok));
     }

@@ -10,19 +10,18 @@ use lib.Dec.{eqb}
 use lib.IntN.{ℤ, pos, negsuc}
 use lib.ListN.{length}
 use Rattle.table.proofs.Keeps.Changed.{changed-at, stored, process-count}
-use Rattle.table.proofs.Keeps.Changes.{start, act-run}
-use Rattle.table.proofs.Keeps.Deliver.{Each, Safe, Good, action-good, deliver-sane, deliver-all-sane}
+use Rattle.table.proofs.Keeps.Changes.{start, act-run, deliver-sane, deliver-all-sane}
+use Rattle.table.proofs.Keeps.Deliver.{Each, Safe, Good, action-good, each-of}
 use Rattle.table.proofs.Keeps.End.{end-tree}
 use Rattle.table.proofs.Keeps.Fixed.{Shrinks, shrinks-trans, run-shrinks}
-use Rattle.table.proofs.Keeps.NewPid.{found, free-is}
 use Rattle.table.proofs.Keeps.Premises as K
 use Rattle.table.proofs.Laws.Below.{below-trans, below-level}
 use Rattle.table.proofs.Laws.Facts.{Facts, Taken, Stands, Below, Seen, lives-taken, seen-taken, seen-below, is-seen, facts, Sane, sane}
+use Rattle.table.proofs.Laws.Find.{find-cases, finds, targets-seen}
 use Rattle.table.proofs.Laws.Lists.{In, some-of-in, in-some-of, only-in, in-only, in-ascending, ascending-in}
 use Rattle.table.proofs.Laws.Slots.{pid-pos}
 use Rattle.table.proofs.Laws.Steps.{made-or-refused}
 use Rattle.table.proofs.Laws.Tests.{isnt-so, zero-or, choose, left, right, both, isnt-not}
-use Rattle.table.proofs.Sameness.Same.{find-cases}
 use Rattle.table.specs.Answers.{answers, granted, refused}
 use Rattle.table.specs.Calls.{kill, names-group, natural, targets, within, named, others, pid-to}
 use Rattle.table.specs.Claims.{SignalFinds, meant}
@@ -44,12 +43,6 @@ use Rattle.table.specs.declared.Namespace.{Namespace}
 use Rattle.table.specs.declared.Outcome.{Outcome}
 use Rattle.table.specs.declared.Process.{Process}
 use Rattle.table.specs.declared.Table.{Table}
-
--- a number that is seen names its process
-pub finds : (v : View) → Facts v → (n i : ℕ) → Stands v n → Seen v n i → find v n (pid-seen v n i) ≡ i
-finds v f n i s h =
-    let (l, x, e) = found v n (pid-seen v n i) (isnt-so (λ free. free-is v f n _ free i h refl)) in
-    f .differ n s (find v n (pid-seen v n i)) i x h e
 
 -- whom a kill finds is whom it means
 module _ (v : View) (f : Facts v) (c : ℕ) (here : Taken v c) where
@@ -210,7 +203,7 @@ kill-leaves t c h n s i o =
     let l = K.natural-low s (isnt-not _ a) in
     let safe = K.targets-safe (view t) (facts t h) c n in
     freed-leaves _ (deliver-all-sane t (sane t h) (view t .own c) (natural s) l (targets (view t) c n) safe .shape-of) i
-    ∙ deliver-all-leaves t (view t .own c) t (sane t h) (record { shrinks = λ j y. (y, refl); ups = refl; levels = refl }) (λ j o. refl) (view t .own c) (natural s) l (targets (view t) c n) safe (K.targets-seen (view t) c n) i o)))
+    ∙ deliver-all-leaves t (view t .own c) t (sane t h) (record { shrinks = λ j y. (y, refl); ups = refl; levels = refl }) (λ j o. refl) (view t .own c) (natural s) l (targets (view t) c n) safe (each-of _ (targets (view t) c n) (targets-seen (view t) c n)) i o)))
 
 pub spares : (t : Table) (c i : ℕ) (n s : ℤ) → SoundTable t → (Seen (view t) (view t .own c) i → ⊥) → process (step t c (Kill n s) .table) i ≡ process t i
 unfolding make

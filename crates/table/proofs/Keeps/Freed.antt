@@ -138,9 +138,9 @@ module _ (v : View) (p : Facts v) where
   zeroed n o true e = rw e (p .empty-namespace n (λ s. o (stays n e s)))
   zeroed n o false e = rw e (both _ _ (both _ _ (both _ _ refl refl) refl) refl)
 
-  pub freed-pre : Facts w
+  pub freed-facts : Facts w
   unfolding taken living zero-process pid-seen
-  freed-pre =
+  freed-facts =
       record {
         ended-is = p .ended-is;
         in-range = p .in-range;
@@ -247,4 +247,4 @@ pub freed-keeps : (t : Table) → So (shaped t) → Facts (view t) → SoundTabl
 unfolding freed
 freed-keeps t h p =
     sound-from (freed t) (shaped-changed t (λ i p. p) (λ n s. if kept (view t) n then s else empty-namespace) h (λ i q k. k))
-    (subst Facts (sym (freed-view t h)) (freed-pre (view t) p)) (subst Held (sym (freed-view t h)) (freed-held (view t) p))
+    (subst Facts (sym (freed-view t h)) (freed-facts (view t) p)) (subst Held (sym (freed-view t h)) (freed-held (view t) p))

@@ -1,4 +1,4 @@
--- The end of an init: its subtree goes down. It keeps a table sound up to freeing.
+-- The end of an init keeps the facts: its subtree goes down.
 use Prim.Native.Nat.{ℕ, zero, suc}
 use native.Mathlib.Omega.{arith}
 use mathlib.Core.Bool.{Bool, true, false, So, false≢true}
@@ -175,9 +175,9 @@ module _ (v : View) (f : Facts v) (p : ℕ) (e : End) (lives : Lives v p) (its-i
   ended-as false true false i true h = sym h ∙ f .ended-is i
   ended-as false true false i false h = refl
 
-  pub subtree-pre : Facts w
+  pub subtree-facts : Facts w
   unfolding namespace-taken below pid-seen
-  subtree-pre =
+  subtree-facts =
       record {
         ended-is = λ i. ended-as (gone v n i) (seen v n i) (eqb i p) i (v .ended i) refl;
         in-range = λ i t. f .in-range i (stays i t .1);

@@ -1,4 +1,4 @@
--- The end of a process that is no init keeps a table sound up to freeing.
+-- The end of a process that is no init keeps the facts: its children go to the init.
 use Prim.Native.Nat.{ℕ, zero, suc}
 use native.Mathlib.Decide.{ℕ-discrete}
 use native.Mathlib.Omega.{arith}
@@ -164,9 +164,9 @@ module _ (v : View) (f : Facts v) (p : ℕ) (e : End) (lives : Lives v p) (no-in
   unfolding zero-process child-of
   empty i h = rw (ne-eqb i p (λ x. h (subst (Taken v) (sym x) p-taken)), false-and (taken v i) _ h) (f .empty-process i h)
 
-  pub member-pre : Facts w
+  pub member-facts : Facts w
   unfolding taken living namespace-taken below seen pid-seen zero-namespace
-  member-pre =
+  member-facts =
       record {
         ended-is = λ i. ap (λ (b : Bool). if eqb i p then true else b) (f .ended-is i) ∙ sym (pick is-ended (eqb i p) (Ended e) (v .state i));
         in-range = f .in-range;

@@ -1,4 +1,4 @@
--- A new namespace, unborn, keeps a table sound up to its holder.
+-- A new namespace, unborn, keeps the facts, but that somebody holds it.
 use Prim.Native.Nat.{ℕ, zero, suc, _<_, _≤_}
 use native.Mathlib.Omega.{arith}
 use mathlib.Core.Bool.{Bool, true, false, So, false≢true}
@@ -106,9 +106,9 @@ module _ (v : View) (f : Facts v) (a j : ℕ) (a-namespace : Stands v a) (low : 
       ⊎-elim (λ x. rw (eq-eqb m j x, old a a-namespace) ((is-namespace a a-namespace, refl), low))
       (λ (y, z). let ((p, q), r) = f .tree m z o in rw (y, old _ p) ((is-namespace _ p, q), r)) (namespace-w m s)
 
-  pub namespace-pre : Facts w
+  pub namespace-facts : Facts w
   unfolding taken living zero-process
-  namespace-pre =
+  namespace-facts =
       record {
         ended-is = f .ended-is;
         in-range = f .in-range;
@@ -156,10 +156,10 @@ module _ (v : View) (f : Facts v) (a j : ℕ) (a-namespace : Stands v a) (low : 
   unfolding free-slot taken living
   ready c l e q =
       record {
-        facts = namespace-pre;
+        facts = namespace-facts;
         lives = l;
         namespace = j-namespace;
-        below = below-up w namespace-pre j j-namespace other (v .own c) (subst (λ m. Below w m (v .own c)) (sym (up-j ∙ sym e)) (below-refl w (v .own c)));
+        below = below-up w namespace-facts j j-namespace other (v .own c) (subst (λ m. Below w m (v .own c)) (sym (up-j ∙ sym e)) (below-refl w (v .own c)));
         not-dead = λ d. false≢true (rw self at d);
         up-own = λ u. e ∙ sym up-j;
         alone = λ i t x. absurd (none-held j i refl t x);

@@ -1,4 +1,4 @@
--- The removal of an ended process keeps a table sound up to freeing.
+-- The removal of an ended process keeps the facts.
 use Prim.Native.Nat.{ℕ, zero, suc}
 use mathlib.Core.Bool.{false, So, false≢true, Bool}
 use mathlib.Core.Logic.{⊎-elim}
@@ -83,9 +83,9 @@ module _ (v : View) (f : Facts v) (d : ℕ) (over : So (v .ended d)) where
   unfolding below
   above-w i t o = let (y, k) = stays i t in rw (y, parent-stays i k o) (f .parents i k o .0 .1)
 
-  pub reaped-pre : Facts w
+  pub reaped-facts : Facts w
   unfolding namespace-taken below zero-namespace
-  reaped-pre =
+  reaped-facts =
       record {
         ended-is = λ i. ap (λ (b : Bool). if eqb i d then false else b) (f .ended-is i) ∙ sym (pick is-ended (eqb i d) Running (v .state i));
         in-range = λ i t. f .in-range i (stays i t .1);

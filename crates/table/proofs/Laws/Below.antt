@@ -1,4 +1,4 @@
--- "Below" in a table that is sound up to freeing.
+-- "Below" at every point of a call.
 use Prim.Native.Nat.{ℕ, zero, suc, _≤_, _-_}
 use native.Mathlib.Decide.{ℕ-discrete}
 use native.Mathlib.Omega.{arith}

@@ -1,4 +1,4 @@
--- A sound table as statements: `Pre` is what holds before namespaces are freed, `Held` what freeing restores.
+-- A sound table as statements: `Facts` is what holds at every point of a call, `Held` what freeing restores.
 use Prim.Native.Nat.{ℕ, suc, _<_, _≤_}
 use native.Mathlib.Decide.{decLt}
 use native.Mathlib.Omega.{arith}

@@ -1,15 +1,17 @@
 -- Two sentences of soundness follow from the others, for any table of the declared type.
 use Prim.Native.Nat.{ℕ, _<_}
 use native.Mathlib.Omega.{arith}
-use mathlib.Core.Bool.{So}
+use mathlib.Core.Bool.{So, Bool}
 use mathlib.Core.Path.{_≡_, refl, sym, _∙_, ap, subst}
-use Rattle.table.proofs.Laws.Facts.{Stands, Taken, Other, Past, in-range, in-namespace, is-seen}
+use Rattle.table.proofs.Laws.Clauses.{is-sound}
+use Rattle.table.proofs.Laws.Facts.{Stands, Taken, Other, Past, in-range, in-namespace, is-seen, past-of}
 use Rattle.table.proofs.Laws.Tests.{dead-otherwise, tests}
 use Rattle.table.proofs.Laws.Tree.{below-refl}
 use Rattle.table.specs.Limits.{namespace-slots, no-slot}
-use Rattle.table.specs.Read.{View, living, pid-seen, dead, unborn, alive, init, below}
-use Rattle.table.specs.Sound.{root-process, have-parents, inits, below-dead, holds, unborn-namespace, unborn-namespaces, first-pids, dead-members, unborn-members, parents, first-parents, ended-bare}
-use Rattle.table.specs.Tests.{one}
+use Rattle.table.specs.Read.{View, living, pid-seen, dead, unborn, alive, init, below, view}
+use Rattle.table.specs.Sound.{root-process, have-parents, inits, below-dead, holds, unborn-namespace, unborn-namespaces, first-pids, dead-members, unborn-members, parents, first-parents, ended-bare, sound, root-namespace, empty-slots, namespace-tree, last-pids, pid-range, pids-differ, children-namespaces, handled-signals, pending-signals, ends-kept, namespaces-held, shaped}
+use Rattle.table.specs.Tests.{one, _and_}
+use Rattle.table.specs.declared.Table.{Table}
 
 module _ (v : View) (r : Past v) (u : So (unborn-namespaces v)) (d : So (dead-members v)) where
   -- "None belongs to an unborn one": an unborn namespace has no members.
@@ -49,3 +51,39 @@ module _ (v : View) (r : Past v) (u : So (unborn-namespaces v)) (d : So (dead-me
     pub below-dead-follows : So (below-dead v)
     unfolding below-dead
     below-dead-follows = simp tests (λ n l s o z. dead-otherwise (v .life n) (not-unborn n l s z) (not-alive n l s o z))
+
+-- the sentences but these two
+abbrev pub the-others : View → Bool
+the-others v =
+    root-process v and have-parents v and root-namespace v and inits v and empty-slots v and namespace-tree v and unborn-namespaces v and last-pids v and pid-range v and pids-differ v and first-pids v and dead-members v and parents v and first-parents v and children-namespaces v and handled-signals v and pending-signals v and ended-bare v and ends-kept v and namespaces-held v
+
+-- A table of the declared type that meets the others is sound.
+pub others-suffice : (t : Table) → So (shaped t) → So (the-others (view t)) → So (sound t)
+others-suffice t g h =
+    let (((((((((((((((((((x0, x1), x2), x3), x4), x5), x6), x7), x8), x9), x10), x11), x12), x13), x14), x15), x16), x17), x18), x19) = simp tests at h in
+    let r = past-of t g in
+    is-sound (view t)
+    (record {
+      root-process = x0;
+      have-parents = x1;
+      root-namespace = x2;
+      inits = x3;
+      empty-slots = x4;
+      namespace-tree = x5;
+      below-dead = below-dead-follows (view t) r x6 x11 x0 x1 x3 x10 x12 x13 x17;
+      unborn-namespaces = x6;
+      last-pids = x7;
+      pid-range = x8;
+      pids-differ = x9;
+      first-pids = x10;
+      dead-members = x11;
+      unborn-members = unborn-members-follow (view t) r x6 x11;
+      parents = x12;
+      first-parents = x13;
+      children-namespaces = x14;
+      handled-signals = x15;
+      pending-signals = x16;
+      ended-bare = x17;
+      ends-kept = x18;
+      namespaces-held = x19;
+    })

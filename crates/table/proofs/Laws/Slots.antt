@@ -1,4 +1,4 @@
--- What a sound table's clauses say of a slot, as facts.
+-- What follows from the facts for a slot: namespaces above one another, living ones and their inits, numbers.
 use Prim.Native.Nat.{ℕ, zero, suc, pred, _-_, _<_, _≤_}
 use native.Mathlib.Decide.{ℕ-discrete}
 use native.Mathlib.Omega.{arith}
@@ -10,7 +10,6 @@ use lib.Dec.{eqb}
 use Rattle.table.proofs.Laws.Below.{deep-namespace, up-level, not-root, level-deepest, below-trans}
 use Rattle.table.proofs.Laws.Facts.{Facts, lives-or-ended, lives-taken}
 use Rattle.table.proofs.Laws.Tests.{isnt-so, no-so, left, right, cases, isnt, both}
-use Rattle.table.proofs.Laws.Tree as Tree
 use Rattle.table.proofs.Laws.Tree.{below-refl}
 use Rattle.table.specs.Limits.{levels, no-slot}
 use Rattle.table.specs.Read.{View, alive, below, climb, dead, init, is-alive, is-dead, is-unborn, living, namespace-taken, pid-seen, seen, taken, unborn, up-by}

@@ -112,16 +112,6 @@ unfolding _or_
 or-right true b h = refl
 or-right false b h = h
 
-pub agree-true : (a b : Bool) → So (agree a b) → So b → So a
-unfolding agree
-agree-true true b h k = refl
-agree-true false b h k = absurd (false≢true (sym (ap not k) ∙ h))
-
-pub agree-back : (a b : Bool) → So (agree a b) → So a → So b
-unfolding agree
-agree-back true b h k = h
-agree-back false b h k = absurd (false≢true k)
-
 pub and-false : (b : Bool) → false and b ≡ false
 unfolding _and_
 and-false b = refl

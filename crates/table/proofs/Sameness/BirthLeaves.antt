@@ -8,8 +8,7 @@ use mathlib.Core.Path.{_≡_, refl, sym, _∙_, ap, subst}
 use borrow.Author.Tests.{eqb-false, ne-eqb, eq-eqb}
 use lib.Dec.{eqb}
 use lib.Seq.{getD-set-other}
-use Rattle.table.proofs.Keeps.Birth.{with-born}
-use Rattle.table.proofs.Keeps.BirthKeeps.{birth-view}
+use Rattle.table.proofs.Keeps.Birth.{with-born, birth-view}
 use Rattle.table.proofs.Keeps.Changes.{namespace-sane, unshare-sane}
 use Rattle.table.proofs.Keeps.Premises.{free-slot-is}
 use Rattle.table.proofs.Laws.Below.{below-level, below-trans}
@@ -217,7 +216,7 @@ clone-new-leaves t s i h hs k a g = go (eqb (own-level (view t) i) deepest) refl
         li = runs-lives t i k
 
         f₁ : Sane t₁
-        f₁ = (namespace-sane t (sane t h) i li (eqb-false _ _ ea) room)
+        f₁ = namespace-sane t (sane t h) i li (eqb-false _ _ ea) room
 
         tx : So (namespace-taken (view t₁) x)
         tx = x-taken t (sane t h) i room

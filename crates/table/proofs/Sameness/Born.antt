@@ -1,5 +1,5 @@
 -- A birth: the next number, and what is read of the others, on one table and on two that are the same to S.
-use Prim.Native.Nat.{ℕ, suc, _-_, zero, pred, _≤_}
+use Prim.Native.Nat.{ℕ, suc, _-_, pred, _≤_}
 use native.Mathlib.Decide.{ℕ-discrete}
 use native.Mathlib.Omega.{arith}
 use mathlib.Core.Bool.{Bool, not, So, true, false, false≢true}
@@ -7,20 +7,19 @@ use mathlib.Core.Logic.{_⊎_, inl, inr}
 use mathlib.Core.Path.{_≡_, refl, sym, _∙_, ap, ap₂, fun-ext, subst}
 use borrow.Author.Tests.{eq-eqb, eqb-true, ne-eqb, le-leb}
 use lib.Dec.{eqb, leb}
-use Rattle.table.proofs.Keeps.Birth.{with-born}
-use Rattle.table.proofs.Keeps.NewPid.{next-fresh}
-use Rattle.table.proofs.Laws.Below.{above-is, up-level, below-level}
+use Rattle.table.proofs.Keeps.Birth.{with-born, next-fresh}
+use Rattle.table.proofs.Laws.Below.{above-is, below-level}
 use Rattle.table.proofs.Laws.Facts.{Facts, seen-taken, seen-below}
-use Rattle.table.proofs.Laws.Slots.{init-own, below-same, below-up-by, up-by-level, up-by-end, init-taken, alive-not-unborn, no-heirs, own-not-unborn}
-use Rattle.table.proofs.Laws.Tests.{no-so, isnt-so, left, right, both, any-elim, any-intro}
+use Rattle.table.proofs.Laws.Slots.{init-own, below-same, below-up-by, up-by-level, up-by-end, init-taken, no-heirs, own-not-unborn}
+use Rattle.table.proofs.Laws.Tests.{no-so, isnt-so, left, right, both, any-elim, any-intro, isnt}
 use Rattle.table.proofs.Laws.Tree.{below-refl}
-use Rattle.table.proofs.Sameness.Anchor.{anchor, anchor-alive}
 use Rattle.table.proofs.Sameness.Readers.{seen-above}
+use Rattle.table.proofs.Sameness.Stays.{Stays, name-stays}
 use Rattle.table.proofs.Sameness.Twins.{Pair, Twins, flip-pair, flip-twins, bool-ext, twin-there, twin-rows, seen-twins, pid-twins, inits-twin, pid-in-seen, twins-level, twins-up-by}
 use Rattle.table.specs.Limits.{greatest-pid, process-slots, restart-pid, no-slot}
 use Rattle.table.specs.Pids.{free-pid, next-pid}
-use Rattle.table.specs.Read.{View, alive, init, is-init, pid-seen, seen, above-at, below, init-of, is-alive, is-unborn, namespace-taken, pid-in, taken, unborn, up-by}
-use Rattle.table.specs.Sheet.{Row, row, by-init, dead-at, name, name-by, nearest, no-name, unborn-name}
+use Rattle.table.specs.Read.{View, alive, init, is-init, pid-seen, seen, above-at, below, is-unborn, namespace-taken, pid-in, taken, unborn, up-by}
+use Rattle.table.specs.Sheet.{Row, row, by-init, name, name-by, unborn-name}
 use Rattle.table.specs.Tests.{_and_, any, if_then_else_, lowest}
 use Rattle.table.specs.declared.Life.the-variants.{Unborn, Alive, Dead}
 use Rattle.table.specs.declared.Life.{Life}
@@ -96,7 +95,7 @@ module _ (v : View) (f : Facts v) (c n k : ℕ) (new : taken v k ≡ false) (tn 
   -- the child
   child-taken : So (taken v′ k)
   unfolding taken
-  child-taken = rw (eq-eqb k k refl, le-leb 0 (v .level n) (omega arith)) (ap not (ne-eqb (next-pid v (above-at v n 0)) 0 (λ z. omega (arith, z, next-fresh v f (above-at v n 0) (above-is v f n 0 tn (omega arith) .0) .above))))
+  child-taken = rw (eq-eqb k k refl, le-leb 0 (v .level n) (omega arith)) (ap not (ne-eqb (next-pid v (above-at v n 0)) 0 (λ z. omega (arith, z, next-fresh v (above-at v n 0) .above))))
 
   pub child-seen : (m : ℕ) → So (below v n m) → So (seen v′ m k)
   unfolding seen below
@@ -128,30 +127,16 @@ module _ (v : View) (f : Facts v) (c n k : ℕ) (new : taken v k ≡ false) (tn 
   up-born : (m j : ℕ) → v .level m ≡ suc j → unborn v (v .up m) ≡ false
   up-born m j e = isnt-so (λ h. no-heirs v f (v .up m) m j h e refl)
 
-  near-grown : (j m : ℕ) → v .level m ≡ j → unborn v m ≡ false → nearest (v′ .life) (v′ .up) j m ≡ nearest (v .life) (v .up) j m
-  unfolding nearest
-  near-grown zero m e h = refl
-  near-grown (suc j) m e h =
-      ap₂ (λ (b : Bool) (x : ℕ). elim b [ true ↦ m | false ↦ x ]) (ap is-alive (life-born m h))
-      (near-grown j (v .up m) (up-level v f m j e) (up-born m j e))
-
-  pub anchor-grown : (m : ℕ) → unborn v m ≡ false → anchor v′ m ≡ anchor v m
-  anchor-grown m h = near-grown (v .level m) m refl h
-
   -- ---- names
 
-  by-grown : (s m : ℕ) → So (namespace-taken v m) → unborn v m ≡ false → (l : Life) → v .life m ≡ l → name-by v′ s m l ≡ name-by v s m l
-  unfolding name-by
-  by-grown s m ht h Unborn e = refl
-  by-grown s m ht h (Alive i) e = ap by-init (pid-in-grown s (i .0) (λ q. old (init v m) (init-taken v f m (ap is-alive e)) (ap init-of e ∙ q)))
-  by-grown s m ht h Dead e =
-      ap (dead-at (v .level m))
-      (ap (pid-in v′ s) (ap init-of (ap (v′ .life) (anchor-grown m h) ∙ life-born (anchor v m) (alive-not-unborn (v .life (anchor v m)) (anchor-alive v f m ht))))
-      ∙ pid-in-grown s (init v (anchor v m)) (old _ (init-taken v f _ (anchor-alive v f m ht))))
+  abbrev born : ℕ → Bool
+  born m = not (unborn v m)
+
+  stays-born : Stays v v′ born
+  stays-born = record { ups = λ m h. refl; levels = λ m h. refl; lives = λ m h. life-born m (isnt (unborn v m) h); up-kept = λ m j h e. ap not (up-born m j e) }
 
   pub name-born : (s m : ℕ) → So (namespace-taken v m) → unborn v m ≡ false → name v′ s m ≡ name v s m
-  unfolding name
-  name-born s m ht h = ap (λ y. if eqb m no-slot then no-name else y) (ap (name-by v′ s m) (life-born m h) ∙ by-grown s m ht h (v .life m) refl)
+  name-born s m ht h = name-stays v v′ born f stays-born s (λ a k l. pid-in-grown s (init v a) (old _ (init-taken v f a l))) m (ap not h) ht
 
   pub name-other : (s m : ℕ) → So (namespace-taken v m) → So (unborn v m) → (n ≡ m → ⊥) → name v′ s m ≡ unborn-name
   unfolding name name-by

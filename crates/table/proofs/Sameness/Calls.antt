@@ -2,16 +2,16 @@
 use Prim.Native.Nat.{ℕ, _<_}
 use native.Mathlib.Decide.{ℕ-discrete}
 use native.Mathlib.Omega.{arith}
-use mathlib.Core.Bool.{Bool, true, false, not, So, false≢true}
+use mathlib.Core.Bool.{Bool, true, false, not, So}
 use mathlib.Core.Logic.{inr}
 use mathlib.Core.Path.{_≡_, refl, sym, _∙_, ap, ap₂, subst}
-use borrow.Author.Tests.{eqb-true}
 use lib.Dec.{eqb}
 use lib.IntN.{ℤ}
 use lib.ListN.{length}
+use Rattle.table.proofs.Keeps.Changed.{process-count}
 use Rattle.table.proofs.Laws.Facts.{facts, seen-taken}
 use Rattle.table.proofs.Laws.Slots.{living-own-alive, alive-taken}
-use Rattle.table.proofs.Laws.Tests.{left, right, both}
+use Rattle.table.proofs.Laws.Steps.{runs-lives}
 use Rattle.table.proofs.Sameness.Inside.{Kept, Ready, MadeSame, refused-same, stands-same, follow-self}
 use Rattle.table.proofs.Sameness.Light.{Lights, same-light, Placed, put-light, put-same, put-other}
 use Rattle.table.proofs.Sameness.Readers.{parent-pid}
@@ -20,35 +20,20 @@ use Rattle.table.proofs.Sameness.Twins.{Pair, Twin, Twins, twin-rows, t
 use Rattle.table.specs.Answers.{answers, granted, refused}
 use Rattle.table.specs.Calls.{getpid, getppid, handle, handle-off, handle-on, natural, poll, within}
 use Rattle.table.specs.Events.{at, sheet-of}
-use Rattle.table.specs.Limits.{namespace-slots, process-slots, signals, sigkill, sigstop}
-use Rattle.table.specs.Read.{alive, is-ended, is-running, living, namespace-taken, process, view}
+use Rattle.table.specs.Limits.{signals, sigkill, sigstop}
+use Rattle.table.specs.Read.{alive, namespace-taken, process, view}
 use Rattle.table.specs.Records.{put, with-signals}
 use Rattle.table.specs.Sheet.{Row, name, row, sheet}
 use Rattle.table.specs.SignalSets.{lowest-signal, with-signal, without-signal}
-use Rattle.table.specs.Sound.{SoundTable, shaped}
-use Rattle.table.specs.Step.{make, runs}
+use Rattle.table.specs.Sound.{SoundTable}
+use Rattle.table.specs.Step.{make}
 use Rattle.table.specs.Tests.{_or_}
 use Rattle.table.specs.declared.Answer.the-variants.{Number}
 use Rattle.table.specs.declared.Call.the-variants.{Getpid, Getppid, Handle, Poll}
 use Rattle.table.specs.declared.Process.{Process}
 use Rattle.table.specs.declared.Refusal.the-variants.{Einval}
 use Rattle.table.specs.declared.Refusal.{Refusal}
-use Rattle.table.specs.declared.State.the-variants.{Running, Stopped, Ended}
-use Rattle.table.specs.declared.State.{State}
 use Rattle.table.specs.declared.Table.{Table}
-
-pub processes-length : (t : Table) → SoundTable t → length (t .processes) ≡ process-slots
-unfolding shaped
-processes-length t h = eqb-true (length (t .processes)) process-slots (left _ _ (left _ _ (h .shape)))
-
-pub namespaces-length : (t : Table) → SoundTable t → length (t .namespaces) ≡ namespace-slots
-unfolding shaped
-namespaces-length t h = eqb-true (length (t .namespaces)) namespace-slots (right _ _ (left _ _ (h .shape)))
-
-runs-not-ended : (x : State) → So (is-running x) → is-ended x ≡ false
-runs-not-ended Running h = refl
-runs-not-ended Stopped h = absurd (false≢true h)
-runs-not-ended (Ended e) h = absurd (false≢true h)
 
 module _ (t u : Table) (s r i j : ℕ) (w : Ready t u s r i j) where
   pub taken-s : So (namespace-taken (view t) s)
@@ -76,8 +61,7 @@ module _ (t u : Table) (s r i j : ℕ) (w : Ready t u s r i j) where
 
   -- the callers' own namespaces live
   pub own-lives : So (alive (view t) (view t .own i))
-  unfolding runs living
-  own-lives = living-own-alive (view t) (facts t (w .sound-t)) i (both _ _ (left _ _ (w .runs-t)) (ap not (runs-not-ended (view t .state i) (right _ _ (w .runs-t)))))
+  own-lives = living-own-alive (view t) (facts t (w .sound-t)) i (runs-lives t i (w .runs-t))
 
   pub owns-twins : Twins (view t) (view u) s r (view t .own i) (view u .own j)
   owns-twins = owns (view t) (view u) s r (w .pair) i j (w .twin) own-lives
@@ -143,10 +127,10 @@ module _ (t u : Table) (s r c d : ℕ) (w : Pair (view t) (view u) s r) (k : Twi
 
 module _ (t u : Table) (s r i j : ℕ) (w : Ready t u s r i j) where
   pub lt-t : i < length (t .processes)
-  lt-t = omega (arith, processes-length t (w .sound-t), facts t (w .sound-t) .in-range i (seen-taken (view t) s i (w .twin .seen-v)))
+  lt-t = omega (arith, process-count t (w .sound-t .shape), facts t (w .sound-t) .in-range i (seen-taken (view t) s i (w .twin .seen-v)))
 
   pub lt-u : j < length (u .processes)
-  lt-u = omega (arith, processes-length u (w .sound-u), facts u (w .sound-u) .in-range j (seen-taken (view u) r j (w .twin .seen-u)))
+  lt-u = omega (arith, process-count u (w .sound-u .shape), facts u (w .sound-u) .in-range j (seen-taken (view u) r j (w .twin .seen-u)))
 
   -- both change their signals alike
   signal-kept : (a b a′ b′ k l : ℕ) → a ≡ a′ → b ≡ b′ → k ≡ l → SoundTable (put t i (with-signals (process t i) a b)) → SoundTable (put u j (with-signals (process u j) a′ b′)) → Kept t u s r (answers (put t i (with-signals (process t i) a b)) k) (answers (put u j (with-signals (process u j) a′ b′)) l)

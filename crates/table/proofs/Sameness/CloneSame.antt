@@ -5,7 +5,7 @@ use mathlib.Core.Logic.{inl, inr}
 use mathlib.Core.Path.{_≡_, refl, sym, _∙_, ap, subst₂}
 use borrow.Author.Tests.{eqb-true, eqb-false, eq-eqb}
 use lib.Dec.{eqb}
-use Rattle.table.proofs.Keeps.BirthKeeps.{birth-view}
+use Rattle.table.proofs.Keeps.Birth.{birth-view}
 use Rattle.table.proofs.Keeps.Premises.{free-slot-is}
 use Rattle.table.proofs.Laws.Below.{up-level, below-trans}
 use Rattle.table.proofs.Laws.Facts.{Facts, facts, Sane, sane, seen-taken, seen-below}
@@ -125,19 +125,19 @@ module _ (t u : Table) (s r c d : ℕ) (w : Ready t u s r c d) where
       (λ q. eq-eqb _ _ (ap (view u .children) (eqb-true j d (sym e ∙ eq-eqb i c (ft .unborn-one _ hn h i c ti (eqb-true _ _ q) tc refl)))))
       (λ q. eq-eqb _ _ (ap (view t .children) (eqb-true i c (e ∙ eq-eqb j d (fu .unborn-one _ hm h′ j d tj (eqb-true _ _ q) td refl)))))
 
-  fits-t : Sane t
-  fits-t = sane t (w .sound-t)
+  sane-t : Sane t
+  sane-t = sane t (w .sound-t)
 
-  fits-u : Sane u
-  fits-u = sane u (w .sound-u)
+  sane-u : Sane u
+  sane-u = sane u (w .sound-u)
 
   born-kept : dead (view t) (view t .children c) ≡ false → (free-slot (view t) ≡ process-slots → ⊥) → (free-slot (view u) ≡ process-slots → ⊥) → SoundTable (birth t c (view t .children c)) → SoundTable (birth u d (view u .children d)) → Kept t u s r (born t c (birth t c (view t .children c))) (born u d (birth u d (view u .children d)))
   unfolding namespace-taken
   born-kept nd rt ru h g =
       let (lt, et) = free-slot-is (view t) rt in
       let (lu, eu) = free-slot-is (view u) ru in
-      let ev = birth-view t (fits-t .shape-of) (fits-t .facts) c (view t .children c) hn lt in
-      let ew = birth-view u (fits-u .shape-of) (fits-u .facts) d (view u .children d) hm lu in
+      let ev = birth-view t (sane-t .shape-of) (sane-t .facts) c (view t .children c) hn lt in
+      let ew = birth-view u (sane-u .shape-of) (sane-u .facts) d (view u .children d) hm lu in
       inr (
         ap Number (next-twins (view t) (view u) s r (w .pair) _ _ (owns-twins t u s r c d w)),
         stands-same t u (birth t c (view t .children c)) (birth u d (view u .children d)) s r h g

@@ -30,15 +30,15 @@ use Rattle.table.specs.declared.Table.{Table}
 
 -- two tables in the middle of a call by twin callers, whose own namespaces are f and g
 pub record Midway (t u : Table) (s r f g : ℕ) : Type 0 where
-  pub fits-t : Sane t
-  pub fits-u : Sane u
+  pub sane-t : Sane t
+  pub sane-u : Sane u
   pub alive-s : So (alive (view t) s)
   pub alive-r : So (alive (view u) r)
   pub same : Same (view t) (view u) s r
   pub from : Twins (view t) (view u) s r f g
 
 pub pair-of : (t u : Table) (s r f g : ℕ) → Midway t u s r f g → Pair (view t) (view u) s r
-pair-of t u s r f g w = record { facts-v = w .fits-t .facts; facts-u = w .fits-u .facts; alive-v = w .alive-s; alive-u = w .alive-r; same = w .same }
+pair-of t u s r f g w = record { facts-v = w .sane-t .facts; facts-u = w .sane-u .facts; alive-v = w .alive-s; alive-u = w .alive-r; same = w .same }
 
 -- a target on each: twins that the callers see, or nobody that lives
 abbrev pub Target : View → View → ℕ → ℕ → ℕ → ℕ → ℕ → Type 0
@@ -182,7 +182,7 @@ zero-init v f x z = let e = ap (v .own) z ∙ f .root-own in (eq-eqb (init v (v 
 pub end-same : (t u : Table) (s r f g x y : ℕ) (e : End) → Midway t u s r f g → Twin (view t) (view u) s r x y → So (seen (view t) f x) → So (living (view t) x) → So (kept-end (Ended e)) → (So (is-init (view t) x) → view t .own x ≡ f → ⊥) → Onward t u s r f g (end t x e) (end u y e)
 end-same t u s r f g x y e w k sx lx ok other =
     let (alive, (same, (from, targets))) = subst₂ (After (view t) (view u) s r f g) (sym ev) (sym eu) (end-after (view t) (view u) s r f g x y e pr (w .from) k sx lx (ended-end (view t) x e) (ended-end (view u) y e) both-init other) in
-    (record { fits-t = end-sane t (w .fits-t) x e lx x-other ok; fits-u = end-sane u (w .fits-u) y e ly y-other ok; alive-s = alive .0; alive-r = alive .1; same = same; from = from }, targets)
+    (record { sane-t = end-sane t (w .sane-t) x e lx x-other ok; sane-u = end-sane u (w .sane-u) y e ly y-other ok; alive-s = alive .0; alive-r = alive .1; same = same; from = from }, targets)
   where
     pr : Pair (view t) (view u) s r
     pr = pair-of t u s r f g w
@@ -191,13 +191,13 @@ end-same t u s r f g x y e w k sx lx ok other =
     ly = sym (living-twins (view t) (view u) s r pr x y k) ∙ lx
 
     lives : So (alive (view t) (view t .own x))
-    lives = living-own-alive (view t) (w .fits-t .facts) x lx
+    lives = living-own-alive (view t) (w .sane-t .facts) x lx
 
     ev : view (end t x e) ≡ ended-view (view t) x e
-    ev = end-view t (w .fits-t) x e (lives-taken (view t) x lx)
+    ev = end-view t (w .sane-t) x e (lives-taken (view t) x lx)
 
     eu : view (end u y e) ≡ ended-view (view u) y e
-    eu = end-view u (w .fits-u) y e (lives-taken (view u) y ly)
+    eu = end-view u (w .sane-u) y e (lives-taken (view u) y ly)
 
     both-init : is-init (view t) x ≡ is-init (view u) y
     both-init = is-init-twins (view t) (view u) s r pr x y k lives
@@ -206,7 +206,7 @@ end-same t u s r f g x y e w k sx lx ok other =
     low h = deeper (view t) (view u) s r f g x y e pr (w .from) k sx lx (ended-end (view t) x e) (ended-end (view u) y e) both-init (other h)
 
     x-other : x ≡ 0 → ⊥
-    x-other z = let (i, l) = zero-init (view t) (w .fits-t .facts) x z in omega (arith, l, low i)
+    x-other z = let (i, l) = zero-init (view t) (w .sane-t .facts) x z in omega (arith, l, low i)
 
     y-other : y ≡ 0 → ⊥
-    y-other z = let (i, l) = zero-init (view u) (w .fits-u .facts) y z in omega (arith, l, low (both-init ∙ i), twins-level (view t) (view u) s r pr _ _ (owns (view t) (view u) s r pr x y k lives))
+    y-other z = let (i, l) = zero-init (view u) (w .sane-u .facts) y z in omega (arith, l, low (both-init ∙ i), twins-level (view t) (view u) s r pr _ _ (owns (view t) (view u) s r pr x y k lives))

@@ -97,8 +97,8 @@ module _ (t u : Table) (s r c d : ℕ) (w : Ready t u s r c d) (e : End) (ok : S
   held : Midway t u s r s r
   held =
       record {
-        fits-t = sane t (w .sound-t);
-        fits-u = sane u (w .sound-u);
+        sane-t = sane t (w .sound-t);
+        sane-u = sane u (w .sound-u);
         alive-s = w .pair .alive-v;
         alive-r = w .pair .alive-u;
         same = w .pair .same;
@@ -110,12 +110,12 @@ module _ (t u : Table) (s r c d : ℕ) (w : Ready t u s r c d) (e : End) (ok : S
   unfolding answers granted
   lives-on other h g =
       let (x, move) = end-same t u s r s r c d e held (w .twin) (w .twin .seen-v) (runs-lives t c (w .runs-t)) ok other in
-      inr (refl, freed-alike t u _ _ (x .fits-t) (x .fits-u) s r (pair-of (end t c e) (end u d e) s r s r x))
+      inr (refl, freed-alike t u _ _ (x .sane-t) (x .sane-u) s r (pair-of (end t c e) (end u d e) s r s r x))
 
   -- S's init ends
   dies : So (is-init (view t) c) → view t .own c ≡ s → (c ≡ 0 → ⊥) → (d ≡ 0 → ⊥) → SoundTable (freed (end t c e)) → SoundTable (freed (end u d e)) → Kept t u s r (answers (freed (end t c e)) 0) (answers (freed (end u d e)) 0)
   unfolding answers granted
-  dies ic oc nc nd h g = inr (refl, freed-sheets t u (end t c e) (end u d e) ft fu s r (stands t (held .fits-t) c s tc (taken-s t u s r c d w)) (stands u (held .fits-u) d r td (taken-r t u s r c d w)) (λ k. ap (λ (l : ℕ → ℕ). l s) (end-tree t (held .fits-t) c e tc .1)) (λ k. ap (λ (l : ℕ → ℕ). l r) (end-tree u (held .fits-u) d e td .1)) same)
+  dies ic oc nc nd h g = inr (refl, freed-sheets t u (end t c e) (end u d e) ft fu s r (stands t (held .sane-t) c s tc (taken-s t u s r c d w)) (stands u (held .sane-u) d r td (taken-r t u s r c d w)) (λ k. ap (λ (l : ℕ → ℕ). l s) (end-tree t (held .sane-t) c e tc .1)) (λ k. ap (λ (l : ℕ → ℕ). l r) (end-tree u (held .sane-u) d e td .1)) same)
     where
       p : Pair (view t) (view u) s r
       p = w .pair
@@ -127,17 +127,17 @@ module _ (t u : Table) (s r c d : ℕ) (w : Ready t u s r c d) (e : End) (ok : S
       td = seen-taken (view u) r d (w .twin .seen-u)
 
       ft : Sane (end t c e)
-      ft = end-sane t (held .fits-t) c e (runs-lives t c (w .runs-t)) nc ok
+      ft = end-sane t (held .sane-t) c e (runs-lives t c (w .runs-t)) nc ok
 
       fu : Sane (end u d e)
-      fu = end-sane u (held .fits-u) d e (runs-lives u d (w .runs-u)) nd ok
+      fu = end-sane u (held .sane-u) d e (runs-lives u d (w .runs-u)) nd ok
 
       stands : (z : Table) (f : Sane z) (x n : ℕ) → So (taken (view z) x) → So (namespace-taken (view z) n) → So (namespace-taken (view (end z x e)) n)
       stands z f x n tx k = stands-as (view z) (view (end z x e)) n (ap (λ (l : ℕ → ℕ). l n) (end-tree z f x e tx .1)) k
 
       same : Same (view (end t c e)) (view (end u d e)) s r
       same =
-          subst₂ (λ (a b : View). Same a b s r) (sym (end-view t (held .fits-t) c e tc)) (sym (end-view u (held .fits-u) d e td))
+          subst₂ (λ (a b : View). Same a b s r) (sym (end-view t (held .sane-t) c e tc)) (sym (end-view u (held .sane-u) d e td))
           (subst₂ (λ (a b : Bool). Same (if a then subtree-gone (view t) (view t .own c) c e else member-of (view t) c e) (if b then subtree-gone (view u) (view u .own d) d e else member-of (view u) d e) s r) (sym ic) (sym id)
           (init-same (view t) (view u) s r p c d e (w .twin) (own-lives t u s r c d w) positive (unseen-above (view t) (p .facts-v) s (view t .own c) (p .alive-v) oc positive-s ∙ sym (unseen-above (view u) (p .facts-u) r (view u .own d) (p .alive-u) od positive-r))))
         where

@@ -1,20 +1,22 @@
 -- kill, by twin callers: the same targets in the same order, and the same to each.
-use Prim.Native.Nat.{ℕ, zero, suc, _<_, _≤_}
+use Prim.Native.Nat.{ℕ, suc, _<_, _≤_}
 use native.Mathlib.Decide.{ℕ-discrete}
 use native.Mathlib.Omega.{arith}
 use mathlib.Core.Bool.{Bool, true, false, not, So, false≢true}
 use mathlib.Core.List.{List, _∷_, map, []}
-use mathlib.Core.Logic.{_⊎_, inl, inr}
+use mathlib.Core.Logic.{inl, inr}
 use mathlib.Core.Path.{_≡_, refl, sym, _∙_, ap, ap₂, subst, subst₂}
-use borrow.Author.Tests.{eqb-false, eq-eqb, ne-eqb, eqb-true, le-leb, lt-ltb}
+use borrow.Author.Tests.{eq-eqb, ne-eqb, eqb-true, le-leb, lt-ltb}
 use lib.Dec.{eqb}
 use lib.IntN.{ℤ, pos, negsuc}
 use lib.ListN.{length}
 use Rattle.table.proofs.Keeps.Changed.{process-count}
-use Rattle.table.proofs.Keeps.Deliver.{Good, action-good, act-sane}
+use Rattle.table.proofs.Keeps.Changes.{act-sane}
+use Rattle.table.proofs.Keeps.Deliver.{Good, action-good}
 use Rattle.table.proofs.Keeps.Premises.{natural-low}
 use Rattle.table.proofs.Laws.Below.{below-taken, below-level}
 use Rattle.table.proofs.Laws.Facts.{Facts, Sane, lives-taken, sane}
+use Rattle.table.proofs.Laws.Find.{targets-seen}
 use Rattle.table.proofs.Laws.Lists.{In, in-map, map-in, ascending-sorted, Sorted, map-sorted, sorted-unique, heads-equal, tails-equal, not-empty}
 use Rattle.table.proofs.Laws.Slots.{pid-unique, alive-taken, living-own-alive, root-only, own-taken}
 use Rattle.table.proofs.Laws.Tests.{left, right, both, or-true}
@@ -24,7 +26,7 @@ use Rattle.table.proofs.Sameness.Freeing.{freed-alike}
 use Rattle.table.proofs.Sameness.Inside.{Ready, Kept, MadeSame}
 use Rattle.table.proofs.Sameness.Light.{relight, Placed, put-light, put-other}
 use Rattle.table.proofs.Sameness.Readers.{seen-above, twin-eqb, is-init-twins, living-twins}
-use Rattle.table.proofs.Sameness.Same.{seen-listed, listed-seen, Found, find-cases}
+use Rattle.table.proofs.Sameness.Same.{seen-listed, listed-seen}
 use Rattle.table.proofs.Sameness.Setns.{Named, named-twins}
 use Rattle.table.proofs.Sameness.Twins.{Pair, Twin, Twins, flip-pair, flip-twins, twin-there, seen-twins, pid-twins, bool-ext, owns, twins-unique}
 use Rattle.table.specs.Answers.{answers, granted}
@@ -32,7 +34,7 @@ use Rattle.table.specs.Calls.{named, others, targets, kill, names-group,
 use Rattle.table.specs.Delivery.{act, action-on, default-action, deliver, deliver-all, resumed, with-pending}
 use Rattle.table.specs.Ends.{end}
 use Rattle.table.specs.Limits.{process-slots, signals}
-use Rattle.table.specs.Read.{View, alive, all-seen, find, pid-seen, seen, view, below, is-ended, is-init, living, pid-at, process, taken}
+use Rattle.table.specs.Read.{View, alive, all-seen, pid-seen, seen, view, below, is-ended, is-init, living, pid-at, process, taken}
 use Rattle.table.specs.Records.{put, with-state}
 use Rattle.table.specs.SignalSets.{has, with-signal}
 use Rattle.table.specs.Step.{make}
@@ -123,35 +125,6 @@ targets-twins t u s r i j w (pos k) = go (named-twins t u s r i j w (pos k))
 
 -- all of them are seen
 
-only-in : (p : ℕ → Bool) (x : ℕ) (xs : List ℕ) → In x (only p xs) → In x xs
-unfolding only
-only-in p x [] h = h
-only-in p x (y ∷ ys) h = go (p y) (λ m. only-in p x ys m) h
-  where
-    go : (b : Bool) → (In x (only p ys) → In x ys) → In x (elim b [ true ↦ y ∷ only p ys | false ↦ only p ys ]) → (x ≡ y) ⊎ In x ys
-    go true r (inl e) = inl e
-    go true r (inr m) = inr (r m)
-    go false r m = inr (r m)
-
-named-seen : (v : View) (c k : ℕ) → (named v c (pos k) ≡ process-slots → ⊥) → So (seen v (v .own c) (named v c (pos k)))
-unfolding named
-named-seen v c zero n = absurd (n refl)
-named-seen v c (suc k) n = go (find-cases v (v .own c) (suc k))
-  where
-    go : Found v (v .own c) (suc k) (find v (v .own c) (suc k)) → So (seen v (v .own c) (find v (v .own c) (suc k)))
-    go (inl (a, b, l)) = a
-    go (inr (e, h)) = absurd (n e)
-
-pub targets-seen : (v : View) (c : ℕ) (z : ℤ) (x : ℕ) → In x (targets v c z) → So (seen v (v .own c) x)
-unfolding targets others
-targets-seen v c (negsuc k) x h = listed-seen v (v .own c) x (only-in _ x _ h)
-targets-seen v c (pos k) x h = go (eqb (named v c (pos k)) process-slots) refl h
-  where
-    go : (b : Bool) → eqb (named v c (pos k)) process-slots ≡ b → In x (if b then [] else named v c (pos k) ∷ []) → So (seen v (v .own c) x)
-    go true e m = absurd m
-    go false e (inl q) = subst (λ y. So (seen v (v .own c) y)) (sym q) (named-seen v c k (eqb-false _ _ e))
-    go false e (inr m) = absurd m
-
 pub along-with : (R S : ℕ → ℕ → Type 0) (xs ys : List ℕ) → ((x y : ℕ) → In x xs → R x y → S x y) → Along R xs ys → Along S xs ys
 along-with R S [] [] h k = k
 along-with R S [] (y ∷ ys) h k = k
@@ -184,7 +157,7 @@ action-twins t u s r f g w x y n k = go (living (view t) x) refl
     go : (b : Bool) → living (view t) x ≡ b → action-on (view t) f x n ≡ action-on (view u) g y n
     go false e = action-none (view t) f x n e ∙ sym (action-none (view u) g y n (sym (living-twins (view t) (view u) s r p x y k) ∙ e))
     go true e =
-        rw (living-twins (view t) (view u) s r p x y k, is-init-twins (view t) (view u) s r p x y k (living-own-alive (view t) (w .fits-t .facts) x e), twins-eqb (view t) (view u) s r p _ _ f g (owns (view t) (view u) s r p x y k (living-own-alive (view t) (w .fits-t .facts) x e)) (w .from), shown t u s r p x y k .handleds, action-on)
+        rw (living-twins (view t) (view u) s r p x y k, is-init-twins (view t) (view u) s r p x y k (living-own-alive (view t) (w .sane-t .facts) x e), twins-eqb (view t) (view u) s r p _ _ f g (owns (view t) (view u) s r p x y k (living-own-alive (view t) (w .sane-t .facts) x e)) (w .from), shown t u s r p x y k .handleds, action-on)
         refl
 
 -- ---- a change of lights keeps who is where
@@ -220,11 +193,11 @@ module _ (t u : Table) (s r f g : ℕ) (w : Midway t u s r f g) (x y : ℕ) (k :
   pub light-onward : (p q : Process) → Placed p (process t x) → Placed q (process u y) → Shown t u s r p q → Sane (put t x p) → Sane (put u y q) → Onward t u s r f g (put t x p) (put u y q)
   light-onward p q a b h ft fu = (
     record {
-      fits-t = ft;
-      fits-u = fu;
+      sane-t = ft;
+      sane-u = fu;
       alive-s = w .alive-s;
       alive-r = w .alive-r;
-      same = same-put t u s r x y z k (omega (arith, process-count t (w .fits-t .shape-of), w .fits-t .facts .in-range x (lives-taken (view t) x lx))) (omega (arith, process-count u (w .fits-u .shape-of), w .fits-u .facts .in-range y (lives-taken (view u) y ly))) p q a b h;
+      same = same-put t u s r x y z k (omega (arith, process-count t (w .sane-t .shape-of), w .sane-t .facts .in-range x (lives-taken (view t) x lx))) (omega (arith, process-count u (w .sane-u .shape-of), w .sane-u .facts .in-range y (lives-taken (view u) y ly))) p q a b h;
       from = light-twins (view t) (view u) (view (put t x p)) (view (put u y q)) s r (put-light t x p a) (put-light u y q b) f g (w .from);
     },
     λ i j. elim [
@@ -297,13 +270,13 @@ module _ (t u : Table) (s r f g : ℕ) (w : Midway t u s r f g) (x y n : ℕ) (l
   z = shown t u s r (pair-of t u s r f g w) x y k
 
   good : (e : Action) → action-on (view t) f x n ≡ e → Good (view t) x n e
-  good e q = subst (Good (view t) x n) q (action-good (view t) x n f (w .fits-t .facts) (root-safe (view t) (w .fits-t .facts) f x hx))
+  good e q = subst (Good (view t) x n) q (action-good (view t) x n f (w .sane-t .facts) (root-safe (view t) (w .sane-t .facts) f x hx))
 
-  sane-t : (e : Action) → Good (view t) x n e → Sane (act t x n e)
-  sane-t e a = act-sane t (w .fits-t) x n low e a
+  acted-t : (e : Action) → Good (view t) x n e → Sane (act t x n e)
+  acted-t e a = act-sane t (w .sane-t) x n low e a
 
-  sane-u : (e : Action) → Good (view u) y n e → Sane (act u y n e)
-  sane-u e a = act-sane u (w .fits-u) y n low e a
+  acted-u : (e : Action) → Good (view u) y n e → Sane (act u y n e)
+  acted-u e a = act-sane u (w .sane-u) y n low e a
 
   stop-onward : Sane (act t x n Stop) → Sane (act u y n Stop) → Onward t u s r f g (act t x n Stop) (act u y n Stop)
   unfolding act
@@ -324,7 +297,7 @@ module _ (t u : Table) (s r f g : ℕ) (w : Midway t u s r f g) (x y n : ℕ) (l
   unfolding act
   resume-action =
       light-onward t u s r f g w x y k lx _ _ (resumed-placed (process t x)) (resumed-placed (process u y)) (resumed-shown t u s r (process t x) (process u y) z)
-      (sane-t Resume lx) (sane-u Resume (ly t u s r f g w x y k lx))
+      (acted-t Resume lx) (acted-u Resume (ly t u s r f g w x y k lx))
 
   good-u : Good (view t) x n Pend → Good (view u) y n Pend
   good-u a = (ly t u s r f g w x y k lx, subst (λ h. So (has h n)) (z .handleds) (a .1))
@@ -333,9 +306,9 @@ module _ (t u : Table) (s r f g : ℕ) (w : Midway t u s r f g) (x y n : ℕ) (l
   unfolding act
   action-onward Nothing e = (w, λ a b h. h)
   action-onward Resume e = resume-action
-  action-onward Stop e = stop-onward (sane-t Stop lx) (sane-u Stop (ly t u s r f g w x y k lx))
+  action-onward Stop e = stop-onward (acted-t Stop lx) (acted-u Stop (ly t u s r f g w x y k lx))
   action-onward Finish e = finish-onward e
-  action-onward Pend e = pend-onward (sane-t Pend (good Pend e)) (sane-u Pend (good-u (good Pend e)))
+  action-onward Pend e = pend-onward (acted-t Pend (good Pend e)) (acted-u Pend (good-u (good Pend e)))
 
 module _ (n : ℕ) (low : n < signals) where
   deliver-onward : (t u : Table) (s r f g : ℕ) → Midway t u s r f g → (x y : ℕ) → Target (view t) (view u) s r f x y → Onward t u s r f g (deliver t f x n) (deliver u g y n)
@@ -369,8 +342,8 @@ module _ (t u : Table) (s r i j : ℕ) (w : Ready t u s r i j) where
   held : Midway t u s r (view t .own i) (view u .own j)
   held =
       record {
-        fits-t = sane t (w .sound-t);
-        fits-u = sane u (w .sound-u);
+        sane-t = sane t (w .sound-t);
+        sane-u = sane u (w .sound-u);
         alive-s = w .pair .alive-v;
         alive-r = w .pair .alive-u;
         same = w .pair .same;
@@ -395,4 +368,4 @@ kill-same z n t u s r i j w h g = go (within 0 signals n) refl (names-group z) r
     go true ea false eb false ec =
         let d = kill-after t u s r i j w z (natural n) (natural-low n ea) in
         rw (ea, eb, ec, sym (ap (λ x. eqb x 0) lengths) ∙ ec, kill)
-        (inr (refl, freed-alike t u _ _ (d .fits-t) (d .fits-u) s r (pair-of _ _ s r _ _ d)))
+        (inr (refl, freed-alike t u _ _ (d .sane-t) (d .sane-u) s r (pair-of _ _ s r _ _ d)))

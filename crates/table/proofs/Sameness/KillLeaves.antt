@@ -6,7 +6,8 @@ use mathlib.Core.Path.{_≡_, refl, sym, _∙_, ap, subst}
 use lib.Dec.{eqb}
 use lib.IntN.{ℤ}
 use lib.ListN.{length}
-use Rattle.table.proofs.Keeps.Deliver.{Safe, deliver-sane, Good, action-good, deliver-all-sane}
+use Rattle.table.proofs.Keeps.Changes.{deliver-sane, deliver-all-sane}
+use Rattle.table.proofs.Keeps.Deliver.{Safe, Good, action-good}
 use Rattle.table.proofs.Keeps.End.{end-view}
 use Rattle.table.proofs.Keeps.Premises.{natural-low, targets-safe}
 use Rattle.table.proofs.Laws.Facts.{Facts, facts, Sane, sane, lives-taken}
@@ -45,7 +46,7 @@ use Rattle.table.specs.declared.Table.{Table}
 
 -- in the middle of the deliveries: S is as it was, and what lives lived before
 record Going (t₀ t : Table) (s : ℕ) : Type 0 where
-  fits : Sane t
+  sane-now : Sane t
   same : Same (view t) (view t₀) s s
   stands : So (namespace-taken (view t) s)
   seens : (i : ℕ) → seen (view t) s i ≡ seen (view t₀) s i
@@ -56,7 +57,7 @@ record Going (t₀ t : Table) (s : ℕ) : Type 0 where
 start : (t : Table) (s : ℕ) → Sane t → So (namespace-taken (view t) s) → Going t t s
 start t s w h =
     record {
-      fits = w;
+      sane-now = w;
       same = record { levels = refl; there = λ i k. (i, k, refl); back = λ i k. (i, k, refl) };
       stands = h;
       seens = λ i. refl;
@@ -68,11 +69,11 @@ start t s w h =
 onward : (t₀ t t′ : Table) (s : ℕ) → Going t₀ t s → Sane t′ → Still (view t) (view t′) s (near (view t) s) → ((n : ℕ) → So (alive (view t′) n) → So (alive (view t) n)) → ((i : ℕ) → living (view t) i ≡ false → living (view t′) i ≡ false) → Going t₀ t′ s
 onward t₀ t t′ s g w d b z =
     record {
-      fits = w;
-      same = same-trans (view t′) (view t) (view t₀) s s s (same-still (view t) (view t′) s (near (view t) s) (g .fits .facts) d) (g .same);
-      stands = stands-still (view t) (view t′) s (near (view t) s) (g .fits .facts) d (g .stands);
+      sane-now = w;
+      same = same-trans (view t′) (view t) (view t₀) s s s (same-still (view t) (view t′) s (near (view t) s) (g .sane-now .facts) d) (g .same);
+      stands = stands-still (view t) (view t′) s (near (view t) s) (g .sane-now .facts) d (g .stands);
       seens = λ i. d .seens i ∙ g .seens i;
-      aboves = λ n. below-still (view t) (view t′) s (near (view t) s) (g .fits .facts) d s n (near-here (view t) (g .fits .facts) s) ∙ g .aboves n;
+      aboves = λ n. below-still (view t) (view t′) s (near (view t) s) (g .sane-now .facts) d s n (near-here (view t) (g .sane-now .facts) s) ∙ g .aboves n;
       backs = λ n k. g .backs n (b n k);
       ended = λ i k. z i (g .ended i k);
     }
@@ -94,15 +95,15 @@ Above t₀ s u = (m : ℕ) → m < namespace-slots → (m ≡ s → ⊥) → So 
 
 module _ (t₀ t : Table) (s x n : ℕ) (g : Going t₀ t s) (o : seen (view t) s x ≡ false) (l : So (living (view t) x)) where
   f : Facts (view t)
-  f = g .fits .facts
+  f = g .sane-now .facts
 
   light : (p : Process) → Placed p (process t x) → Sane (put t x p) → Going t₀ (put t x p) s
-  light p k w = onward t₀ t (put t x p) s g (w) (put-still t f x p k s o) (λ j h. h) (not-living-put t x p k l)
+  light p k w = onward t₀ t (put t x p) s g w (put-still t f x p k s o) (λ j h. h) (not-living-put t x p k l)
 
   finished : Sane (end t x (Signaled n)) → Above t₀ s (end t x (Signaled n)) → Going t₀ (end t x (Signaled n)) s
   finished w h =
-      onward t₀ t (end t x (Signaled n)) s g (w) (end-still t (g .fits) x (Signaled n) l s o not-above) (end-back t (g .fits) x (Signaled n) tx)
-      (λ i. subst (λ u. living (view t) i ≡ false → living u i ≡ false) (sym (end-view t (g .fits) x (Signaled n) tx)) (ended-end (view t) x (Signaled n) i))
+      onward t₀ t (end t x (Signaled n)) s g w (end-still t (g .sane-now) x (Signaled n) l s o not-above) (end-back t (g .sane-now) x (Signaled n) tx)
+      (λ i. subst (λ u. living (view t) i ≡ false → living u i ≡ false) (sym (end-view t (g .sane-now) x (Signaled n) tx)) (ended-end (view t) x (Signaled n) i))
     where
       tx : So (taken (view t) x)
       tx = lives-taken (view t) x l
@@ -110,7 +111,7 @@ module _ (t₀ t : Table) (s x n : ℕ) (g : Going t₀ t s) (o : seen (view t) 
       not-above : So (is-init (view t) x) → below (view t) s (view t .own x) ≡ false
       not-above i =
           isnt-so
-          (λ b. h (view t .own x) (f .in-namespace _ (own-taken (view t) f x tx)) (not-own t s x tx o) (sym (g .aboves (view t .own x)) ∙ b) (g .backs _ (living-own-alive (view t) f x l)) (end-dies t (g .fits) x (Signaled n) tx i))
+          (λ b. h (view t .own x) (f .in-namespace _ (own-taken (view t) f x tx)) (not-own t s x tx o) (sym (g .aboves (view t .own x)) ∙ b) (g .backs _ (living-own-alive (view t) f x l)) (end-dies t (g .sane-now) x (Signaled n) tx i))
 
   applied : (e : Action) → Sane (act t x n e) → Above t₀ s (act t x n e) → Going t₀ (act t x n e) s
   unfolding act with-pending
@@ -147,7 +148,7 @@ module _ (from n : ℕ) (low : n < signals) where
       go : (b : Bool) → living (view t) x ≡ b → Going t₀ (deliver t from x n) s
       go true l =
           applied t₀ t s x n g (isnt-so (λ k. false≢true (sym o ∙ both _ _ (sym (g .seens x) ∙ k) (lived l (living (view t₀) x) refl)))) l (action-on (view t) from x n)
-          (deliver-sane t (g .fits) x n low from safe) h
+          (deliver-sane t (g .sane-now) x n low from safe) h
       go false l = subst (λ u. Going t₀ u s) (sym (deliver-nothing t from x n l)) g
 
   all-going : (xs : List ℕ) (t₀ t : Table) (s : ℕ) → Safe from xs → Going t₀ t s → some-of (λ i. is-inside t₀ (at s) i and living (view t₀) i) xs ≡ false → Above t₀ s (deliver-all t from xs n) → Going t₀ (deliver-all t from xs n) s
@@ -155,7 +156,7 @@ module _ (from n : ℕ) (low : n < signals) where
   all-going [] t₀ t s safe g o h = g
   all-going (x ∷ xs) t₀ t s safe g o h =
       all-going xs t₀ (deliver t from x n) s (safe .1)
-      (deliver-going t₀ t s x (safe .0) g (some-of-false _ x xs o .0) (λ m l a b c k. h m l a b c (isnt-so (λ y. false≢true (sym k ∙ all-back xs (deliver t from x n) (deliver-sane t (g .fits) x n low from (safe .0)) (safe .1) m y)))))
+      (deliver-going t₀ t s x (safe .0) g (some-of-false _ x xs o .0) (λ m l a b c k. h m l a b c (isnt-so (λ y. false≢true (sym k ∙ all-back xs (deliver t from x n) (deliver-sane t (g .sane-now) x n low from (safe .0)) (safe .1) m y)))))
       (some-of-false _ x xs o .1) h
 
 -- signal 0 does nothing
@@ -185,7 +186,7 @@ kill-leaves z n t s i h hs k a g = go (within 0 signals n) refl (names-group z) 
         let w = start t s (sane t h) hs in
         subst (λ y. sheet-of (freed y) (follow t (freed y) (at s)) ≡ sheet (view t) s) (sym q) (freed-leaves t t s h (sane t h) hs hs (w .same))
     done low o g false e =
-        freed-leaves t t₁ s h (w .fits) hs (w .stands) (w .same)
+        freed-leaves t t₁ s h (w .sane-now) hs (w .stands) (w .same)
       where
         w : Going t t₁ s
         w =

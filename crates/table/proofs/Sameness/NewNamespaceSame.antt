@@ -1,5 +1,5 @@
 -- A fresh namespace below the callers' own: unshare, and clone with a new one.
-use Prim.Native.Nat.{ℕ, suc, _<_}
+use Prim.Native.Nat.{ℕ, suc}
 use native.Mathlib.Omega.{arith}
 use mathlib.Core.Bool.{Bool, true, false, not, So, false≢true}
 use mathlib.Core.Logic.{inr, ⊎-elim}
@@ -7,10 +7,10 @@ use mathlib.Core.Path.{_≡_, refl, sym, _∙_, ap, subst, subst₂}
 use borrow.Author.Tests.{eqb-false, ne-eqb}
 use lib.Dec.{eqb}
 use lib.Seq.{getD-set-same, getD-set-other}
-use Rattle.table.proofs.Keeps.BirthKeeps.{birth-view}
+use Rattle.table.proofs.Keeps.Birth.{birth-view}
 use Rattle.table.proofs.Keeps.Changed.{process-count, namespace-count}
 use Rattle.table.proofs.Keeps.Changes.{namespace-sane, unshare-sane}
-use Rattle.table.proofs.Keeps.Premises.{free-slot-is}
+use Rattle.table.proofs.Keeps.Premises.{free-slot-is, free-namespace-is}
 use Rattle.table.proofs.Laws.Below.{below-trans}
 use Rattle.table.proofs.Laws.Facts.{Facts, facts, Sane, sane, seen-taken}
 use Rattle.table.proofs.Laws.Slots.{own-taken, up-taken, alive-taken, children-of}
@@ -24,7 +24,7 @@ use Rattle.table.proofs.Sameness.CloneSame.{no-room-left, no-room-right
 use Rattle.table.proofs.Sameness.Freeing.{freed-alike}
 use Rattle.table.proofs.Sameness.Inside.{Kept, Ready, MadeSame, stands-same}
 use Rattle.table.proofs.Sameness.Remain.{Remain, Lit, same-remain, standing, pid-in-remain, name-remain, seen-remain, pid-remain, everyone}
-use Rattle.table.proofs.Sameness.Same.{Same, lowest-cases}
+use Rattle.table.proofs.Sameness.Same.{Same}
 use Rattle.table.proofs.Sameness.Twins.{Pair, Twin, Twins, twin-rows, twins-level, owns}
 use Rattle.table.specs.Answers.{answers, granted}
 use Rattle.table.specs.Births.{birth}
@@ -43,10 +43,6 @@ use Rattle.table.specs.declared.Life.the-variants.{Unborn}
 use Rattle.table.specs.declared.Refusal.the-variants.{Einval, Enospc}
 use Rattle.table.specs.declared.Table.{Table}
 
-namespace-slot-free : (v : View) → (free-namespace-slot v ≡ namespace-slots → ⊥) → So (not (namespace-taken v (free-namespace-slot v))) × (free-namespace-slot v < namespace-slots)
-unfolding free-namespace-slot
-namespace-slot-free v h = ⊎-elim (λ x. (x .0, x .1)) (λ x. absurd (h (x .0))) (lowest-cases (λ n. not (namespace-taken v n)) namespace-slots 0)
-
 module _ (t : Table) (f : Sane t) (c : ℕ) (room : free-namespace-slot (view t) ≡ namespace-slots → ⊥) where
   abbrev pub x : ℕ
   x = free-namespace-slot (view t)
@@ -64,10 +60,10 @@ module _ (t : Table) (f : Sane t) (c : ℕ) (room : free-namespace-slot (view t)
 
   pub the-namespace : namespace t₁ x ≡ record { parent = record { 0 = view t .own c }; level = suc (view t .level (view t .own c)); last = to-pid 0; life = Unborn }
   unfolding new-namespace
-  the-namespace = getD-set-same (t .namespaces) x _ no-namespace (omega (arith, namespace-count t (f .shape-of), namespace-slot-free (view t) room .1))
+  the-namespace = getD-set-same (t .namespaces) x _ no-namespace (omega (arith, namespace-count t (f .shape-of), free-namespace-is (view t) room .0))
 
   pub taken-other : (n : ℕ) → So (namespace-taken (view t) n) → n ≡ x → ⊥
-  taken-other n h e = false≢true (sym (isnt _ (namespace-slot-free (view t) room .0)) ∙ ap (namespace-taken (view t)) (sym e) ∙ h)
+  taken-other n h e = free-namespace-is (view t) room .1 (subst (λ m. So (namespace-taken (view t) m)) e h)
 
   abbrev pub K : ℕ → Bool
   K n = not (eqb n x)
@@ -105,7 +101,7 @@ module _ (t : Table) (f : Sane t) (c : ℕ) (room : free-namespace-slot (view t)
   last-there i h = ap (λ (n : ℕ). if is-init (view t) i then n else 0) (ap (λ s. s .last .0) (other-namespace (view t .own i) (taken-other _ (own-taken (view t) (f .facts) i h))))
 
   pub not-held : (i : ℕ) → So (taken (view t) i) → eqb (view t₁ .children i) x ≡ false
-  not-held i h = ne-eqb (view t₁ .children i) x (λ e. ⊎-elim (λ y. taken-other _ y (ap (λ p. p .children .0) (sym (same-process i)) ∙ e)) (λ y. omega (arith, namespace-slot-free (view t) room .1, sym (ap (λ p. p .children .0) (sym (same-process i)) ∙ e) ∙ y)) (children-of (view t) (f .facts) i h))
+  not-held i h = ne-eqb (view t₁ .children i) x (λ e. ⊎-elim (λ y. taken-other _ y (ap (λ p. p .children .0) (sym (same-process i)) ∙ e)) (λ y. omega (arith, free-namespace-is (view t) room .0, sym (ap (λ p. p .children .0) (sym (same-process i)) ∙ e) ∙ y)) (children-of (view t) (f .facts) i h))
 
   pub unborn-there : So (unborn (view t₁) x)
   unborn-there = ap (λ s. is-unborn (s .life)) the-namespace
@@ -116,7 +112,7 @@ module _ (t : Table) (f : Sane t) (c : ℕ) (room : free-namespace-slot (view t)
 
   pub x-name : (s : ℕ) → name (view t₁) s x ≡ unborn-name
   unfolding name name-by
-  x-name s = rw (ne-eqb x no-slot (λ e. omega (arith, namespace-slot-free (view t) room .1)), ap (λ q. q .life) the-namespace) refl
+  x-name s = rw (ne-eqb x no-slot (λ e. omega (arith, free-namespace-is (view t) room .0)), ap (λ q. q .life) the-namespace) refl
 
 -- the processes are the same
 same-free : (t : Table) (c : ℕ) → free-slot (view (new-namespace t c)) ≡ free-slot (view t)
@@ -143,10 +139,10 @@ module _ (t u : Table) (s r c d : ℕ) (w : Ready t u s r c d) (ot : own-level (
   un = new-namespace u d
 
   gt : Sane tn
-  gt = (namespace-sane t (ft) c (runs-lives t c (w .runs-t)) ot rt)
+  gt = namespace-sane t ft c (runs-lives t c (w .runs-t)) ot rt
 
   gu : Sane un
-  gu = (namespace-sane u (fu) d (runs-lives u d (w .runs-u)) ou ru)
+  gu = namespace-sane u fu d (runs-lives u d (w .runs-u)) ou ru
 
   new-lit : (i j : ℕ) → Twin (view t) (view u) s r i j → Lit (view t) (view u) (view tn) (view un) s r i j
   unfolding row

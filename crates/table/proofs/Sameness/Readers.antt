@@ -8,10 +8,10 @@ use borrow.Author.Tests.{eq-eqb, ne-eqb, eqb-true}
 use lib.Dec.{eqb}
 use Rattle.table.proofs.Laws.Below.{below-level, below-trans}
 use Rattle.table.proofs.Laws.Facts.{Facts, seen-taken, seen-below, lives-taken}
+use Rattle.table.proofs.Laws.Find.{Found, find-cases}
 use Rattle.table.proofs.Laws.Slots.{pid-pos, alive-taken, pid-unique, below-same, below-parent, init-seen, alive-not-unborn}
 use Rattle.table.proofs.Laws.Tests.{left, right, both}
 use Rattle.table.proofs.Sameness.Anchor.{anchor, anchor-self, anchor-alive, anchor-below, anchor-least, is-by-init, is-unborn-name, name-pid, name-taken, name-alive, name-anchor}
-use Rattle.table.proofs.Sameness.Same.{Found, find-cases}
 use Rattle.table.proofs.Sameness.Twins.{Pair, Twin, Twins, flip-pair, flip-twin, bool-ext, pid-in-seen, twin-rows, twin-there, twin-unique, seen-twins, pid-twins, inits-twin, owns, below-twins, twins-up, twins-level}
 use Rattle.table.specs.Limits.{process-slots}
 use Rattle.table.specs.Read.{View, alive, below, child-of, find, is-init, pid-in, pid-seen, seen, is-ended, living, init, is-alive, is-unborn, namespace-taken, unborn}

@@ -1,23 +1,20 @@
 -- Two tables are the same to a namespace: its level, and each row of one is a row of the other.
-use Prim.Native.Nat.{ℕ, zero, suc, _+_, _-_, _<_, _≤_}
-use native.Mathlib.Decide.{ℕ-discrete}
+use Prim.Native.Nat.{ℕ, zero, suc, _+_, _-_, _<_}
 use native.Mathlib.Omega.{arith}
-use mathlib.Core.Bool.{So, Bool, true, false, false≢true}
+use mathlib.Core.Bool.{So}
 use mathlib.Core.List.{map, []}
 use mathlib.Core.Logic.{_⊎_, inl, inr}
-use mathlib.Core.Path.{_≡_, sym, _∙_, ap, subst, refl}
-use borrow.Author.Tests.{eq-eqb, eqb-true}
-use lib.Dec.{eqb}
+use mathlib.Core.Path.{_≡_, sym, _∙_, ap, subst}
 use lib.ListN.{getD}
 use Rattle.table.proofs.Laws.Below.{level-deepest}
 use Rattle.table.proofs.Laws.Facts.{Facts, seen-taken}
+use Rattle.table.proofs.Laws.Find.{Found, find-cases}
 use Rattle.table.proofs.Laws.Lists.{In, in-map, map-in, in-ascending, ascending-in, ascending-sorted, Sorted, map-sorted, sorted-unique}
 use Rattle.table.proofs.Laws.Slots.{pid-unique}
-use Rattle.table.proofs.Laws.Tests.{left, right, both}
 use Rattle.table.specs.Limits.{levels, process-slots}
 use Rattle.table.specs.Read.{View, all-seen, namespace-taken, pid-seen, seen, pid-in, is-init, find}
 use Rattle.table.specs.Sheet.{Row, row, sheet, name}
-use Rattle.table.specs.Tests.{values, if_then_else_, _and_, lowest}
+use Rattle.table.specs.Tests.{values, if_then_else_}
 
 -- ---- two tables are the same to a namespace: its level, and each row of one is a row of the other
 
@@ -105,48 +102,6 @@ same-trans v u x s r q a b =
     }
 
 -- ---- finding the process that a number names
-
-abbrev Lowest : (ℕ → Bool) → ℕ → ℕ → ℕ → Type 0
-Lowest f n k x = (So (f x) × (x < k + n)) ⊎ ((x ≡ k + n) × ((i : ℕ) → k ≤ i → i < k + n → f i ≡ false))
-
-pub lowest-cases : (f : ℕ → Bool) (n k : ℕ) → Lowest f n k (lowest f n k)
-unfolding lowest
-lowest-cases f zero k = inr (omega arith, λ i l m. absurd (omega arith))
-lowest-cases f (suc n) k = go (f k) refl (lowest-cases f n (suc k))
-  where
-    go : (b : Bool) → f k ≡ b → Lowest f n (suc k) (lowest f n (suc k)) → Lowest f (suc n) k (elim b [ true ↦ k | false ↦ lowest f n (suc k) ])
-    go true e r = inl (e, omega arith)
-    go false e (inl (h, l)) = inl (h, omega arith)
-    go false e (inr (q, h)) = inr (omega arith, λ i l m. at i l m (ℕ-discrete i k))
-      where
-        at : (i : ℕ) → k ≤ i → i < k + suc n → Dec (i ≡ k) → f i ≡ false
-        at i l m (yes z) = ap f z ∙ e
-        at i l m (no z) = h i (omega arith) (omega arith)
-
--- somebody has the number, or nobody
-abbrev pub Found : View → ℕ → ℕ → ℕ → Type 0
-Found v n k x =
-    (So (seen v n x) × (pid-seen v n x ≡ k) × (x < process-slots))
-    ⊎ ((x ≡ process-slots) × ((i : ℕ) → i < process-slots → So (seen v n i) → pid-seen v n i ≡ k → ⊥))
-
-pub find-cases : (v : View) (n k : ℕ) → Found v n k (find v n k)
-unfolding find
-find-cases v n k = go (lowest-cases (λ i. seen v n i and eqb (pid-seen v n i) k) process-slots 0)
-  where
-    x : ℕ
-    x = lowest (λ i. seen v n i and eqb (pid-seen v n i) k) process-slots 0
-
-    go : Lowest (λ i. seen v n i and eqb (pid-seen v n i) k) process-slots 0 x → Found v n k x
-    go (inl (h, l)) = inl (left _ _ h, eqb-true _ _ (right _ _ h), l)
-    go (inr (e, h)) = inr (e, λ i l s q. false≢true (sym (h i (omega arith) l) ∙ both _ _ s (eq-eqb _ _ q)))
-
--- The number in n of a process seen there finds it.
-pub find-seen : (v : View) → Facts v → (n i : ℕ) → So (namespace-taken v n) → So (seen v n i) → find v n (pid-seen v n i) ≡ i
-find-seen v f n i t h = go (find-cases v n (pid-seen v n i))
-  where
-    go : Found v n (pid-seen v n i) (find v n (pid-seen v n i)) → find v n (pid-seen v n i) ≡ i
-    go (inl (s, e, l)) = pid-unique v f n _ i t s h e
-    go (inr (e, no-one)) = absurd (no-one i (f .in-range i (seen-taken v n i h)) h refl)
 
 -- ---- with equal sheets
 

@@ -1,4 +1,4 @@
--- setns, by twin callers.
+-- setns: by twin callers, and by an outsider.
 use Prim.Native.Nat.{ℕ, zero, suc, _<_}
 use native.Mathlib.Omega.{arith}
 use mathlib.Core.Bool.{Bool, true, false, So}
@@ -8,8 +8,8 @@ use borrow.Author.Tests.{eq-eqb, ne-eqb, eqb-false}
 use lib.Dec.{eqb}
 use lib.IntN.{ℤ, pos, negsuc}
 use Rattle.table.proofs.Keeps.Changes.{setns-sane}
-use Rattle.table.proofs.Keeps.Premises.{named-seen}
 use Rattle.table.proofs.Laws.Facts.{facts}
+use Rattle.table.proofs.Laws.Find.{named-seen}
 use Rattle.table.proofs.Laws.Steps.{runs-lives}
 use Rattle.table.proofs.Laws.Tests.{or-false-left}
 use Rattle.table.proofs.Sameness.Calls.{shown, both-refuse, owns-twins, lt-t, lt-u, same-put}

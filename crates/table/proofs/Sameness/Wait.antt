@@ -8,15 +8,16 @@ use mathlib.Core.Path.{_≡_, refl, sym, _∙_, ap, subst, subst₂}
 use borrow.Author.Tests.{eqb-true, eqb-false, ne-eqb, ltb-true, ltb-false, eq-eqb}
 use lib.Dec.{eqb, ltb}
 use lib.ListN.{List·getD-eq-default}
+use Rattle.table.proofs.Keeps.Changed.{process-count}
 use Rattle.table.proofs.Keeps.Freed.{freed-view}
-use Rattle.table.proofs.Keeps.PutKeeps.{reaped-sane, reaped-view}
+use Rattle.table.proofs.Keeps.Puts.{reaped-sane, reaped-view}
 use Rattle.table.proofs.Keeps.Reap.{without}
 use Rattle.table.proofs.Laws.Facts.{Facts, seen-taken, facts, sane}
 use Rattle.table.proofs.Laws.Slots.{children-of, init-living, parent-living, child-seen}
 use Rattle.table.proofs.Laws.Tests.{no-so, zero-or, right, isnt, and-false, true-and, true-or, false-or-true, false-or-false, true-and-false, isnt-not, left, both, any-elim, any-intro, isnt-so}
 use Rattle.table.proofs.Laws.Tree.{below-refl}
 use Rattle.table.proofs.Sameness.Anchor.{name-no-slot}
-use Rattle.table.proofs.Sameness.Calls.{shown, processes-length, both-refuse, both-tell, owns-twins}
+use Rattle.table.proofs.Sameness.Calls.{shown, both-refuse, both-tell, owns-twins}
 use Rattle.table.proofs.Sameness.Freeing.{freed-alike, freed-leaves}
 use Rattle.table.proofs.Sameness.Inside.{Kept, Ready, MadeSame}
 use Rattle.table.proofs.Sameness.Kill.{twin-of-pid}
@@ -227,7 +228,7 @@ module _ (t u : Table) (s r c d : ℕ) (w : Ready t u s r c d) where
           )
 
 no-state : (t : Table) → SoundTable t → (x : ℕ) → x ≡ process-slots → view t .state x ≡ Running
-no-state t h x e = ap (λ p. p .state) (List·getD-eq-default (t .processes) no-process (omega (arith, processes-length t h)))
+no-state t h x e = ap (λ p. p .state) (List·getD-eq-default (t .processes) no-process (omega (arith, process-count t (h .shape))))
 
 -- two callers reap two twins that have ended in the same way
 reap-kept : (t u : Table) (s r c d : ℕ) → Ready t u s r c d → (x y : ℕ) → Twin (view t) (view u) s r x y → So (view t .ended x) → So (view u .ended y) → (a : State) → So (is-ended a) → Kept t u s r (reap t c x a) (reap u d y a)
@@ -315,7 +316,7 @@ first-taken t h c e = go (least-cases (ended-kid (view t) c) (pid-to (view t) c)
     x = least (ended-kid (view t) c) (pid-to (view t) c) process-slots process-slots
 
     go : Least (ended-kid (view t) c) (pid-to (view t) c) process-slots process-slots x → So (taken (view t) x)
-    go (inl (a, b)) = absurd (false≢true (sym (ap (λ p. is-ended (p .state)) (List·getD-eq-default (t .processes) no-process (omega (arith, processes-length t h, a)))) ∙ e))
+    go (inl (a, b)) = absurd (false≢true (sym (ap (λ p. is-ended (p .state)) (List·getD-eq-default (t .processes) no-process (omega (arith, process-count t (h .shape), a)))) ∙ e))
     go (inr (a, b, m)) = left _ _ (left _ _ a)
 
 pub wait-leaves : MadeLeaves Wait

@@ -4,21 +4,20 @@ use native.Mathlib.Decide.{decLt}
 use native.Mathlib.Omega.{arith}
 use mathlib.Core.Bool.{Bool, false, So, false≢true}
 use mathlib.Core.Path.{_≡_, refl, sym, _∙_, ap, subst}
-use borrow.Author.Tests.{lt-ltb}
+use borrow.Author.Tests.{lt-ltb, ltb-true}
 use lib.Dec.{eqb}
 use lib.ListN.{List·getD-eq-default}
 use Rattle.table.proofs.Keeps.Changed.{getD-replicate, view-put, shaped-put, shape-at, pick, pick-same, process-count, view-put-namespace, shaped-put-namespace}
+use Rattle.table.proofs.Keeps.Lights.{with-lights, MayHold, holds-still, lights-facts}
 use Rattle.table.proofs.Keeps.NewNamespace.{with-namespace}
-use Rattle.table.proofs.Keeps.Reap.{without, reaped-pre}
-use Rattle.table.proofs.Keeps.SetChildren.{with-other-children, set-children-pre}
-use Rattle.table.proofs.Keeps.Signal.{with-signalled, signalled-pre}
-use Rattle.table.proofs.Laws.Facts.{Facts, Taken, Stands, Lives, Below, SignalsOk, lives-taken, not-ended, Sane}
-use Rattle.table.proofs.Laws.Tests.{isnt-so, left, both}
+use Rattle.table.proofs.Keeps.Reap.{without, reaped-facts}
+use Rattle.table.proofs.Laws.Facts.{Facts, Lives, SignalsOk, lives-taken, not-ended, Sane}
+use Rattle.table.proofs.Laws.Tests.{isnt-so, left, both, right}
 use Rattle.table.specs.Calls.{new-namespace}
 use Rattle.table.specs.Fresh.{empty-process}
 use Rattle.table.specs.Limits.{levels, namespace-slots, process-slots, signals}
 use Rattle.table.specs.Pids.{free-namespace-slot}
-use Rattle.table.specs.Read.{is-ended, namespace, no-pid, no-process, pid-at, process, unborn, view}
+use Rattle.table.specs.Read.{is-ended, namespace, no-pid, no-process, pid-at, process, view}
 use Rattle.table.specs.Records.{put, to-pid, with-children}
 use Rattle.table.specs.Sound.{kept-end, shaped}
 use Rattle.table.specs.Tests.{if_then_else_}
@@ -28,61 +27,30 @@ use Rattle.table.specs.declared.Process.{Process}
 use Rattle.table.specs.declared.State.{State}
 use Rattle.table.specs.declared.Table.{Table}
 
--- ---- children's namespace
+-- ---- one process's state, signals, children's namespace and mark
 
-module _ (t : Table) (sane : Sane t) (c m : ℕ) (mark : Bool) (c-lives : Lives (view t) c) where
-  abbrev x : Process
-  x = with-children (process t c) m mark
+abbrev pub with-all : Process → State → ℕ → ℕ → ℕ → Bool → Process
+with-all p s h q m u = record { own = p .own; children = record { 0 = m }; parent = p .parent; state = s; handled = h; pending = q; unshared = u; pids = p .pids }
 
-  low : c < process-slots
-  low = sane .facts .in-range c (lives-taken (view t) c c-lives)
-
-  pub set-children-view : view (put t c x) ≡ with-other-children (view t) c m mark
-  set-children-view =
-      view-put t (sane .shape-of) c x low
-      ∙ (λ j. record {
-        own = λ i. pick-same t (sane .shape-of) c (λ p. p .own .0) x refl i j;
-        children = λ i. pick (λ p. p .children .0) (eqb i c) x (process t i) j;
-        parent = λ i. pick-same t (sane .shape-of) c (λ p. p .parent .0) x refl i j;
-        state = λ i. pick-same t (sane .shape-of) c (λ p. p .state) x refl i j;
-        ended = λ i. pick-same t (sane .shape-of) c (λ p. is-ended (p .state)) x refl i j;
-        handled = λ i. pick-same t (sane .shape-of) c (λ p. p .handled) x refl i j;
-        pending = λ i. pick-same t (sane .shape-of) c (λ p. p .pending) x refl i j;
-        unshared = λ i. pick (λ p. p .unshared) (eqb i c) x (process t i) j;
-        pid = λ i l. pick-same t (sane .shape-of) c (λ p. pid-at p l) x refl i j;
-        up = view t .up;
-        level = view t .level;
-        last = view t .last;
-        life = view t .life;
-      })
-
-  pub set-children-sane : Stands (view t) m → Below (view t) m (view t .own c) → (So (unborn (view t) m) → (view t .own c ≡ view t .up m) × ((i : ℕ) → Taken (view t) i → view t .children i ≡ m → i ≡ c)) → Sane (put t c x)
-  set-children-sane a b d = record { shape-of = shaped-put t (sane .shape-of) c x low (shape-at t (sane .shape-of) c low); facts = subst Facts (sym set-children-view) (set-children-pre (view t) (sane .facts) c m mark c-lives a b d) }
-
--- ---- state and signals
-
-abbrev pub with-all : Process → State → ℕ → ℕ → Process
-with-all p s h q = record { own = p .own; children = p .children; parent = p .parent; state = s; handled = h; pending = q; unshared = p .unshared; pids = p .pids }
-
-module _ (t : Table) (sane : Sane t) (c : ℕ) (c-lives : Lives (view t) c) (s : State) (alive : is-ended s ≡ false) (h q : ℕ) where
+module _ (t : Table) (sane : Sane t) (c : ℕ) (c-lives : Lives (view t) c) (s : State) (runs : is-ended s ≡ false) (h q m : ℕ) (mark : Bool) where
   abbrev y : Process
-  y = with-all (process t c) s h q
+  y = with-all (process t c) s h q m mark
 
   low-c : c < process-slots
   low-c = sane .facts .in-range c (lives-taken (view t) c c-lives)
 
-  pub signalled-view : view (put t c y) ≡ with-signalled (view t) c s h q
-  signalled-view =
+  pub lights-view : view (put t c y) ≡ with-lights (view t) c s h q m mark
+  lights-view =
       view-put t (sane .shape-of) c y low-c
       ∙ (λ j. record {
         own = λ i. pick-same t (sane .shape-of) c (λ p. p .own .0) y refl i j;
-        children = λ i. pick-same t (sane .shape-of) c (λ p. p .children .0) y refl i j;
+        children = λ i. pick (λ p. p .children .0) (eqb i c) y (process t i) j;
         parent = λ i. pick-same t (sane .shape-of) c (λ p. p .parent .0) y refl i j;
         state = λ i. pick (λ p. p .state) (eqb i c) y (process t i) j;
-        ended = λ i. pick-same t (sane .shape-of) c (λ p. is-ended (p .state)) y (alive ∙ sym (isnt-so (not-ended (view t) c c-lives))) i j;
+        ended = λ i. pick-same t (sane .shape-of) c (λ p. is-ended (p .state)) y (runs ∙ sym (isnt-so (not-ended (view t) c c-lives))) i j;
         handled = λ i. pick (λ p. p .handled) (eqb i c) y (process t i) j;
         pending = λ i. pick (λ p. p .pending) (eqb i c) y (process t i) j;
-        unshared = λ i. pick-same t (sane .shape-of) c (λ p. p .unshared) y refl i j;
+        unshared = λ i. pick (λ p. p .unshared) (eqb i c) y (process t i) j;
         pid = λ i l. pick-same t (sane .shape-of) c (λ p. pid-at p l) y refl i j;
         up = view t .up;
         level = view t .level;
@@ -90,12 +58,28 @@ module _ (t : Table) (sane : Sane t) (c : ℕ) (c-lives : Lives (view t) c) (s :
         life = view t .life;
       })
 
-  pub signalled-sane : So (kept-end s) → SignalsOk h q → h < 2 ^ signals → q < 2 ^ signals → Sane (put t c y)
-  signalled-sane a b d e =
+  pub lights-sane : So (kept-end s) → SignalsOk h q → h < 2 ^ signals → q < 2 ^ signals → MayHold (view t) c m → Sane (put t c y)
+  lights-sane a b d e hold =
       record {
         shape-of = shaped-put t (sane .shape-of) c y low-c (both _ _ (both _ _ (left _ _ (left _ _ (shape-at t (sane .shape-of) c low-c))) (lt-ltb h (2 ^ signals) d)) (lt-ltb q (2 ^ signals) e));
-        facts = subst Facts (sym signalled-view) (signalled-pre (view t) (sane .facts) c s h q c-lives alive a b);
+        facts = subst Facts (sym lights-view) (lights-facts (view t) (sane .facts) c s h q m mark c-lives runs a b hold);
       }
+
+-- the sets of signals of a living process
+pub sets : (t : Table) → Sane t → (i : ℕ) → Lives (view t) i → (view t .handled i < 2 ^ signals) × (view t .pending i < 2 ^ signals) × SignalsOk (view t .handled i) (view t .pending i)
+sets t s i l =
+    let x = lives-taken (view t) i l in
+    let g = shape-at t (s .shape-of) i (s .facts .in-range i x) in
+    (ltb-true _ _ (right _ _ (left _ _ g)), ltb-true _ _ (right _ _ g), s .facts .signal-sets i x)
+
+-- other signals and another state, and another children's namespace
+pub signalled-sane : (t : Table) (s : Sane t) (c : ℕ) → Lives (view t) c → (x : State) → is-ended x ≡ false → (h q : ℕ) → So (kept-end x) → SignalsOk h q → h < 2 ^ signals → q < 2 ^ signals → Sane (put t c (with-all (process t c) x h q (view t .children c) (view t .unshared c)))
+signalled-sane t s c l x o h q k ok a b = lights-sane t s c l x o h q (view t .children c) (view t .unshared c) k ok a b (holds-still (view t) (s .facts) c l)
+
+pub set-children-sane : (t : Table) (s : Sane t) (c m : ℕ) (mark : Bool) → Lives (view t) c → MayHold (view t) c m → Sane (put t c (with-children (process t c) m mark))
+set-children-sane t s c m mark l hold =
+    let (a, b, ok) = sets t s c l in
+    lights-sane t s c l (view t .state c) (isnt-so (not-ended (view t) c l)) (view t .handled c) (view t .pending c) m mark (s .facts .ends-kept c (lives-taken (view t) c l)) ok a b hold
 
 -- ---- removal
 
@@ -130,7 +114,7 @@ module _ (t : Table) (sane : Sane t) (d : ℕ) (over : So (view t .ended d)) whe
       })
 
   pub reaped-sane : Sane (put t d empty-process)
-  reaped-sane = record { shape-of = shaped-put t (sane .shape-of) d empty-process low-d (both _ _ (both _ _ refl refl) refl); facts = subst Facts (sym reaped-view) (reaped-pre (view t) (sane .facts) d over) }
+  reaped-sane = record { shape-of = shaped-put t (sane .shape-of) d empty-process low-d (both _ _ (both _ _ refl refl) refl); facts = subst Facts (sym reaped-view) (reaped-facts (view t) (sane .facts) d over) }
 
 -- ---- a new namespace
 
