@@ -46,7 +46,7 @@ loop-less : tie.Need-loop-less Inv-loop μ-loop
 loop-less c = search needs
 
 loop-again : tie.Need-loop-again Inv-loop μ-loop
-loop-again c = search (walks, needs)
+loop-again c = search walks
 
 newborn-requires : tie.Need-newborn-requires Inv-loop μ-loop
 newborn-requires c κs = search needs

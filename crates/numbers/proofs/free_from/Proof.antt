@@ -59,7 +59,7 @@ candidates-less c = search needs
 
 candidates-again : tie.Need-candidates-again Inv-loop μ-loop Inv-candidates μ-candidates
 unfolding free-pid
-candidates-again c = search (seeks, any-loops, named-test, needs)
+candidates-again c = search (seeks, any-loops, named-test)
 
 add-i : tie.Need-add-i Inv-loop μ-loop Inv-candidates μ-candidates
 add-i c = search needs
@@ -76,7 +76,7 @@ returns c = search seeks
 
 returns-2 : tie.Need-returns-2 Inv-loop μ-loop Inv-candidates μ-candidates
 unfolding free-pid
-returns-2 c = search (seeks, any-loops, named-test, needs)
+returns-2 c = search (seeks, any-loops, named-test)
 
 pub free-from-spec : {M : Type 1} → statement M
 free-from-spec =
