@@ -18,3 +18,5 @@ pub mod Premises
 pub mod Fixed
 pub mod Finds
 pub mod Changes
+pub mod Falls
+pub mod Refusals

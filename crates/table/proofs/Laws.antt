@@ -16,3 +16,4 @@ pub mod FrameEnd
 pub mod Lists
 pub mod Slots
 pub mod ChangedTo
+pub mod Follows

@@ -17,3 +17,4 @@ pub mod FoldLoops
 pub mod MapLoops
 -- Slots read and put.
 pub mod Slots
+pub mod Promises

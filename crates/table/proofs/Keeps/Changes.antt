@@ -1,10 +1,10 @@
 -- Each call as a run of changes, each of which says when it may be made.
-use Prim.Native.Nat.{ℕ, pred, _<_, _≤_, _^_}
+use Prim.Native.Nat.{ℕ, _<_, _≤_, _^_}
 use native.Mathlib.Omega.{arith}
 use mathlib.Core.Logic.{_⊎_, inr}
 use mathlib.Core.Path.{_≡_, refl, sym, _∙_, ap, subst}
 use mathlib.Core.Bool.{Bool, true, false, not, So}
-use mathlib.Core.List.{List, [], _∷_}
+use mathlib.Core.List.{List, _∷_, []}
 use borrow.Author.Tests.{eqb-false, le-leb, lt-ltb, ltb-true}
 use lib.Dec.{eqb}
 use lib.ListN.{length}
@@ -56,7 +56,6 @@ pub data Change (t : Table) : Table → Type 0 where
   signals-of : (c : ℕ) → Lives (view t) c → (x : State) → is-ended x ≡ false → So (kept-end x) → (h q : ℕ) → SignalsOk h q → h < 2 ^ signals → q < 2 ^ signals → Change t (put t c (with-all (process t c) x h q))
   turns : (c m : ℕ) (mark : Bool) → Lives (view t) c → Stands (view t) m → Below (view t) m (view t .own c) → (So (unborn (view t) m) → (view t .own c ≡ view t .up m) × ((i : ℕ) → Taken (view t) i → view t .children i ≡ m → i ≡ c)) → Change t (put t c (with-children (process t c) m mark))
   reaps : (d : ℕ) → So (view t .ended d) → Change t (put t d empty-process)
-  frees : Change t (freed t)
   makes-namespace : (c : ℕ) → Lives (view t) c → (view t .level (view t .own c) ≡ deepest → ⊥) → (free-namespace-slot (view t) ≡ namespace-slots → ⊥) → Change t (new-namespace t c)
 
 pub namespace-sane : (t : Table) (s : Sane t) (c : ℕ) → Lives (view t) c → (view t .level (view t .own c) ≡ deepest → ⊥) → (free-namespace-slot (view t) ≡ namespace-slots → ⊥) → Sane (new-namespace t c)
@@ -75,7 +74,6 @@ change-sane t u s (ends p e l o ok) = end-sane t s p e l o ok
 change-sane t u s (signals-of c l x o k h q ok a b) = signalled-sane t s c l x o h q k ok a b
 change-sane t u s (turns c m mark l a b d) = set-children-sane t s c m mark l a b d
 change-sane t u s (reaps d o) = reaped-sane t s d o
-change-sane t u s frees = sane (freed t) (freed-keeps t (s .shape-of) (s .facts))
 change-sane t u s (makes-namespace c l a b) = namespace-sane t s c l a b
 
 -- one after the other
@@ -226,6 +224,10 @@ module _ (t : Table) (c : ℕ) (h : SoundTable t) (r : So (runs (view t) c)) whe
       let (x, y, k) = sets t (sane t h) c lives in
       signalled c lives (v .handled c) (without-signal (v .pending c) (lowest-signal (process t c .pending))) (poll-ok _ _ _ k) x (omega (arith, without-signal-le (v .pending c) (lowest-signal (process t c .pending)), y)))
 
+-- a call by a running caller leaves a sound table sound
+pub make-sound : (t : Table) (c : ℕ) (call : Call) → SoundTable t → So (runs (view t) c) → SoundTable (make t c call .table)
+make-sound t c call h r = made-sound t _ h (call-made t c h r call)
+
 pub keeps-sound : KeepsSound
 unfolding KeepsSound
-keeps-sound t c call h = made-or-refused SoundTable t c call h h (λ r. made-sound t _ h (call-made t c h r call))
+keeps-sound t c call h = made-or-refused SoundTable t c call h h (make-sound t c call h)

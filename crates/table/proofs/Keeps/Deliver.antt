@@ -4,9 +4,9 @@ use native.Mathlib.Omega.{arith}
 use native.Mathlib.Decide.{ℕ-discrete}
 use mathlib.Core.Path.{_≡_, refl, sym, _∙_, ap, subst}
 use mathlib.Core.Bool.{Bool, true, false, not, So}
-use mathlib.Core.List.{List, [], _∷_}
+use mathlib.Core.List.{List, _∷_, []}
 use borrow.Author.Tests.{eq-eqb, eqb-false, ltb-true, le-leb, lt-ltb}
-use lib.Dec.{eqb, leb}
+use lib.Dec.{eqb}
 use Rattle.table.proofs.Laws.Cases.{no-so, isnt-so}
 use Rattle.table.proofs.Laws.SignalBits.{has-with-other, with-signal-lt}
 use Rattle.table.proofs.Keeps.Changed.{shape-at}

@@ -1,14 +1,15 @@
 -- A signal finds exactly the processes of the caller's namespace and those below.
-use Prim.Native.Nat.{ℕ, pred, _<_}
+use Prim.Native.Nat.{ℕ, _<_, zero, suc}
 use native.Mathlib.Omega.{arith}
+use mathlib.Core.Logic.{_↔_, inl, inr, ⊎-elim}
 use mathlib.Core.Path.{_≡_, refl, sym, _∙_, ap, ap₂, subst}
 use mathlib.Core.Bool.{Bool, true, false, not, So}
-use mathlib.Core.List.{List, [], _∷_}
-use borrow.Author.Tests.{ne-eqb, eqb-true, le-leb, lt-ltb}
+use mathlib.Core.List.{List, _∷_, []}
+use borrow.Author.Tests.{ne-eqb, eqb-true, le-leb, lt-ltb, eq-eqb, eqb-false}
 use lib.Dec.{eqb}
-use lib.IntN.{ℤ}
+use lib.IntN.{ℤ, pos, negsuc}
 use lib.ListN.{length}
-use Rattle.table.proofs.Laws.Below.{below-trans}
+use Rattle.table.proofs.Laws.Below.{below-trans, below-level}
 use Rattle.table.proofs.Laws.Cases.{isnt-so, zero-or}
 use Rattle.table.proofs.Keeps.Changed.{changed-at, stored, process-count}
 use Rattle.table.proofs.Keeps.Deliver.{Each, Safe, Good, action-good, deliver-sane, deliver-all-sane}
@@ -19,19 +20,22 @@ use Rattle.table.proofs.Keeps.InitKeeps.{Sane, sane, subtree-view}
 use Rattle.table.proofs.Keeps.MemberKeeps.{member-view}
 use Rattle.table.proofs.Keeps.Premises as K
 use Rattle.table.proofs.Keeps.NewPid.{found, free-is}
+use Rattle.table.proofs.Laws.Lists.{In, some-of-in, in-some-of, only-in, in-only, in-ascending, ascending-in}
 use Rattle.table.proofs.Laws.Quant.{left, right, both, isnt-not}
+use Rattle.table.proofs.Laws.Slots.{pid-pos}
 use Rattle.table.proofs.Laws.Steps.{made-or-refused}
 use Rattle.table.specs.Answers.{answers, granted, refused}
-use Rattle.table.specs.Calls.{kill, names-group, natural, targets, within}
+use Rattle.table.specs.Calls.{kill, names-group, natural, targets, within, named, others, pid-to}
+use Rattle.table.specs.Claims.{SignalFinds, meant}
 use Rattle.table.specs.Delivery.{act, action-on, deliver, deliver-all}
 use Rattle.table.specs.Ends.{end, init-ends, member-ends, namespace-dies}
 use Rattle.table.specs.Freeing.{freed}
 use Rattle.table.specs.Limits.{process-slots, signals}
-use Rattle.table.specs.Read.{View, below, child-of, climb, find, is-init, no-process, pid-seen, process, seen, view}
+use Rattle.table.specs.Read.{View, below, child-of, climb, find, is-init, no-process, pid-seen, process, seen, view, all-seen}
 use Rattle.table.specs.Records.{changed, put}
 use Rattle.table.specs.Sound.{SoundTable, kept-end, shaped}
-use Rattle.table.specs.Step.{make, step}
-use Rattle.table.specs.Tests.{if_then_else_}
+use Rattle.table.specs.Step.{make, step, runs}
+use Rattle.table.specs.Tests.{if_then_else_, _and_, some-of}
 use Rattle.table.specs.declared.Action.{Action}
 use Rattle.table.specs.declared.Action.the-variants.{Finish, Nothing, Pend, Resume, Stop}
 use Rattle.table.specs.declared.Call.the-variants.{Kill}
@@ -42,12 +46,53 @@ use Rattle.table.specs.declared.State.the-variants.{Ended}
 use Rattle.table.specs.declared.Namespace.{Namespace}
 use Rattle.table.specs.declared.Process.{Process}
 use Rattle.table.specs.declared.Table.{Table}
+use Rattle.table.proofs.Sameness.Find.{find-cases}
 
 -- a number that is seen names its process
 pub finds : (v : View) → Facts v → (n i : ℕ) → Stands v n → Seen v n i → find v n (pid-seen v n i) ≡ i
 finds v f n i s h =
     let (l, x, e) = found v n (pid-seen v n i) (isnt-so (λ free. free-is v f n _ free i h refl)) in
     f .differ n s (find v n (pid-seen v n i)) i x h e
+
+-- whom a kill finds is whom it means
+module _ (v : View) (f : Facts v) (c : ℕ) (here : Taken v c) where
+  place : Stands v (v .own c)
+  place = f .members c here .0 .0
+
+  -- who is seen has a number there, from 1
+  counted : (i : ℕ) → Seen v (v .own c) i → pid-to v c i ≡ 0 → ⊥
+  unfolding pid-seen
+  counted i h e = omega (arith, pid-pos v f i (v .level (v .own c)) (seen-taken v _ i h) (below-level v f _ _ (seen-below v _ i h)))
+
+  named-meant : (n : ℕ) → (i : ℕ) → (named v c (pos n) ≡ process-slots → ⊥) → i ≡ named v c (pos n) → Seen v (v .own c) i × (pid-to v c i ≡ n)
+  unfolding named
+  named-meant zero i o e = absurd (o refl)
+  named-meant (suc k) i o e = rw e (⊎-elim (λ x. (x .0, x .1)) (λ x. absurd (o (x .0))) (find-cases v (v .own c) (suc k)))
+
+  meant-named : (n i : ℕ) → Seen v (v .own c) i → pid-to v c i ≡ n → named v c (pos n) ≡ i
+  unfolding named
+  meant-named zero i h e = absurd (counted i h e)
+  meant-named (suc k) i h e = ap (find v (v .own c)) (sym e) ∙ finds v f (v .own c) i place h
+
+  pub targets-meant : (n : ℤ) (i : ℕ) → So (some-of (eqb i) (targets v c n)) ↔ So (meant v c n i)
+  unfolding targets meant others all-seen
+  targets-meant (pos n) i = (λ h. there (eqb (named v c (pos n)) process-slots) refl (some-of-in i _ h), λ h. back h)
+    where
+      there : (b : Bool) → eqb (named v c (pos n)) process-slots ≡ b → In i (if b then [] else named v c (pos n) ∷ []) → So (seen v (v .own c) i and eqb (pid-to v c i) n)
+      there true e h = absurd h
+      there false e (inl q) = let (s, k) = named-meant n i (eqb-false _ process-slots e) q in both _ _ s (eq-eqb _ n k)
+      there false e (inr h) = absurd h
+
+      back : So (seen v (v .own c) i and eqb (pid-to v c i) n) → So (some-of (eqb i) (if eqb (named v c (pos n)) process-slots then [] else named v c (pos n) ∷ []))
+      back h =
+          let s = left _ _ h in
+          let e = meant-named n i s (eqb-true _ n (right _ _ h)) in
+          let l = f .in-range i (seen-taken v _ i s) in
+          rw (ne-eqb (named v c (pos n)) process-slots (λ q. omega (arith, q, e, l))) (in-some-of i (named v c (pos n) ∷ []) (inl (sym e)))
+  targets-meant (negsuc n) i = (
+    λ h. let (m, k) = only-in _ i _ (some-of-in i _ h) in both _ _ (ascending-in _ _ process-slots i m .1) k,
+    λ h. in-some-of i _ (in-only _ i _ (in-ascending _ _ process-slots i (f .in-range i (seen-taken v _ i (left _ _ h))) (left _ _ h)) (right _ _ h)),
+  )
 
 -- ---- what a change leaves
 
@@ -185,3 +230,7 @@ kill-leaves t c h n s i o =
 pub spares : (t : Table) (c i : ℕ) (n s : ℤ) → SoundTable t → (Seen (view t) (view t .own c) i → ⊥) → process (step t c (Kill n s) .table) i ≡ process t i
 unfolding make
 spares t c i n s h o = made-or-refused (λ u. process u i ≡ process t i) t c (Kill n s) h refl (λ r. kill-leaves t c h n s i o)
+
+pub signal-finds : SignalFinds
+unfolding runs
+signal-finds = record { finds = λ t c i n h r. targets-meant (view t) (facts t h) c (left _ _ r) n i; spares = spares }

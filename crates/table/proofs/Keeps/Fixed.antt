@@ -12,7 +12,7 @@ use Rattle.table.proofs.Keeps.FreedKeeps.{freed-view}
 use Rattle.table.proofs.Keeps.InitEnds.{gone, subtree-gone}
 use Rattle.table.proofs.Keeps.InitKeeps.{Sane, sane, subtree-view}
 use Rattle.table.proofs.Keeps.Premises as K
-use Rattle.table.proofs.Keeps.Changes.{Change, ends, signals-of, turns, reaps, frees, makes-namespace, change-sane, Run, start, more, run-sane, MayBear, Made, nothing-done, freed-after, signalled, born, born-in-new, call-made}
+use Rattle.table.proofs.Keeps.Changes.{Change, ends, signals-of, turns, reaps, makes-namespace, change-sane, Run, start, more, run-sane, MayBear, Made, nothing-done, freed-after, signalled, born, born-in-new, call-made}
 use Rattle.table.proofs.Keeps.MemberKeeps.{member-view}
 use Rattle.table.proofs.Keeps.PutKeeps.{signalled-view, set-children-view, reaped-view, new-namespace-view}
 use Rattle.table.proofs.Laws.Steps.{made-or-refused}
@@ -21,6 +21,7 @@ use Rattle.table.specs.Births.{birth}
 use Rattle.table.specs.Calls.{new-namespace}
 use Rattle.table.specs.Claims.{NamespaceFixed}
 use Rattle.table.specs.Ends.{end}
+use Rattle.table.specs.Freeing.{freed}
 use Rattle.table.specs.Limits.{namespace-slots}
 use Rattle.table.specs.Pids.{free-namespace-slot, free-slot}
 use Rattle.table.specs.Read.{View, is-init, taken, view}
@@ -64,8 +65,11 @@ change-shrinks t u s (ends p e l o ok) = end-shrinks t s p e l o ok
 change-shrinks t u s (signals-of c l x o k h q ok a b) = subst (Shrinks (view t)) (sym (signalled-view t s c l x o h q)) (λ j y. (y, refl))
 change-shrinks t u s (turns c m mark l a b d) = subst (Shrinks (view t)) (sym (set-children-view t s c m mark l)) (λ j y. (y, refl))
 change-shrinks t u s (reaps d o) = subst (Shrinks (view t)) (sym (reaped-view t s d o)) (without-shrinks (view t) d)
-change-shrinks t u s frees = subst (Shrinks (view t)) (sym (freed-view t (s .shape-of))) (λ j y. (y, refl))
 change-shrinks t u s (makes-namespace c l a b) = subst (Shrinks (view t)) (sym (new-namespace-view t (s .shape-of) c (K.free-namespace-is (view t) b .0))) (λ j y. (y, refl))
+
+freed-shrinks : (t : Table) → Sane t → Shrinks (view t) (view (freed t))
+unfolding taken
+freed-shrinks t s = subst (Shrinks (view t)) (sym (freed-view t (s .shape-of))) (λ j y. (y, refl))
 
 pub run-shrinks : (t u : Table) → Sane t → Run t u → Shrinks (view t) (view u)
 run-shrinks t u s start = λ j y. (y, refl)
@@ -86,7 +90,7 @@ namespace-grows t s c l = subst (Grows (view t)) (sym (new-namespace-view t (s .
 
 pub made-fixed : (t u : Table) → SoundTable t → Made t u → (i : ℕ) → Taken (view t) i → Taken (view u) i → view u .own i ≡ view t .own i
 made-fixed t u h nothing-done i x y = refl
-made-fixed t u h (freed-after w r) i x y = run-shrinks t u (sane t h) (more r frees) i y .1
+made-fixed t u h (freed-after w r) i x y = shrinks-trans (view t) (view w) (view u) (run-shrinks t w (sane t h) r) (freed-shrinks w (run-sane t w (sane t h) r)) i y .1
 made-fixed t u h (signalled c l a b ok la lb) i x y = change-shrinks t u (sane t h) (signals-of c l (view t .state c) (isnt-so (not-ended (view t) c l)) (facts t h .ends-kept c (lives-taken (view t) c l)) a b ok la lb) i y .1
 made-fixed t u h (born c n m) i x y = birth-grows t (sane t h) c n m i x .1
 made-fixed t u h (born-in-new c n k low m) i x y =

@@ -1,5 +1,5 @@
 -- Freeing namespaces restores soundness.
-use Prim.Native.Nat.{ℕ, zero, suc, _<_, _≤_}
+use Prim.Native.Nat.{ℕ, zero, suc, _≤_}
 use native.Mathlib.Omega.{arith}
 use mathlib.Core.Logic.{_⊎_, inl, inr, ⊎-elim}
 use mathlib.Core.Path.{_≡_, refl, sym, _∙_, ap, subst}
@@ -13,7 +13,7 @@ use Rattle.table.proofs.Laws.Iff.{not-iff, or-iff}
 use Rattle.table.proofs.Laws.Quant.{left, right, both, cases, or-left, any-elim, any-intro}
 use Rattle.table.proofs.Laws.Tree.{below-refl}
 use Rattle.table.specs.Freeing.{kept}
-use Rattle.table.specs.Limits.{greatest-pid, namespace-slots}
+use Rattle.table.specs.Limits.{greatest-pid}
 use Rattle.table.specs.Read.{View, alive, below, climb, init-of, is-alive, is-dead, is-unborn, living, namespace-taken, pid-seen, seen, taken, unborn}
 use Rattle.table.specs.Sound.{zero-namespace, zero-process}
 use Rattle.table.specs.Tests.{_and_, _or_, if_then_else_}

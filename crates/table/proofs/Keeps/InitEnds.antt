@@ -1,5 +1,5 @@
 -- The end of an init: its subtree goes down. It keeps a table sound up to freeing.
-use Prim.Native.Nat.{ℕ, zero, suc, _<_}
+use Prim.Native.Nat.{ℕ, zero, suc}
 use native.Mathlib.Omega.{arith}
 use mathlib.Core.Logic.{_⊎_, inl, inr, ⊎-elim}
 use mathlib.Core.Path.{_≡_, refl, sym, _∙_, ap, subst}
@@ -12,7 +12,7 @@ use Rattle.table.proofs.Laws.Below.{below-trans, below-up, shallow-belo
 use Rattle.table.proofs.Laws.Facts.{Facts, Taken, Stands, Lives, Below, Seen, Other, SignalsOk, lives-taken, is-seen, seen-taken, seen-below}
 use Rattle.table.proofs.Laws.Quant.{left, right, both, all-intro}
 use Rattle.table.proofs.Laws.Reach.{reach-zero, reach-step, reach-cases}
-use Rattle.table.specs.Limits.{levels, namespace-slots, no-slot, process-slots}
+use Rattle.table.specs.Limits.{levels, no-slot, process-slots}
 use Rattle.table.specs.Read.{View, alive, below, dead, init, init-of, is-alive, is-init, living, namespace-taken, pid-seen, seen, taken, unborn}
 use Rattle.table.specs.Sound.{kept-end, reaches-root, zero-namespace, zero-process}
 use Rattle.table.specs.Tests.{_and_, if_then_else_}

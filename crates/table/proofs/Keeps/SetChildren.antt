@@ -1,5 +1,5 @@
 -- Another children's namespace keeps a table sound up to freeing.
-use Prim.Native.Nat.{ℕ, _<_}
+use Prim.Native.Nat.{ℕ}
 use mathlib.Core.Logic.{_⊎_, inl, inr, ⊎-elim}
 use mathlib.Core.Path.{_≡_, sym, _∙_, ap, subst}
 use mathlib.Core.Bool.{Bool, So}
@@ -7,7 +7,6 @@ use borrow.Author.Tests.{eq-eqb, ne-eqb}
 use lib.Dec.{eqb}
 use Rattle.table.proofs.Laws.Cases.{same-or}
 use Rattle.table.proofs.Laws.Facts.{Facts, Taken, Stands, Lives, Below, lives-taken, not-ended}
-use Rattle.table.specs.Limits.{process-slots}
 use Rattle.table.specs.Read.{View, below, living, namespace-taken, pid-seen, seen, taken, unborn}
 use Rattle.table.specs.Sound.{zero-namespace, zero-process}
 use Rattle.table.specs.Tests.{if_then_else_}

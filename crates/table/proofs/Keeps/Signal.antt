@@ -1,5 +1,5 @@
 -- Another state, not ended, and other signals keep a table sound.
-use Prim.Native.Nat.{ℕ, _<_}
+use Prim.Native.Nat.{ℕ}
 use mathlib.Core.Logic.{⊎-elim}
 use mathlib.Core.Path.{sym, subst}
 use mathlib.Core.Bool.{So}
@@ -7,7 +7,6 @@ use borrow.Author.Tests.{eq-eqb, ne-eqb}
 use lib.Dec.{eqb}
 use Rattle.table.proofs.Laws.Cases.{same-or}
 use Rattle.table.proofs.Laws.Facts.{Holder, root, member, for-children, child, Facts, Held, Taken, Lives, SignalsOk, lives-taken, not-ended}
-use Rattle.table.specs.Limits.{process-slots}
 use Rattle.table.specs.Read.{View, below, living, namespace-taken, pid-seen, seen, taken}
 use Rattle.table.specs.Sound.{kept-end, zero-namespace, zero-process}
 use Rattle.table.specs.Tests.{if_then_else_}

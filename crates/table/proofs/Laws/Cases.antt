@@ -53,6 +53,11 @@ life-cases Unborn a b = absurd (a refl)
 life-cases (Alive i) a b = refl
 life-cases Dead a b = absurd (b refl)
 
+pub dead-otherwise : (l : Life) → (So (is-unborn l) → ⊥) → (So (is-alive l) → ⊥) → So (is-dead l)
+dead-otherwise Unborn a b = absurd (a refl)
+dead-otherwise (Alive i) a b = absurd (b refl)
+dead-otherwise Dead a b = refl
+
 pub alive-unborn : (l : Life) → So (is-alive l) → So (is-unborn l) → ⊥
 alive-unborn Unborn a u = false≢true a
 alive-unborn (Alive i) a u = false≢true u

@@ -196,7 +196,7 @@ pub record Past (v : View) : Type 0 where
   pub past : (i : ℕ) → process-slots ≤ i → So (zero-process v i)
   pub past-namespaces : (n : ℕ) → namespace-slots ≤ n → So (zero-namespace v n)
 
-past-of : (t : Table) → So (shaped t) → Past (view t)
+pub past-of : (t : Table) → So (shaped t) → Past (view t)
 unfolding shaped zero-process zero-namespace
 past-of t h =
     record {
@@ -210,22 +210,29 @@ past-of t h =
           (both _ _ (both _ _ (both _ _ refl refl) refl) refl);
     }
 
-module _ (v : View) (r : Past v) (s : Sound v) where
-  range : (i : ℕ) → Taken v i → i < process-slots
+module _ (v : View) (r : Past v) where
+  pub in-range : (i : ℕ) → Taken v i → i < process-slots
   unfolding taken zero-process
-  range i t = go (decLt i process-slots)
+  in-range i t = go (decLt i process-slots)
     where
       go : Dec (i < process-slots) → i < process-slots
       go (yes l) = l
       go (no o) = absurd (not-iff _ .0 t (all-elim _ _ (right _ _ (r .past i (omega arith))) 0 (omega arith)))
 
-  namespace-range : (n : ℕ) → Stands v n → n < namespace-slots
+  pub in-namespace : (n : ℕ) → Stands v n → n < namespace-slots
   unfolding namespace-taken zero-namespace
-  namespace-range n h = go (decLt n namespace-slots)
+  in-namespace n h = go (decLt n namespace-slots)
     where
       go : Dec (n < namespace-slots) → n < namespace-slots
       go (yes l) = l
       go (no o) = ⊎-elim (λ z. omega (arith, eqb-true n 0 z)) (λ k. absurd (not-iff _ .0 k (right _ _ (left _ _ (left _ _ (r .past-namespaces n (omega arith))))))) (cases _ _ h)
+
+module _ (v : View) (r : Past v) (s : Sound v) where
+  range : (i : ℕ) → Taken v i → i < process-slots
+  range = in-range v r
+
+  namespace-range : (n : ℕ) → Stands v n → n < namespace-slots
+  namespace-range = in-namespace v r
 
   pub facts-of : Facts v
   unfolding S.root-process S.have-parents S.root-namespace S.inits S.empty-slots S.namespace-tree S.below-dead S.holds S.unborn-namespace S.unborn-namespaces S.last-pids S.pid-range S.pids-differ S.first-pids S.dead-members S.unborn-members S.parents S.first-parents S.children-namespaces S.handled-signals S.pending-signals S.ended-bare S.ends-kept S.namespaces-held one

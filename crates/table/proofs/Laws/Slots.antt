@@ -1,26 +1,24 @@
 -- What a sound table's clauses say of a slot, as facts.
 use Prim.Native.Nat.{ℕ, zero, suc, pred, _-_, _<_, _≤_}
-use native.Mathlib.Decide.{ℕ-discrete, decLt}
+use native.Mathlib.Decide.{ℕ-discrete}
 use native.Mathlib.Omega.{arith}
 use mathlib.Core.Bool.{Bool, true, false, not, So, false≢true}
 use mathlib.Core.Logic.{_⊎_, inl, inr, ⊎-elim}
 use mathlib.Core.Path.{_≡_, refl, sym, _∙_, ap, subst}
 use borrow.Author.Tests.{eq-eqb, ne-eqb, eqb-true, eqb-false, leb-true, le-leb, lt-leb}
-use lib.Dec.{eqb, leb}
-use lib.ListN.{length, List·getD-eq-default}
+use lib.Dec.{eqb}
 use Rattle.table.proofs.Laws.Below.{no-level}
 use Rattle.table.proofs.Laws.Cases.{isnt-so, no-so}
 use Rattle.table.proofs.Laws.Facts.{Facts, lives-or-ended}
 use Rattle.table.proofs.Laws.Quant.{left, right, cases, isnt, both, or-left, or-right}
 use Rattle.table.proofs.Laws.Tree as Tree
 use Rattle.table.proofs.Laws.Tree.{below-refl}
-use Rattle.table.specs.Limits.{deepest, greatest-pid, levels, namespace-slots, no-slot, process-slots}
-use Rattle.table.specs.Read.{View, alive, below, climb, dead, init, is-alive, is-dead, is-unborn, living, namespace-taken, no-namespace, pid-seen, process, seen, taken, unborn, up-by, view}
+use Rattle.table.specs.Limits.{deepest, levels, namespace-slots, no-slot, process-slots}
+use Rattle.table.specs.Read.{View, alive, below, climb, dead, init, is-alive, is-dead, is-unborn, living, namespace-taken, pid-seen, seen, taken, unborn, up-by}
 use Rattle.table.specs.Sound.{zero-namespace}
-use Rattle.table.specs.Tests.{_and_, _implies_, _or_, agree, if_then_else_}
+use Rattle.table.specs.Tests.{_and_}
 use Rattle.table.specs.declared.Life.{Life}
 use Rattle.table.specs.declared.Life.the-variants.{Unborn, Alive, Dead}
-use Rattle.table.specs.declared.Table.{Table}
 
 -- ---- lives
 

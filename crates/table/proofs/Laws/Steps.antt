@@ -1,16 +1,14 @@
 -- A call is made by a running caller of a sound table, and refused to any other.
-use Prim.Native.Nat.{ℕ, _<_}
-use native.Mathlib.Decide.{decLt}
-use native.Mathlib.Omega.{arith}
-use mathlib.Core.Bool.{Bool, true, false, not, So, false≢true}
-use mathlib.Core.Path.{_≡_, refl, sym, _∙_, ap}
+use Prim.Native.Nat.{ℕ}
+use mathlib.Core.Bool.{Bool, true, false, So}
+use mathlib.Core.Path.{_≡_, refl, _∙_, ap}
 use borrow.Author.Tests.{eq-eqb, ne-eqb}
 use lib.IntN.{pos}
 use Rattle.table.specs.Answers.{answers, granted, number-of, refused}
 use Rattle.table.specs.Calls.{clone-new, getpid, own-level}
 use Rattle.table.specs.Limits.{deepest, namespace-slots, process-slots}
 use Rattle.table.specs.Pids.{free-namespace-slot, free-slot, next-pid}
-use Rattle.table.specs.Read.{View, pid-seen, taken, view}
+use Rattle.table.specs.Read.{pid-seen, view}
 use Rattle.table.specs.Sound.{SoundTable}
 use Rattle.table.specs.Step.{make, runs, step}
 use Rattle.table.specs.Tests.{_or_}

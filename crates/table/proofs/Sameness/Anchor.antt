@@ -1,20 +1,16 @@
 -- The nearest living namespace, and the name that a sheet gives.
-use Prim.Native.Nat.{ℕ, zero, suc, pred, _-_, _<_, _≤_}
+use Prim.Native.Nat.{ℕ, zero, suc}
 use native.Mathlib.Omega.{arith}
 use native.Mathlib.Decide.{ℕ-discrete}
-use mathlib.Core.Bool.{Bool, true, false, not, So, false≢true}
+use mathlib.Core.Bool.{Bool, true, false, So, false≢true}
 use mathlib.Core.Path.{_≡_, refl, sym, _∙_, ap, subst}
 use borrow.Author.Tests.{ne-eqb}
-use lib.Dec.{eqb}
 use Rattle.table.proofs.Laws.Facts.{Facts}
-use Rattle.table.proofs.Laws.Slots.{namespace-lt, root-only, root-taken, up-taken, up-level, below-trans, below-parent, below-same, below-level, up-by-below}
-use Rattle.table.proofs.Laws.Quant.{left, right, both}
+use Rattle.table.proofs.Laws.Slots.{namespace-lt, root-only, up-taken, up-level, below-trans, below-parent, below-same, below-level, up-by-below}
 use Rattle.table.proofs.Laws.Tree.{below-refl}
 use Rattle.table.specs.Limits.{no-slot}
-use Rattle.table.specs.Read.{View, alive, below, dead, init, init-of, is-alive, is-dead, is-unborn, namespace-taken, pid-in, unborn, up-by}
+use Rattle.table.specs.Read.{View, alive, below, init, init-of, is-alive, is-unborn, namespace-taken, pid-in, unborn, up-by}
 use Rattle.table.specs.Sheet.{Name, by-init, dead-at, name, name-by, nearest, nearest-alive, no-name, unborn-name}
-use Rattle.table.specs.Tests.{_and_, if_then_else_}
-use Rattle.table.specs.Sound as S
 use Rattle.table.specs.declared.Life.{Life}
 use Rattle.table.specs.declared.Life.the-variants.{Unborn, Alive, Dead}
 

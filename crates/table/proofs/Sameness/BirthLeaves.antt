@@ -10,7 +10,6 @@ use lib.Dec.{eqb}
 use lib.Seq.{getD-set-other}
 use Rattle.table.proofs.Sameness.BirthSame.{Lights}
 use Rattle.table.proofs.Sameness.BirthTable.{grown, lights}
-use Rattle.table.proofs.Sameness.Calls.{made-sound}
 use Rattle.table.proofs.Keeps.Changes.{namespace-sane}
 use Rattle.table.proofs.Sameness.DeliverSame.{Fits, fits-of, fits-sound}
 use Rattle.table.proofs.Sameness.ExitSame.{runs-living}
@@ -32,7 +31,6 @@ use Rattle.table.proofs.Sameness.WaitLeaves.{untouched-made}
 use Rattle.table.specs.Answers.{is-refused, refused}
 use Rattle.table.specs.Births.{birth}
 use Rattle.table.specs.Calls.{born, clone, clone-new, new-namespace, own-level}
-use Rattle.table.specs.Claims.{KeepsSound}
 use Rattle.table.specs.Events.{at, follow, namespace-inside, sheet-of}
 use Rattle.table.specs.Limits.{deepest, namespace-slots, process-slots}
 use Rattle.table.specs.Pids.{free-namespace-slot, free-slot, next-pid}
@@ -120,26 +118,25 @@ module _ (t : Table) (w : Fits t) (c n : ℕ) (tn : So (namespace-taken (view t)
   pub birth-stands : So (namespace-taken (view t) s) → So (namespace-taken (view (birth t c n)) s)
   birth-stands h = stands-still (view t) (view (birth t c n)) s (near (view t) s) (w .facts) still h
 
-module _ (keeps : KeepsSound) where
-  pub clone-leaves : MadeLeaves Clone
-  unfolding MadeLeaves make clone refused is-refused touched clones-into namespace-inside
-  clone-leaves t s i h hs k a = go (dead (view t) (view t .children i)) refl (eqb (free-slot (view t)) process-slots) refl (made-sound keeps t i Clone h k)
-    where
-      go : (x : Bool) → dead (view t) (view t .children i) ≡ x → (b : Bool) → eqb (free-slot (view t)) process-slots ≡ b → SoundTable (clone t i .table) → sheet-of (clone t i .table) (follow t (clone t i .table) (at s)) ≡ sheet (view t) s
-      go true ea b eb g = rw (ea, clone) (as-it-was t s hs)
-      go false ea true eb g = rw (ea, eb, clone) (as-it-was t s hs)
-      go false ea false eb g =
-          rw (ea, eb, clone)
-          (stands-leaves t (birth t i n) s h (rw (ea, eb, clone) at g) hs (birth-stands t (fits-sound t h) i n tn (eqb-false _ _ eb) s o hs) (birth-same t (fits-sound t h) i n tn (eqb-false _ _ eb) s o))
-        where
-          n : ℕ
-          n = view t .children i
+pub clone-leaves : MadeLeaves Clone
+unfolding MadeLeaves make clone refused is-refused touched clones-into namespace-inside
+clone-leaves t s i h hs k a g = go (dead (view t) (view t .children i)) refl (eqb (free-slot (view t)) process-slots) refl g
+  where
+    go : (x : Bool) → dead (view t) (view t .children i) ≡ x → (b : Bool) → eqb (free-slot (view t)) process-slots ≡ b → SoundTable (clone t i .table) → sheet-of (clone t i .table) (follow t (clone t i .table) (at s)) ≡ sheet (view t) s
+    go true ea b eb g = rw (ea, clone) (as-it-was t s hs)
+    go false ea true eb g = rw (ea, eb, clone) (as-it-was t s hs)
+    go false ea false eb g =
+        rw (ea, eb, clone)
+        (stands-leaves t (birth t i n) s h (rw (ea, eb, clone) at g) hs (birth-stands t (fits-sound t h) i n tn (eqb-false _ _ eb) s o hs) (birth-same t (fits-sound t h) i n tn (eqb-false _ _ eb) s o))
+      where
+        n : ℕ
+        n = view t .children i
 
-          tn : So (namespace-taken (view t) n)
-          tn = children-taken (view t) (facts t h) i (runs-living t i k)
+        tn : So (namespace-taken (view t) n)
+        tn = children-taken (view t) (facts t h) i (runs-living t i k)
 
-          o : below (view t) n s ≡ false
-          o = untouched-made t s i Clone h k a (born t i (birth t i n)) (rw (ea, eb, clone) refl) refl
+        o : below (view t) n s ≡ false
+        o = untouched-made t s i Clone h k a (born t i (birth t i n)) (rw (ea, eb, clone) refl) refl
 
 -- ---- a fresh namespace
 
@@ -211,39 +208,38 @@ same-free : (t : Table) (c : ℕ) → free-slot (view (new-namespace t c)) ≡ f
 unfolding free-slot taken new-namespace
 same-free t c = refl
 
-module _ (keeps : KeepsSound) where
-  pub clone-new-leaves : MadeLeaves CloneNew
-  unfolding MadeLeaves make clone-new refused
-  clone-new-leaves t s i h hs k a = go (eqb (own-level (view t) i) deepest) refl (eqb (free-slot (view t)) process-slots or eqb (free-namespace-slot (view t)) namespace-slots) refl (made-sound keeps t i CloneNew h k)
-    where
-      go : (x : Bool) → eqb (own-level (view t) i) deepest ≡ x → (b : Bool) → eqb (free-slot (view t)) process-slots or eqb (free-namespace-slot (view t)) namespace-slots ≡ b → SoundTable (clone-new t i .table) → sheet-of (clone-new t i .table) (follow t (clone-new t i .table) (at s)) ≡ sheet (view t) s
-      go true ea b eb g = rw (ea, clone-new) (as-it-was t s hs)
-      go false ea true eb g = rw (ea, eb, clone-new) (as-it-was t s hs)
-      go false ea false eb g =
-          rw (ea, eb, clone-new)
-          (stands-leaves t (birth t₁ i x) s h (rw (ea, eb, clone-new) at g) hs (birth-stands t₁ f₁ i x tx room₁ s o (new-stands t h i room s hs))
-          (same-trans (view (birth t₁ i x)) (view t₁) (view t) s s s (birth-same t₁ f₁ i x tx room₁ s o) (new-same t h i room s hs)))
-        where
-          x : ℕ
-          x = free-namespace-slot (view t)
+pub clone-new-leaves : MadeLeaves CloneNew
+unfolding MadeLeaves make clone-new refused
+clone-new-leaves t s i h hs k a g = go (eqb (own-level (view t) i) deepest) refl (eqb (free-slot (view t)) process-slots or eqb (free-namespace-slot (view t)) namespace-slots) refl g
+  where
+    go : (x : Bool) → eqb (own-level (view t) i) deepest ≡ x → (b : Bool) → eqb (free-slot (view t)) process-slots or eqb (free-namespace-slot (view t)) namespace-slots ≡ b → SoundTable (clone-new t i .table) → sheet-of (clone-new t i .table) (follow t (clone-new t i .table) (at s)) ≡ sheet (view t) s
+    go true ea b eb g = rw (ea, clone-new) (as-it-was t s hs)
+    go false ea true eb g = rw (ea, eb, clone-new) (as-it-was t s hs)
+    go false ea false eb g =
+        rw (ea, eb, clone-new)
+        (stands-leaves t (birth t₁ i x) s h (rw (ea, eb, clone-new) at g) hs (birth-stands t₁ f₁ i x tx room₁ s o (new-stands t h i room s hs))
+        (same-trans (view (birth t₁ i x)) (view t₁) (view t) s s s (birth-same t₁ f₁ i x tx room₁ s o) (new-same t h i room s hs)))
+      where
+        x : ℕ
+        x = free-namespace-slot (view t)
 
-          t₁ : Table
-          t₁ = new-namespace t i
+        t₁ : Table
+        t₁ = new-namespace t i
 
-          room : free-namespace-slot (view t) ≡ namespace-slots → ⊥
-          room = eqb-false _ _ (or-false-right _ _ eb)
+        room : free-namespace-slot (view t) ≡ namespace-slots → ⊥
+        room = eqb-false _ _ (or-false-right _ _ eb)
 
-          li : So (living (view t) i)
-          li = runs-living t i k
+        li : So (living (view t) i)
+        li = runs-living t i k
 
-          f₁ : Fits t₁
-          f₁ = fits-of t₁ (namespace-sane t (fits-sound t h .sane-of) i li (eqb-false _ _ ea) room)
+        f₁ : Fits t₁
+        f₁ = fits-of t₁ (namespace-sane t (fits-sound t h .sane-of) i li (eqb-false _ _ ea) room)
 
-          tx : So (namespace-taken (view t₁) x)
-          tx = x-taken t (fits-sound t h) i room
+        tx : So (namespace-taken (view t₁) x)
+        tx = x-taken t (fits-sound t h) i room
 
-          room₁ : free-slot (view t₁) ≡ process-slots → ⊥
-          room₁ e = eqb-false _ _ (or-false-left _ _ eb) (sym (same-free t i) ∙ e)
+        room₁ : free-slot (view t₁) ≡ process-slots → ⊥
+        room₁ e = eqb-false _ _ (or-false-left _ _ eb) (sym (same-free t i) ∙ e)
 
-          o : below (view t₁) x s ≡ false
-          o = new-outside t h i room s hs (living-taken (view t) (facts t h) i li) f₁ (outsider t s i CloneNew a)
+        o : below (view t₁) x s ≡ false
+        o = new-outside t h i room s hs (living-taken (view t) (facts t h) i li) f₁ (outsider t s i CloneNew a)

@@ -1,20 +1,19 @@
 -- The numbers that two newborns get from S's level down are the same.
-use Prim.Native.Nat.{ℕ, zero, suc, pred, _-_, _<_, _≤_}
+use Prim.Native.Nat.{ℕ, suc, pred, _-_, _≤_}
 use native.Mathlib.Omega.{arith}
 use native.Mathlib.Decide.{ℕ-discrete}
-use mathlib.Core.Bool.{Bool, true, false, not, So, false≢true}
-use mathlib.Core.Logic.{_⊎_, inl, inr, ⊎-elim}
-use mathlib.Core.Path.{_≡_, refl, sym, _∙_, ap, ap₂, subst, fun-ext}
-use borrow.Author.Tests.{eq-eqb, eqb-true, le-leb}
+use mathlib.Core.Bool.{Bool, false, not, So, false≢true}
+use mathlib.Core.Logic.{_⊎_, inl, inr}
+use mathlib.Core.Path.{_≡_, sym, _∙_, ap, ap₂, subst, fun-ext}
 use lib.Dec.{eqb, leb}
 use Rattle.table.proofs.Laws.Facts.{Facts}
-use Rattle.table.proofs.Laws.Slots.{up-level, below-level, seen-taken, seen-below, own-not-unborn, below-up-by, below-same, up-by-level, up-by-end, no-heirs}
+use Rattle.table.proofs.Laws.Slots.{below-level, seen-taken, seen-below, own-not-unborn, below-up-by, below-same, up-by-level, up-by-end, no-heirs}
 use Rattle.table.proofs.Sameness.NextPid.{next-twins}
-use Rattle.table.proofs.Laws.Quant.{left, right, both, any-elim}
-use Rattle.table.proofs.Sameness.Twins.{Pair, Twin, Twins, bool-ext, twins-level, twins-up-by}
+use Rattle.table.proofs.Laws.Quant.{left, any-elim}
+use Rattle.table.proofs.Sameness.Twins.{Pair, Twins, bool-ext, twins-level, twins-up-by}
 use Rattle.table.specs.Limits.{greatest-pid, process-slots, restart-pid}
 use Rattle.table.specs.Pids.{free-pid, next-pid}
-use Rattle.table.specs.Read.{View, above-at, below, namespace-taken, pid-seen, seen, unborn, up-by}
+use Rattle.table.specs.Read.{View, above-at, below, pid-seen, seen, unborn, up-by}
 use Rattle.table.specs.Tests.{_and_, any, if_then_else_, lowest}
 
 -- nobody is seen from an unborn namespace

@@ -1,18 +1,18 @@
 -- Two births by twin callers, in corresponding namespaces: the tables stay the same to S.
-use Prim.Native.Nat.{ℕ, zero, suc, pred, _+_, _-_, _<_, _≤_}
+use Prim.Native.Nat.{ℕ, zero, suc, _+_, _-_, _<_, _≤_}
 use native.Mathlib.Omega.{arith}
 use native.Mathlib.Decide.{ℕ-discrete, decLe}
-use mathlib.Core.Bool.{Bool, true, false, not, So, false≢true}
-use mathlib.Core.List.{List, [], _∷_}
+use mathlib.Core.Bool.{Bool, true, false, So, false≢true}
+use mathlib.Core.List.{_∷_}
 use mathlib.Core.Logic.{_⊎_, inl, inr, ⊎-elim}
-use mathlib.Core.Path.{_≡_, refl, sym, _∙_, ap, ap₂, subst, fun-ext}
+use mathlib.Core.Path.{_≡_, refl, sym, _∙_, ap, ap₂, fun-ext}
 use borrow.Author.Tests.{eqb-true, eq-eqb, ne-eqb, le-leb, lt-leb}
 use lib.Dec.{eqb, leb}
 use Rattle.table.proofs.Sameness.Anchor.{is-unborn-name, name-taken, up-below}
-use Rattle.table.proofs.Sameness.BirthPids.{Cradles, Unborns, cradle-next, next-unborn}
-use Rattle.table.proofs.Sameness.Grown.{Grown, below-grown, old, seen-grown, pid-grown, pid-in-grown, child-seen, child-pid-in, life-born, life-new, name-born, name-other, name-new}
+use Rattle.table.proofs.Sameness.BirthPids.{Cradles, cradle-next, next-unborn}
+use Rattle.table.proofs.Sameness.Grown.{Grown, old, seen-grown, pid-in-grown, child-seen, life-born, life-new, name-born, name-other, name-new}
 use Rattle.table.proofs.Laws.Facts.{Facts}
-use Rattle.table.proofs.Laws.Slots.{slot-lt, seen-taken, own-taken, own-not-unborn, alive-taken, alive-not-unborn, alive-otherwise, init-taken, children-of, below-trans, up-taken, init-seen, living-taken, parent-living, below-parent, below-level, below-same}
+use Rattle.table.proofs.Laws.Slots.{slot-lt, seen-taken, own-taken, own-not-unborn, alive-taken, alive-not-unborn, init-taken, children-of, below-trans, init-seen, living-taken, parent-living, below-parent, below-level, below-same}
 use Rattle.table.proofs.Sameness.NextPid.{next-twins, last-twins}
 use Rattle.table.proofs.Sameness.Same.{Same, level-lt}
 use Rattle.table.proofs.Sameness.Namespaces.{name-unborn}
@@ -23,9 +23,9 @@ use Rattle.table.proofs.Sameness.Readers.{is-init-twins}
 use Rattle.table.proofs.Laws.Tree.{below-refl}
 use Rattle.table.specs.Limits.{levels, no-slot, process-slots}
 use Rattle.table.specs.Pids.{next-pid}
-use Rattle.table.specs.Read.{View, above-at, alive, below, init, init-of, is-alive, is-init, is-unborn, namespace-taken, pid-in, pid-seen, seen, taken, unborn}
+use Rattle.table.specs.Read.{View, above-at, alive, below, init, init-of, is-alive, is-init, namespace-taken, pid-in, pid-seen, seen, taken, unborn}
 use Rattle.table.specs.Sheet.{Name, Row, by-init, dead-at, name, name-by, no-name, row, unborn-name}
-use Rattle.table.specs.Tests.{_and_, if_then_else_, values}
+use Rattle.table.specs.Tests.{if_then_else_, values}
 use Rattle.table.specs.declared.Life.{Life}
 use Rattle.table.specs.declared.Life.the-variants.{Unborn, Alive, Dead}
 

@@ -1,14 +1,13 @@
 -- A birth, on one table.
-use Prim.Native.Nat.{ℕ, zero, suc, pred, _-_, _+_, _<_, _≤_}
+use Prim.Native.Nat.{ℕ, zero, suc, _-_, _<_, _≤_}
 use native.Mathlib.Omega.{arith}
-use native.Mathlib.Decide.{ℕ-discrete, decLt}
+use native.Mathlib.Decide.{decLt}
 use mathlib.Core.Bool.{Bool, true, false, not, So, false≢true}
-use mathlib.Core.List.{List}
-use mathlib.Core.Logic.{_⊎_, inl, inr, ⊎-elim}
-use mathlib.Core.Path.{_≡_, refl, sym, _∙_, ap, ap₂, subst, fun-ext}
-use borrow.Author.Tests.{eqb-true, eqb-false, eq-eqb, ne-eqb, le-leb}
-use lib.Dec.{eqb, leb}
-use lib.ListN.{getD, length, replicate, getD-replicate, length-replicate}
+use mathlib.Core.Logic.{⊎-elim}
+use mathlib.Core.Path.{_≡_, refl, sym, _∙_, ap, fun-ext}
+use borrow.Author.Tests.{ne-eqb, le-leb}
+use lib.Dec.{leb}
+use lib.ListN.{getD, replicate, getD-replicate}
 use lib.Seq.{getD-set-same, getD-set-other}
 use Rattle.table.proofs.Sameness.BirthSame.{Lights}
 use Rattle.table.proofs.Laws.ChangedTo.{changed-at, changed-past, changed-kept}
@@ -16,7 +15,6 @@ use Rattle.table.proofs.Sameness.DeliverSame.{Fits}
 use Rattle.table.proofs.Sameness.Find.{lowest-cases}
 use Rattle.table.proofs.Laws.FrameEnd.{read-changed}
 use Rattle.table.proofs.Sameness.Grown.{Grown}
-use Rattle.table.proofs.Laws.Facts.{Facts}
 use Rattle.table.proofs.Laws.Slots.{namespace-lt, below-taken}
 use Rattle.table.proofs.Laws.Quant.{isnt}
 use Rattle.table.proofs.Sameness.Twins.{bool-ext}
@@ -24,13 +22,11 @@ use Rattle.table.specs.Births.{birth, joined, new-pids, newborn}
 use Rattle.table.specs.Limits.{greatest-pid, levels, namespace-slots, process-slots, restart-pid}
 use Rattle.table.specs.Pids.{free-pid, free-slot, next-pid}
 use Rattle.table.specs.Read.{View, above-at, below, is-unborn, namespace, namespace-taken, no-namespace, no-pid, no-process, pid-at, process, taken, view}
-use Rattle.table.specs.Records.{changed, put, to-pid}
-use Rattle.table.specs.Tests.{changed-to, if_then_else_, lowest}
+use Rattle.table.specs.Records.{to-pid}
+use Rattle.table.specs.Tests.{if_then_else_, lowest}
 use Rattle.table.specs.declared.Life.{Life}
-use Rattle.table.specs.declared.Life.the-variants.{Unborn, Alive, Dead}
+use Rattle.table.specs.declared.Life.the-variants.{Alive}
 use Rattle.table.specs.declared.Namespace.{Namespace}
-use Rattle.table.specs.declared.Pid.{Pid}
-use Rattle.table.specs.declared.Process.{Process}
 use Rattle.table.specs.declared.Table.{Table}
 
 lowest-from : (f : ℕ → Bool) (n k : ℕ) → k ≤ lowest f n k

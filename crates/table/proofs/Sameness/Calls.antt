@@ -1,42 +1,36 @@
 -- The calls that leave who is where: getpid, getppid, handle, poll, by twin callers.
-use Prim.Native.Nat.{ℕ, zero, suc, pred, _<_}
+use Prim.Native.Nat.{ℕ, _<_}
 use native.Mathlib.Omega.{arith}
 use native.Mathlib.Decide.{ℕ-discrete}
 use mathlib.Core.Bool.{Bool, true, false, not, So, false≢true}
-use mathlib.Core.Logic.{_⊎_, inl, inr, ⊎-elim}
-use mathlib.Core.Option.{Option, none, some}
+use mathlib.Core.Logic.{inr}
 use mathlib.Core.Path.{_≡_, refl, sym, _∙_, ap, ap₂, subst}
 use borrow.Author.Tests.{eqb-true}
 use lib.Dec.{eqb}
-use lib.IntN.{ℤ, pos, negsuc}
+use lib.IntN.{ℤ}
 use lib.ListN.{length}
 use Rattle.table.proofs.Sameness.Glue.{follow-self}
 use Rattle.table.proofs.Sameness.Inside.{Kept, Ready, MadeSame, refused-same, stands-same}
-use Rattle.table.proofs.Laws.Facts.{Facts, facts}
+use Rattle.table.proofs.Laws.Facts.{facts}
 use Rattle.table.proofs.Laws.Slots.{slot-lt, seen-taken, living-own-alive, alive-taken}
-use Rattle.table.proofs.Sameness.Light.{relight, Lights, same-light, Placed, put-light, put-same, put-other}
+use Rattle.table.proofs.Sameness.Light.{Lights, same-light, Placed, put-light, put-same, put-other}
 use Rattle.table.proofs.Laws.Quant.{left, right, both}
 use Rattle.table.proofs.Sameness.Readers.{parent-pid}
 use Rattle.table.proofs.Sameness.Same.{Same, sheets-of-same}
-use Rattle.table.proofs.Laws.Steps.{step-made}
 use Rattle.table.proofs.Sameness.Twins.{Pair, Twin, Twins, twin-rows, twin-unique, flip-pair, flip-twin, owns, pid-twins}
-use Rattle.table.specs.Answers.{answers, granted, is-no-room, refused}
+use Rattle.table.specs.Answers.{answers, granted, refused}
 use Rattle.table.specs.Calls.{getpid, getppid, handle, handle-off, handle-on, natural, poll, within}
-use Rattle.table.specs.Claims.{KeepsSound}
-use Rattle.table.specs.Events.{at, follow, sheet-of}
+use Rattle.table.specs.Events.{at, sheet-of}
 use Rattle.table.specs.Limits.{namespace-slots, process-slots, signals, sigkill, sigstop}
-use Rattle.table.specs.Read.{View, alive, is-ended, is-running, living, namespace-taken, pid-in, pid-seen, process, seen, taken, view}
+use Rattle.table.specs.Read.{alive, is-ended, is-running, living, namespace-taken, process, view}
 use Rattle.table.specs.Records.{put, with-signals}
 use Rattle.table.specs.Sheet.{Row, name, row, sheet}
 use Rattle.table.specs.SignalSets.{lowest-signal, with-signal, without-signal}
 use Rattle.table.specs.Sound.{SoundTable, shaped}
-use Rattle.table.specs.Step.{make, runs, step}
-use Rattle.table.specs.Tests.{_and_, _or_, if_then_else_}
-use Rattle.table.specs.declared.Answer.{Answer}
-use Rattle.table.specs.declared.Answer.the-variants.{Refused, Number, Reaped}
-use Rattle.table.specs.declared.Call.{Call}
+use Rattle.table.specs.Step.{make, runs}
+use Rattle.table.specs.Tests.{_or_}
+use Rattle.table.specs.declared.Answer.the-variants.{Number}
 use Rattle.table.specs.declared.Call.the-variants.{Getpid, Getppid, Handle, Poll}
-use Rattle.table.specs.declared.Outcome.{Outcome}
 use Rattle.table.specs.declared.Process.{Process}
 use Rattle.table.specs.declared.Refusal.{Refusal}
 use Rattle.table.specs.declared.Refusal.the-variants.{Einval}
@@ -96,11 +90,11 @@ module _ (t u : Table) (s r i j : ℕ) (w : Ready t u s r i j) where
 
 pub getpid-same : MadeSame Getpid
 unfolding MadeSame make getpid
-getpid-same t u s r i j w = both-tell t u s r i j w _ _ (pid-twins (view t) (view u) s r (w .pair) i j _ _ (w .twin) (owns-twins t u s r i j w))
+getpid-same t u s r i j w h g = both-tell t u s r i j w _ _ (pid-twins (view t) (view u) s r (w .pair) i j _ _ (w .twin) (owns-twins t u s r i j w))
 
 pub getppid-same : MadeSame Getppid
 unfolding MadeSame make getppid
-getppid-same t u s r i j w = both-tell t u s r i j w _ _ (parent-pid (view t) (view u) s r (w .pair) i j _ _ (w .twin) (owns-twins t u s r i j w))
+getppid-same t u s r i j w h g = both-tell t u s r i j w _ _ (parent-pid (view t) (view u) s r (w .pair) i j _ _ (w .twin) (owns-twins t u s r i j w))
 
 -- ---- a process changed in its lights only, and its twin likewise
 
@@ -148,65 +142,51 @@ module _ (t u : Table) (s r c d : ℕ) (w : Pair (view t) (view u) s r) (k : Twi
 
 -- ---- handle, poll
 
-module _ (keeps : KeepsSound) where
-  pub made-sound : (t : Table) (i : ℕ) (c : Call) → SoundTable t → So (runs (view t) i) → SoundTable (make t i c .table)
-  unfolding KeepsSound
-  made-sound t i c h k = subst (λ o. SoundTable (o .table)) (step-made t i c h k) (keeps t i c h)
+module _ (t u : Table) (s r i j : ℕ) (w : Ready t u s r i j) where
+  pub lt-t : i < length (t .processes)
+  lt-t = omega (arith, processes-length t (w .sound-t), slot-lt (view t) (facts t (w .sound-t)) i (seen-taken (view t) (facts t (w .sound-t)) s i (w .twin .seen-v)))
 
-  module _ (t u : Table) (s r i j : ℕ) (w : Ready t u s r i j) where
-    pub lt-t : i < length (t .processes)
-    lt-t = omega (arith, processes-length t (w .sound-t), slot-lt (view t) (facts t (w .sound-t)) i (seen-taken (view t) (facts t (w .sound-t)) s i (w .twin .seen-v)))
+  pub lt-u : j < length (u .processes)
+  lt-u = omega (arith, processes-length u (w .sound-u), slot-lt (view u) (facts u (w .sound-u)) j (seen-taken (view u) (facts u (w .sound-u)) r j (w .twin .seen-u)))
 
-    pub lt-u : j < length (u .processes)
-    lt-u = omega (arith, processes-length u (w .sound-u), slot-lt (view u) (facts u (w .sound-u)) j (seen-taken (view u) (facts u (w .sound-u)) r j (w .twin .seen-u)))
-
-    -- both change their signals alike
-    signal-kept : (a b a′ b′ k l : ℕ) → a ≡ a′ → b ≡ b′ → k ≡ l → SoundTable (put t i (with-signals (process t i) a b)) → SoundTable (put u j (with-signals (process u j) a′ b′)) → Kept t u s r (answers (put t i (with-signals (process t i) a b)) k) (answers (put u j (with-signals (process u j) a′ b′)) l)
-    unfolding namespace-taken
-    signal-kept a b a′ b′ k l ea eb e h g =
-        both-change t u s r i j w _ _ k l e h g (taken-s t u s r i j w) (taken-r t u s r i j w)
-        (same-put t u s r i j (w .pair) (w .twin) lt-t lt-u _ _ (record { owns = refl; parents = refl; pids = refl }) (record { owns = refl; parents = refl; pids = refl }) (record { states = z .states; handleds = ea; pendings = eb; marks = z .marks; childrens = z .childrens }))
-      where
-        z : Shown t u s r (process t i) (process u j)
-        z = shown t u s r (w .pair) i j (w .twin)
-
-  handle-cases : (z : ℤ) (on : Bool) (t u : Table) (s r i j : ℕ) → Ready t u s r i j → SoundTable (handle t i z on .table) → SoundTable (handle u j z on .table) → Kept t u s r (handle t i z on) (handle u j z on)
-  unfolding handle handle-on handle-off answers granted
-  handle-cases z on t u s r i j w h g = go (not (within 1 signals z) or eqb (natural z) sigkill or eqb (natural z) sigstop) refl on refl
+  -- both change their signals alike
+  signal-kept : (a b a′ b′ k l : ℕ) → a ≡ a′ → b ≡ b′ → k ≡ l → SoundTable (put t i (with-signals (process t i) a b)) → SoundTable (put u j (with-signals (process u j) a′ b′)) → Kept t u s r (answers (put t i (with-signals (process t i) a b)) k) (answers (put u j (with-signals (process u j) a′ b′)) l)
+  unfolding namespace-taken
+  signal-kept a b a′ b′ k l ea eb e h g =
+      both-change t u s r i j w _ _ k l e h g (taken-s t u s r i j w) (taken-r t u s r i j w)
+      (same-put t u s r i j (w .pair) (w .twin) lt-t lt-u _ _ (record { owns = refl; parents = refl; pids = refl }) (record { owns = refl; parents = refl; pids = refl }) (record { states = z .states; handleds = ea; pendings = eb; marks = z .marks; childrens = z .childrens }))
     where
-      y : Shown t u s r (process t i) (process u j)
-      y = shown t u s r (w .pair) i j (w .twin)
+      z : Shown t u s r (process t i) (process u j)
+      z = shown t u s r (w .pair) i j (w .twin)
 
-      go : (b : Bool) → not (within 1 signals z) or eqb (natural z) sigkill or eqb (natural z) sigstop ≡ b → (o : Bool) → on ≡ o → Kept t u s r (handle t i z on) (handle u j z on)
-      go true e o q = rw (e, handle) (both-refuse t u s r i j w Einval)
-      go false e true q =
-          rw (e, q, handle)
-          (signal-kept t u s r i j w _ _ _ _ 0 0 (ap (λ x. with-signal x (natural z)) (y .handleds)) (y .pendings) refl (rw (e, q, handle) at h) (rw (e, q, handle) at g))
-      go false e false q =
-          rw (e, q, handle)
-          (signal-kept t u s r i j w _ _ _ _ 0 0 (ap (λ x. without-signal x (natural z)) (y .handleds)) (ap (λ x. without-signal x (natural z)) (y .pendings)) refl (rw (e, q, handle) at h) (rw (e, q, handle) at g))
+pub handle-same : (z : ℤ) (on : Bool) → MadeSame (Handle z on)
+unfolding MadeSame make handle handle-on handle-off answers granted
+handle-same z on t u s r i j w h g = go (not (within 1 signals z) or eqb (natural z) sigkill or eqb (natural z) sigstop) refl on refl
+  where
+    y : Shown t u s r (process t i) (process u j)
+    y = shown t u s r (w .pair) i j (w .twin)
 
-  pub handle-same : (z : ℤ) (on : Bool) → MadeSame (Handle z on)
-  unfolding MadeSame make
-  handle-same z on t u s r i j w =
-      handle-cases z on t u s r i j w (made-sound t i (Handle z on) (w .sound-t) (w .runs-t)) (made-sound u j (Handle z on) (w .sound-u) (w .runs-u))
+    go : (b : Bool) → not (within 1 signals z) or eqb (natural z) sigkill or eqb (natural z) sigstop ≡ b → (o : Bool) → on ≡ o → Kept t u s r (handle t i z on) (handle u j z on)
+    go true e o q = rw (e, handle) (both-refuse t u s r i j w Einval)
+    go false e true q =
+        rw (e, q, handle)
+        (signal-kept t u s r i j w _ _ _ _ 0 0 (ap (λ x. with-signal x (natural z)) (y .handleds)) (y .pendings) refl (rw (e, q, handle) at h) (rw (e, q, handle) at g))
+    go false e false q =
+        rw (e, q, handle)
+        (signal-kept t u s r i j w _ _ _ _ 0 0 (ap (λ x. without-signal x (natural z)) (y .handleds)) (ap (λ x. without-signal x (natural z)) (y .pendings)) refl (rw (e, q, handle) at h) (rw (e, q, handle) at g))
 
-  poll-cases : (t u : Table) (s r i j : ℕ) → Ready t u s r i j → SoundTable (poll t i .table) → SoundTable (poll u j .table) → Kept t u s r (poll t i) (poll u j)
-  unfolding poll answers granted
-  poll-cases t u s r i j w h g = go (eqb (lowest-signal (process t i .pending)) signals) refl
-    where
-      y : Shown t u s r (process t i) (process u j)
-      y = shown t u s r (w .pair) i j (w .twin)
+pub poll-same : MadeSame Poll
+unfolding MadeSame make poll answers granted
+poll-same t u s r i j w h g = go (eqb (lowest-signal (process t i .pending)) signals) refl
+  where
+    y : Shown t u s r (process t i) (process u j)
+    y = shown t u s r (w .pair) i j (w .twin)
 
-      lows : lowest-signal (process t i .pending) ≡ lowest-signal (process u j .pending)
-      lows = ap lowest-signal (y .pendings)
+    lows : lowest-signal (process t i .pending) ≡ lowest-signal (process u j .pending)
+    lows = ap lowest-signal (y .pendings)
 
-      go : (b : Bool) → eqb (lowest-signal (process t i .pending)) signals ≡ b → Kept t u s r (poll t i) (poll u j)
-      go true e = rw (e, sym (ap (λ x. eqb x signals) lows) ∙ e, poll) (both-tell t u s r i j w 0 0 refl)
-      go false e =
-          rw (e, sym (ap (λ x. eqb x signals) lows) ∙ e, poll)
-          (signal-kept t u s r i j w _ _ _ _ _ _ (y .handleds) (ap₂ without-signal (y .pendings) lows) lows (rw (e, poll) at h) (rw (sym (ap (λ x. eqb x signals) lows) ∙ e, poll) at g))
-
-  pub poll-same : MadeSame Poll
-  unfolding MadeSame make
-  poll-same t u s r i j w = poll-cases t u s r i j w (made-sound t i Poll (w .sound-t) (w .runs-t)) (made-sound u j Poll (w .sound-u) (w .runs-u))
+    go : (b : Bool) → eqb (lowest-signal (process t i .pending)) signals ≡ b → Kept t u s r (poll t i) (poll u j)
+    go true e = rw (e, sym (ap (λ x. eqb x signals) lows) ∙ e, poll) (both-tell t u s r i j w 0 0 refl)
+    go false e =
+        rw (e, sym (ap (λ x. eqb x signals) lows) ∙ e, poll)
+        (signal-kept t u s r i j w _ _ _ _ _ _ (y .handleds) (ap₂ without-signal (y .pendings) lows) lows (rw (e, poll) at h) (rw (sym (ap (λ x. eqb x signals) lows) ∙ e, poll) at g))

@@ -1,41 +1,35 @@
 -- plain clone, by twin callers.
-use Prim.Native.Nat.{ℕ, zero, suc, _<_, _≤_}
-use native.Mathlib.Omega.{arith}
+use Prim.Native.Nat.{ℕ, zero, suc}
 use mathlib.Core.Bool.{Bool, true, false, not, So, false≢true}
-use mathlib.Core.Logic.{_⊎_, inl, inr, ⊎-elim}
-use mathlib.Core.Option.{some}
-use mathlib.Core.Path.{_≡_, refl, sym, _∙_, ap, ap₂, subst, subst₂}
-use borrow.Author.Tests.{eqb-true, eqb-false, eq-eqb, ne-eqb}
+use mathlib.Core.Logic.{inl, inr}
+use mathlib.Core.Path.{_≡_, refl, sym, _∙_, ap, subst₂}
+use borrow.Author.Tests.{eqb-true, eqb-false, eq-eqb}
 use lib.Dec.{eqb}
-use Rattle.table.proofs.Sameness.Anchor.{anchor, anchor-self, root-alive, is-unborn-name, is-dead-name, name-taken}
-use Rattle.table.proofs.Sameness.BirthPids.{Cradles, Unborns}
+use Rattle.table.proofs.Sameness.Anchor.{anchor-self, root-alive, is-unborn-name, is-dead-name, name-taken}
+use Rattle.table.proofs.Sameness.BirthPids.{Cradles}
 use Rattle.table.proofs.Sameness.BirthSame.{birth-same}
 use Rattle.table.proofs.Sameness.BirthTable.{grown, lights, the-child}
-use Rattle.table.proofs.Sameness.Calls.{both-refuse, owns-twins, own-lives, made-sound, processes-length, namespaces-length, taken-s, taken-r, the-rows}
-use Rattle.table.proofs.Laws.Clauses.{Sound, sound-is}
+use Rattle.table.proofs.Sameness.Calls.{both-refuse, owns-twins, taken-s, taken-r, the-rows}
 use Rattle.table.proofs.Sameness.DeliverSame.{Fits, fits-sound}
 use Rattle.table.proofs.Sameness.ExitSame.{runs-living}
 use Rattle.table.proofs.Sameness.Inside.{Kept, Ready, MadeSame, stands-same}
 use Rattle.table.proofs.Laws.Facts.{Facts, facts}
-use Rattle.table.proofs.Laws.Slots.{seen-taken, seen-below, slot-lt, namespace-lt, below-trans, alive-taken, alive-otherwise, root-only, up-level, alive-not-unborn}
+use Rattle.table.proofs.Laws.Slots.{seen-taken, seen-below, below-trans, alive-otherwise, root-only, up-level, alive-not-unborn}
 use Rattle.table.proofs.Sameness.NextPid.{next-twins}
-use Rattle.table.proofs.Laws.Quant.{left, right, both, given, isnt, any-elim, all-elim, or-true}
+use Rattle.table.proofs.Laws.Quant.{or-true}
 use Rattle.table.proofs.Sameness.Readers.{twin-eqb}
-use Rattle.table.proofs.Sameness.Same.{Same}
 use Rattle.table.proofs.Sameness.Namespaces.{children-taken, children-below, name-unborn, anchors-of}
-use Rattle.table.proofs.Sameness.Twins.{Pair, Twin, Twins, bool-ext, twins-level}
+use Rattle.table.proofs.Sameness.Twins.{Twin, Twins, bool-ext}
 use Rattle.table.specs.Answers.{is-no-room, refused, number-of, refusal-number}
 use Rattle.table.specs.Births.{birth, newborn}
 use Rattle.table.specs.Calls.{born, clone}
-use Rattle.table.specs.Claims.{KeepsSound}
-use Rattle.table.specs.Limits.{namespace-slots, no-slot, process-slots}
-use Rattle.table.specs.Pids.{free-slot, next-pid}
-use Rattle.table.specs.Read.{View, alive, below, dead, is-alive, is-dead, is-unborn, living, namespace-taken, seen, taken, unborn, view}
-use Rattle.table.specs.Sheet.{Name, Row, name, name-by, row}
-use Rattle.table.specs.Sound.{SoundTable, holds, unborn-namespace}
+use Rattle.table.specs.Limits.{process-slots}
+use Rattle.table.specs.Pids.{free-slot}
+use Rattle.table.specs.Read.{View, below, dead, is-dead, living, namespace-taken, taken, unborn, view}
+use Rattle.table.specs.Sheet.{Row, name, name-by, row}
+use Rattle.table.specs.Sound.{SoundTable}
 use Rattle.table.specs.Step.{make}
-use Rattle.table.specs.Tests.{_and_, _implies_, _or_, any, if_then_else_, one}
-use Rattle.table.specs.Sound as S
+use Rattle.table.specs.Tests.{_or_}
 use Rattle.table.specs.declared.Answer.the-variants.{Number}
 use Rattle.table.specs.declared.Call.the-variants.{Clone}
 use Rattle.table.specs.declared.Life.{Life}
@@ -161,21 +155,16 @@ pub no-room-right : (t u : Table) (s r : ℕ) (x : Outcome) → Kept t u s r x (
 unfolding refused is-no-room number-of refusal-number
 no-room-right t u s r x = inl (or-true (is-no-room (x .reply .answer)))
 
-module _ (keeps : KeepsSound) where
-  clone-cases : (t u : Table) (s r c d : ℕ) → Ready t u s r c d → SoundTable (clone t c .table) → SoundTable (clone u d .table) → Kept t u s r (clone t c) (clone u d)
-  unfolding clone
-  clone-cases t u s r c d w h g = go (dead (view t) (view t .children c)) refl (eqb (free-slot (view t)) process-slots) refl (eqb (free-slot (view u)) process-slots) refl
-    where
-      same : dead (view t) (view t .children c) ≡ dead (view u) (view u .children d)
-      same = deads t u s r c d w
+pub clone-same : MadeSame Clone
+unfolding MadeSame make clone
+clone-same t u s r c d w h g = go (dead (view t) (view t .children c)) refl (eqb (free-slot (view t)) process-slots) refl (eqb (free-slot (view u)) process-slots) refl
+  where
+    same : dead (view t) (view t .children c) ≡ dead (view u) (view u .children d)
+    same = deads t u s r c d w
 
-      go : (a : Bool) → dead (view t) (view t .children c) ≡ a → (b : Bool) → eqb (free-slot (view t)) process-slots ≡ b → (b′ : Bool) → eqb (free-slot (view u)) process-slots ≡ b′ → Kept t u s r (clone t c) (clone u d)
-      go true ea b eb b′ eb′ = rw (ea, sym same ∙ ea, clone) (both-refuse t u s r c d w Enomem)
-      go false ea true eb b′ eb′ = rw (ea, eb, clone) (no-room-left t u s r (clone u d))
-      go false ea false eb true eb′ = rw (sym same ∙ ea, eb′, clone) (no-room-right t u s r (clone t c))
-      go false ea false eb false eb′ =
-          rw (ea, sym same ∙ ea, eb, eb′, clone) (born-kept t u s r c d w ea (eqb-false _ _ eb) (eqb-false _ _ eb′) (rw (ea, eb, clone) at h) (rw (sym same ∙ ea, eb′, clone) at g))
-
-  pub clone-same : MadeSame Clone
-  unfolding MadeSame make
-  clone-same t u s r i j w = clone-cases t u s r i j w (made-sound keeps t i Clone (w .sound-t) (w .runs-t)) (made-sound keeps u j Clone (w .sound-u) (w .runs-u))
+    go : (a : Bool) → dead (view t) (view t .children c) ≡ a → (b : Bool) → eqb (free-slot (view t)) process-slots ≡ b → (b′ : Bool) → eqb (free-slot (view u)) process-slots ≡ b′ → Kept t u s r (clone t c) (clone u d)
+    go true ea b eb b′ eb′ = rw (ea, sym same ∙ ea, clone) (both-refuse t u s r c d w Enomem)
+    go false ea true eb b′ eb′ = rw (ea, eb, clone) (no-room-left t u s r (clone u d))
+    go false ea false eb true eb′ = rw (sym same ∙ ea, eb′, clone) (no-room-right t u s r (clone t c))
+    go false ea false eb false eb′ =
+        rw (ea, sym same ∙ ea, eb, eb′, clone) (born-kept t u s r c d w ea (eqb-false _ _ eb) (eqb-false _ _ eb′) (rw (ea, eb, clone) at h) (rw (sym same ∙ ea, eb′, clone) at g))

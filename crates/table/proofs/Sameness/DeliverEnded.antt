@@ -7,7 +7,6 @@ use Rattle.table.proofs.Sameness.EndSame.{end-of-init, end-of-member, f
 use Rattle.table.specs.Delivery.{act, action-on, deliver, with-pending}
 use Rattle.table.specs.Ends.{end}
 use Rattle.table.specs.Read.{is-init, living, process, view}
-use Rattle.table.specs.Records.{put}
 use Rattle.table.specs.declared.Action.{Action}
 use Rattle.table.specs.declared.Action.the-variants.{Finish, Nothing, Pend, Resume, Stop}
 use Rattle.table.specs.declared.End.{End}

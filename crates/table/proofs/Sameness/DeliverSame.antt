@@ -1,21 +1,21 @@
 -- Signals delivered to pairs of twins, one pair after the other.
-use Prim.Native.Nat.{ℕ, zero, suc, _<_, _≤_}
+use Prim.Native.Nat.{ℕ, _<_, _≤_}
 use native.Mathlib.Decide.{ℕ-discrete}
 use native.Mathlib.Omega.{arith}
 use mathlib.Core.Bool.{Bool, true, false, not, So, false≢true}
-use mathlib.Core.List.{List, [], _∷_}
-use mathlib.Core.Logic.{_⊎_, inl, inr, ⊎-elim}
+use mathlib.Core.List.{List, _∷_, []}
+use mathlib.Core.Logic.{_⊎_, inl, inr}
 use mathlib.Core.Path.{_≡_, refl, sym, _∙_, ap, ap₂, subst, subst₂}
-use borrow.Author.Tests.{eqb-true, eqb-false, eq-eqb, ne-eqb, le-leb, lt-ltb}
+use borrow.Author.Tests.{eqb-true, eq-eqb, le-leb, lt-ltb}
 use lib.Dec.{eqb}
-use lib.ListN.{length, length-set}
+use lib.ListN.{length}
 use Rattle.table.proofs.Sameness.Calls.{Shown, shown, same-put}
 use Rattle.table.proofs.Keeps.Deliver.{Good, action-good, act-sane}
 use Rattle.table.proofs.Keeps.InitKeeps.{Sane, sane}
 use Rattle.table.proofs.Laws.Facts.{Facts}
 use Rattle.table.proofs.Laws.Slots.{slot-lt, seen-taken, living-own-alive, living-taken, root-only, below-taken, own-taken, below-level, root-own, level-of-root}
-use Rattle.table.proofs.Sameness.Light.{relight, Placed, put-light, put-same, put-other}
-use Rattle.table.proofs.Laws.Quant.{left, right, both, isnt, or-false-left, or-false-right, isnt-not, or-true}
+use Rattle.table.proofs.Sameness.Light.{relight, Placed, put-light, put-other}
+use Rattle.table.proofs.Laws.Quant.{left, right, both, or-true}
 use Rattle.table.proofs.Sameness.Readers.{is-init-twins}
 use Rattle.table.proofs.Sameness.Same.{Same}
 use Rattle.table.proofs.Sameness.Targets.{Along}
@@ -23,19 +23,17 @@ use Rattle.table.proofs.Sameness.Twins.{Pair, Twin, Twins, flip-pair, f
 use Rattle.table.specs.Delivery.{act, action-on, default-action, deliver, deliver-all, resumed, with-pending}
 use Rattle.table.specs.Ends.{end}
 use Rattle.table.specs.Limits.{namespace-slots, process-slots, signals}
-use Rattle.table.specs.Read.{View, alive, below, init, is-ended, is-init, living, pid-at, pid-seen, process, seen, taken, view}
-use Rattle.table.specs.Records.{put, with-signals, with-state}
-use Rattle.table.specs.Sheet.{row}
+use Rattle.table.specs.Read.{View, alive, below, is-ended, is-init, living, pid-at, pid-seen, process, seen, taken, view}
+use Rattle.table.specs.Records.{put, with-state}
 use Rattle.table.specs.SignalSets.{has, with-signal}
 use Rattle.table.specs.Sound.{SoundTable, kept-end, shaped}
 use Rattle.table.specs.Tests.{_and_, _or_, if_then_else_}
 use Rattle.table.specs.declared.Action.{Action}
 use Rattle.table.specs.declared.Action.the-variants.{Finish, Nothing, Pend, Resume, Stop}
 use Rattle.table.specs.declared.End.{End}
-use Rattle.table.specs.declared.End.the-variants.{Exited, Signaled}
+use Rattle.table.specs.declared.End.the-variants.{Signaled}
 use Rattle.table.specs.declared.Process.{Process}
-use Rattle.table.specs.declared.State.{State}
-use Rattle.table.specs.declared.State.the-variants.{Running, Stopped, Ended}
+use Rattle.table.specs.declared.State.the-variants.{Running, Ended}
 use Rattle.table.specs.declared.Table.{Table}
 
 -- a table in the middle of a call

@@ -1,36 +1,29 @@
 -- The end of an init, on one table: what remains, and the lives of the namespaces.
-use Prim.Native.Nat.{ℕ, zero, suc, pred, _<_, _≤_}
+use Prim.Native.Nat.{ℕ, _<_, _≤_}
 use native.Mathlib.Omega.{arith}
-use native.Mathlib.Decide.{decLt, ℕ-discrete}
+use native.Mathlib.Decide.{decLt}
 use mathlib.Core.Bool.{Bool, true, false, not, So, false≢true}
-use mathlib.Core.Logic.{_⊎_, inl, inr, ⊎-elim}
-use mathlib.Core.Path.{_≡_, refl, sym, _∙_, ap, ap₂, subst, fun-ext}
-use borrow.Author.Tests.{eqb-true, eqb-false, eq-eqb, ne-eqb}
+use mathlib.Core.Path.{_≡_, refl, sym, _∙_, ap, subst, fun-ext}
+use borrow.Author.Tests.{ne-eqb}
 use lib.Dec.{eqb}
-use lib.ListN.{getD, length}
 use Rattle.table.proofs.Laws.ChangedTo.{changed-at, changed-past}
 use Rattle.table.proofs.Sameness.DeliverSame.{Fits}
 use Rattle.table.proofs.Laws.FrameEnd.{read-changed}
-use Rattle.table.proofs.Laws.Facts.{Facts}
-use Rattle.table.proofs.Laws.Slots.{slot-lt, namespace-lt, own-taken, seen-taken, parent-above, parent-living, living-taken, below-trans, init-own, child-seen, past-level}
-use Rattle.table.proofs.Laws.Quant.{left, right, both, and-false, true-and, isnt, isnt-not, given}
+use Rattle.table.proofs.Laws.Slots.{slot-lt, namespace-lt, own-taken, seen-taken, init-own, child-seen, past-level}
+use Rattle.table.proofs.Laws.Quant.{left, right, both, and-false, true-and, isnt-not}
 use Rattle.table.proofs.Sameness.Shape.{Shape}
 use Rattle.table.proofs.Sameness.Twins.{bool-ext}
-use Rattle.table.specs.Ends.{end, init-ends, namespace-dies}
+use Rattle.table.specs.Ends.{init-ends, namespace-dies}
 use Rattle.table.specs.Fresh.{empty-process}
-use Rattle.table.specs.Limits.{namespace-slots, no-slot, process-slots}
-use Rattle.table.specs.Read.{View, alive, below, climb, init, is-ended, is-init, living, namespace, no-namespace, no-process, pid-at, process, seen, taken, view}
+use Rattle.table.specs.Limits.{namespace-slots, process-slots}
+use Rattle.table.specs.Read.{alive, below, climb, init, is-ended, namespace, no-namespace, no-process, pid-at, process, seen, taken, view}
 use Rattle.table.specs.Records.{as-ended, changed, with-life}
-use Rattle.table.specs.Tests.{_and_, changed-to, if_then_else_}
-use Rattle.table.specs.Sound as S
+use Rattle.table.specs.Tests.{_and_, if_then_else_}
 use Rattle.table.specs.declared.End.{End}
-use Rattle.table.specs.declared.End.the-variants.{Exited, Signaled}
-use Rattle.table.specs.declared.Life.{Life}
-use Rattle.table.specs.declared.Life.the-variants.{Unborn, Alive, Dead}
+use Rattle.table.specs.declared.End.the-variants.{Signaled}
+use Rattle.table.specs.declared.Life.the-variants.{Dead}
 use Rattle.table.specs.declared.Namespace.{Namespace}
 use Rattle.table.specs.declared.Process.{Process}
-use Rattle.table.specs.declared.State.{State}
-use Rattle.table.specs.declared.State.the-variants.{Running, Stopped, Ended}
 use Rattle.table.specs.declared.Table.{Table}
 
 -- what an end makes of a process: by whether it is in the subtree, its parent is, it is the init, it had ended

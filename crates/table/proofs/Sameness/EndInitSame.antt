@@ -1,39 +1,32 @@
 -- The end of two twin inits, below S.
-use Prim.Native.Nat.{ℕ, zero, suc, pred, _-_, _<_, _≤_}
+use Prim.Native.Nat.{ℕ, suc, pred, _-_, _<_}
 use native.Mathlib.Omega.{arith}
-use native.Mathlib.Decide.{ℕ-discrete}
 use mathlib.Core.Bool.{Bool, true, false, not, So, false≢true}
-use mathlib.Core.List.{List}
-use mathlib.Core.Logic.{_⊎_, inl, inr, ⊎-elim}
 use mathlib.Core.Path.{_≡_, refl, sym, _∙_, ap, ap₂, subst, fun-ext}
-use borrow.Author.Tests.{eqb-true, eqb-false, eq-eqb, ne-eqb}
+use borrow.Author.Tests.{ne-eqb}
 use lib.Dec.{eqb}
 use Rattle.table.proofs.Sameness.Anchor.{anchor, is-unborn-name}
 use Rattle.table.proofs.Sameness.Calls.{shown}
-use Rattle.table.proofs.Sameness.DeliverSame.{Fits, Held, pair-of, Target, Onward}
-use Rattle.table.proofs.Sameness.EndInit.{ended-by, stays, not-seen-stays, fallen, process-at, left-as, fallen-shape, fallen-parent, fallen-lasts, fallen-lives, init-stays, parent-stays}
+use Rattle.table.proofs.Sameness.DeliverSame.{Fits, Held, pair-of}
+use Rattle.table.proofs.Sameness.EndInit.{ended-by, stays, fallen, process-at, fallen-shape, fallen-parent, fallen-lasts, fallen-lives, init-stays, parent-stays}
 use Rattle.table.proofs.Laws.Facts.{Facts}
-use Rattle.table.proofs.Laws.Slots.{slot-lt, seen-taken, seen-below, own-taken, below-trans, below-level, living-taken, init-own}
-use Rattle.table.proofs.Laws.Quant.{left, right, both, and-false, true-and, isnt, isnt-not, given}
+use Rattle.table.proofs.Laws.Slots.{slot-lt, seen-taken, seen-below, own-taken, below-trans}
+use Rattle.table.proofs.Laws.Quant.{right, both, true-and}
 use Rattle.table.proofs.Sameness.Readers.{twin-eqb}
 use Rattle.table.proofs.Sameness.Same.{Same}
-use Rattle.table.proofs.Sameness.Shape.{Shape, same-shape, twin-shape, pid-in-shape, seen-shape, below-shape, name-in, name-out}
-use Rattle.table.proofs.Sameness.Namespaces.{children-taken, children-below, name-unborn, unborn-outside, anchors-of, below-named, level-named, parent-in-twins, above-pid}
+use Rattle.table.proofs.Sameness.Shape.{Shape, same-shape, pid-in-shape, name-in, name-out}
+use Rattle.table.proofs.Sameness.Namespaces.{children-taken, children-below, name-unborn, unborn-outside, anchors-of, below-named, level-named, parent-in-twins}
 use Rattle.table.proofs.Sameness.SetChildrenSame.{name-no-slot}
 use Rattle.table.proofs.Sameness.Twins.{Pair, Twin, Twins, bool-ext, twin-rows, seen-twins, own-levels, owns, twins-level}
-use Rattle.table.specs.Fresh.{empty-process}
-use Rattle.table.specs.Limits.{levels, no-slot, process-slots}
-use Rattle.table.specs.Read.{View, alive, below, init, init-of, is-ended, is-init, living, namespace-taken, pid-in, pid-seen, process, seen, taken, unborn, view}
-use Rattle.table.specs.Records.{as-ended}
-use Rattle.table.specs.Sheet.{Name, Row, dead-at, name, row}
+use Rattle.table.specs.Limits.{levels, no-slot}
+use Rattle.table.specs.Read.{View, alive, below, init, init-of, is-ended, is-init, living, namespace-taken, pid-in, process, seen, taken, unborn, view}
+use Rattle.table.specs.Sheet.{Row, dead-at, name, row}
 use Rattle.table.specs.Tests.{_and_, if_then_else_, values}
 use Rattle.table.specs.Sound as S
 use Rattle.table.specs.declared.End.{End}
-use Rattle.table.specs.declared.End.the-variants.{Signaled}
 use Rattle.table.specs.declared.Life.{Life}
-use Rattle.table.specs.declared.Life.the-variants.{Unborn, Alive, Dead}
+use Rattle.table.specs.declared.Life.the-variants.{Dead}
 use Rattle.table.specs.declared.Process.{Process}
-use Rattle.table.specs.declared.State.{State}
 use Rattle.table.specs.declared.Table.{Table}
 
 -- ---- one table

@@ -11,7 +11,6 @@ use lib.Dec.{eqb}
 use lib.IntN.{ℤ}
 use lib.ListN.{getD, set, length, length-set, List·getD-eq-default}
 use lib.Seq.{getD-set-same, getD-set-other}
-use Rattle.table.proofs.Sameness.Calls.{made-sound}
 use Rattle.table.proofs.Sameness.DeliverSame.{Fits, fits-sound}
 use Rattle.table.proofs.Sameness.EndInit as I
 use Rattle.table.proofs.Sameness.EndMember as M
@@ -32,7 +31,6 @@ use Rattle.table.proofs.Sameness.SetChildrenSame.{everyone}
 use Rattle.table.proofs.Sameness.WaitLeaves.{untouched-made}
 use Rattle.table.specs.Answers.{answers, granted, is-refused, refused}
 use Rattle.table.specs.Calls.{exit, status}
-use Rattle.table.specs.Claims.{KeepsSound}
 use Rattle.table.specs.Ends.{end, namespace-dies}
 use Rattle.table.specs.Events.{at, follow, sheet-of}
 use Rattle.table.specs.Freeing.{freed, kept}
@@ -260,40 +258,39 @@ pub lives-on : (t u : Table) (s : ℕ) → ends-above t u (at s) ≡ false → (
 unfolding ends-above
 lives-on t u s h n l o b a k = false≢true (sym h ∙ any-intro _ _ n l (both _ _ (both _ _ (both _ _ (ap not (ne-eqb n s o)) b) a) (ap not k)))
 
-module _ (keeps : KeepsSound) where
-  pub exit-leaves : (z : ℤ) → MadeLeaves (Exit z)
-  unfolding MadeLeaves make exit answers granted refused is-refused touched
-  exit-leaves z t s i h hs k a = go (eqb i 0) refl (made-sound keeps t i (Exit z) h k)
-    where
-      go : (b : Bool) → eqb i 0 ≡ b → SoundTable (exit t i z .table) → sheet-of (exit t i z .table) (follow t (exit t i z .table) (at s)) ≡ sheet (view t) s
-      go true q g = rw (q, exit) (as-it-was t s hs)
-      go false q g =
-          rw (q, exit)
-          (freed-after t t₁ s h (end-fits t i e (fits-sound t h) li (eqb-false _ _ q) (remainder z)) (rw (q, exit) at g) hs (stands-still (view t) (view t₁) s (near (view t) s) (facts t h) still hs) (same-still (view t) (view t₁) s (near (view t) s) (facts t h) still))
-        where
-          e : End
-          e = Exited (status z)
+pub exit-leaves : (z : ℤ) → MadeLeaves (Exit z)
+unfolding MadeLeaves make exit answers granted refused is-refused touched
+exit-leaves z t s i h hs k a g = go (eqb i 0) refl g
+  where
+    go : (b : Bool) → eqb i 0 ≡ b → SoundTable (exit t i z .table) → sheet-of (exit t i z .table) (follow t (exit t i z .table) (at s)) ≡ sheet (view t) s
+    go true q g = rw (q, exit) (as-it-was t s hs)
+    go false q g =
+        rw (q, exit)
+        (freed-after t t₁ s h (end-fits t i e (fits-sound t h) li (eqb-false _ _ q) (remainder z)) (rw (q, exit) at g) hs (stands-still (view t) (view t₁) s (near (view t) s) (facts t h) still hs) (same-still (view t) (view t₁) s (near (view t) s) (facts t h) still))
+      where
+        e : End
+        e = Exited (status z)
 
-          t₁ : Table
-          t₁ = end t i e
+        t₁ : Table
+        t₁ = end t i e
 
-          li : So (living (view t) i)
-          li = runs-living t i k
+        li : So (living (view t) i)
+        li = runs-living t i k
 
-          o : seen (view t) s i ≡ false
-          o = outsider t s i (Exit z) a
+        o : seen (view t) s i ≡ false
+        o = outsider t s i (Exit z) a
 
-          no-touch : ends-above t (freed t₁) (at s) ≡ false
-          no-touch = untouched-made t s i (Exit z) h k a (answers (freed t₁) 0) (rw (q, exit) refl) refl
+        no-touch : ends-above t (freed t₁) (at s) ≡ false
+        no-touch = untouched-made t s i (Exit z) h k a (answers (freed t₁) 0) (rw (q, exit) refl) refl
 
-          own-not : view t .own i ≡ s → ⊥
-          own-not m = not-own t s i (living-taken (view t) (facts t h) i li) o m
+        own-not : view t .own i ≡ s → ⊥
+        own-not m = not-own t s i (living-taken (view t) (facts t h) i li) o m
 
-          not-above : So (is-init (view t) i) → below (view t) s (view t .own i) ≡ false
-          not-above m =
-              unlike _
-              (λ b. lives-on t (freed t₁) s no-touch (view t .own i) (namespace-lt (view t) (facts t h) _ (own-taken (view t) (facts t h) i (living-taken (view t) (facts t h) i li))) own-not b (living-own-alive (view t) (facts t h) i li)
-              (unlike _ (λ y. false≢true (sym (end-dies t (fits-sound t h) i e (living-taken (view t) (facts t h) i li) m) ∙ freed-back t₁ (view t .own i) y))))
+        not-above : So (is-init (view t) i) → below (view t) s (view t .own i) ≡ false
+        not-above m =
+            unlike _
+            (λ b. lives-on t (freed t₁) s no-touch (view t .own i) (namespace-lt (view t) (facts t h) _ (own-taken (view t) (facts t h) i (living-taken (view t) (facts t h) i li))) own-not b (living-own-alive (view t) (facts t h) i li)
+            (unlike _ (λ y. false≢true (sym (end-dies t (fits-sound t h) i e (living-taken (view t) (facts t h) i li) m) ∙ freed-back t₁ (view t .own i) y))))
 
-          still : Still (view t) (view t₁) s (near (view t) s)
-          still = end-still t (fits-sound t h) i e li s o not-above
+        still : Still (view t) (view t₁) s (near (view t) s)
+        still = end-still t (fits-sound t h) i e li s o not-above

@@ -1,28 +1,26 @@
 -- The end of two twins that are no inits.
-use Prim.Native.Nat.{ℕ, zero, suc, pred, _<_, _≤_}
+use Prim.Native.Nat.{ℕ, _<_}
 use native.Mathlib.Omega.{arith}
-use mathlib.Core.Bool.{Bool, true, false, not, So, false≢true}
-use mathlib.Core.Logic.{_⊎_, inl, inr, ⊎-elim}
-use mathlib.Core.Path.{_≡_, refl, sym, _∙_, ap, ap₂, subst, fun-ext}
+use mathlib.Core.Bool.{Bool, true, false, So, false≢true}
+use mathlib.Core.Logic.{_⊎_, inr, ⊎-elim}
+use mathlib.Core.Path.{_≡_, refl, sym, _∙_, ap, ap₂, subst}
 use lib.Dec.{eqb}
-use lib.ListN.{length}
 use Rattle.table.proofs.Sameness.Calls.{shown}
 use Rattle.table.proofs.Laws.ChangedTo.{changed-at}
 use Rattle.table.proofs.Sameness.DeliverSame.{Fits, Held, pair-of}
 use Rattle.table.proofs.Laws.FrameEnd.{read-changed}
-use Rattle.table.proofs.Laws.Facts.{Facts}
 use Rattle.table.proofs.Laws.Slots.{slot-lt, seen-taken, children-of, init-seen}
 use Rattle.table.proofs.Sameness.Readers.{twin-eqb, child-twins}
 use Rattle.table.proofs.Sameness.Remain.{Remain, Lit, same-remain, pid-in-remain, name-remain}
 use Rattle.table.proofs.Sameness.Same.{Same}
 use Rattle.table.proofs.Sameness.SetChildrenSame.{everyone, name-no-slot}
-use Rattle.table.proofs.Sameness.Twins.{Pair, Twin, Twins, twin-rows, owns, pid-in-seen}
+use Rattle.table.proofs.Sameness.Twins.{Pair, Twin, twin-rows, owns, pid-in-seen}
 use Rattle.table.specs.Ends.{member-ends}
 use Rattle.table.specs.Limits.{namespace-slots, no-slot, process-slots}
-use Rattle.table.specs.Read.{View, alive, child-of, init, is-init, namespace-taken, no-namespace, no-process, pid-at, pid-in, process, seen, taken, view}
+use Rattle.table.specs.Read.{alive, child-of, init, is-init, namespace-taken, no-namespace, no-process, pid-at, pid-in, process, taken, view}
 use Rattle.table.specs.Records.{as-ended, changed, with-parent}
 use Rattle.table.specs.Sheet.{Row, name, row}
-use Rattle.table.specs.Tests.{_and_, if_then_else_}
+use Rattle.table.specs.Tests.{if_then_else_}
 use Rattle.table.specs.declared.End.{End}
 use Rattle.table.specs.declared.Process.{Process}
 use Rattle.table.specs.declared.Table.{Table}

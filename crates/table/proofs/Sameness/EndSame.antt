@@ -1,40 +1,36 @@
 -- The end of two twins, inits or not: what a kill needs of it.
-use Prim.Native.Nat.{ℕ, zero, suc, pred, _<_, _≤_}
+use Prim.Native.Nat.{ℕ, _<_, _≤_}
 use native.Mathlib.Omega.{arith}
-use native.Mathlib.Decide.{ℕ-discrete, decLt}
+use native.Mathlib.Decide.{decLt}
 use mathlib.Core.Bool.{Bool, true, false, not, So, false≢true}
-use mathlib.Core.Logic.{_⊎_, inl, inr, ⊎-elim}
-use mathlib.Core.Path.{_≡_, refl, sym, _∙_, ap, ap₂, subst, subst₂, fun-ext}
-use borrow.Author.Tests.{eqb-true, eqb-false, eq-eqb, ne-eqb}
+use mathlib.Core.Logic.{inl, inr}
+use mathlib.Core.Path.{_≡_, refl, sym, _∙_, ap, subst₂, fun-ext}
+use borrow.Author.Tests.{eq-eqb}
 use lib.Dec.{eqb}
 use Rattle.table.proofs.Laws.ChangedTo.{changed-past}
 use Rattle.table.proofs.Sameness.DeliverSame.{Fits, fits-of, Held, pair-of, Target, Onward, EndSame, living-twins}
 use Rattle.table.proofs.Sameness.EndInit as I
-use Rattle.table.proofs.Sameness.EndInit.{ended-by, stays, fallen, fallen-shape, fallen-lives, fallen-gone, init-stays}
+use Rattle.table.proofs.Sameness.EndInit.{ended-by, stays, fallen, fallen-shape, fallen-lives, init-stays}
 use Rattle.table.proofs.Sameness.EndInitSame.{init-same, both-stay}
 use Rattle.table.proofs.Sameness.EndMember as M
 use Rattle.table.proofs.Sameness.EndMember.{without, member-same, member-remain, left-by}
 use Rattle.table.proofs.Keeps.InitKeeps.{end-sane}
 use Rattle.table.proofs.Laws.Facts.{Facts}
-use Rattle.table.proofs.Laws.Slots.{slot-lt, seen-taken, seen-below, below-level, below-same, living-own-alive, own-taken, alive-taken, root-own, level-of-root}
-use Rattle.table.proofs.Laws.Quant.{left, right, both, and-false, isnt}
+use Rattle.table.proofs.Laws.Slots.{seen-taken, seen-below, below-level, below-same, living-own-alive, root-own, level-of-root}
+use Rattle.table.proofs.Laws.Quant.{and-false}
 use Rattle.table.proofs.Sameness.Readers.{is-init-twins}
-use Rattle.table.proofs.Sameness.Remain.{Remain, seen-remain, pid-remain, below-remain}
-use Rattle.table.proofs.Sameness.Same.{Same}
+use Rattle.table.proofs.Sameness.Remain.{Remain}
 use Rattle.table.proofs.Sameness.Shape.{Shape, twin-shape, seen-shape, pid-shape, below-shape}
 use Rattle.table.proofs.Sameness.Namespaces.{above-pid}
 use Rattle.table.proofs.Sameness.SetChildrenSame.{everyone}
 use Rattle.table.proofs.Sameness.Twins.{Pair, Twin, Twins, bool-ext, owns, twins-level}
 use Rattle.table.specs.Ends.{end, init-ends, member-ends, namespace-dies}
-use Rattle.table.specs.Fresh.{empty-process}
-use Rattle.table.specs.Limits.{namespace-slots, process-slots}
+use Rattle.table.specs.Limits.{process-slots}
 use Rattle.table.specs.Read.{View, alive, below, child-of, init, init-of, is-alive, is-ended, is-init, living, no-process, pid-at, pid-seen, process, seen, taken, view}
-use Rattle.table.specs.Records.{as-ended, changed, with-parent}
+use Rattle.table.specs.Records.{changed}
 use Rattle.table.specs.Sound.{kept-end}
 use Rattle.table.specs.Tests.{_and_, if_then_else_}
 use Rattle.table.specs.declared.End.{End}
-use Rattle.table.specs.declared.End.the-variants.{Signaled}
-use Rattle.table.specs.declared.Life.{Life}
 use Rattle.table.specs.declared.Life.the-variants.{Dead}
 use Rattle.table.specs.declared.Process.{Process}
 use Rattle.table.specs.declared.State.the-variants.{Ended}

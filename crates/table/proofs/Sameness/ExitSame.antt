@@ -1,14 +1,14 @@
 -- exit, by twin callers: also by the init of S itself.
-use Prim.Native.Nat.{ℕ, zero, suc, pred, _<_, _≤_}
+use Prim.Native.Nat.{ℕ, suc, pred, _<_}
 use native.Mathlib.Omega.{arith}
 use native.Mathlib.Decide.{ℕ-discrete}
 use mathlib.Core.Bool.{Bool, true, false, not, So, false≢true}
-use mathlib.Core.Logic.{_⊎_, inl, inr, ⊎-elim}
+use mathlib.Core.Logic.{inr}
 use mathlib.Core.Path.{_≡_, refl, sym, _∙_, ap, ap₂, subst, subst₂}
-use borrow.Author.Tests.{eqb-true, eqb-false, eq-eqb, ne-eqb}
+use borrow.Author.Tests.{eqb-true, eqb-false, eq-eqb}
 use lib.Dec.{eqb}
-use lib.IntN.{ℤ, pos, negsuc}
-use Rattle.table.proofs.Sameness.Calls.{both-refuse, both-change, owns-twins, own-lives, made-sound, processes-length, namespaces-length, taken-s, taken-r}
+use lib.IntN.{ℤ}
+use Rattle.table.proofs.Sameness.Calls.{both-refuse, both-change, owns-twins, own-lives, taken-s, taken-r}
 use Rattle.table.proofs.Sameness.DeliverSame.{Fits, fits-sound, Held, pair-of, EndSame}
 use Rattle.table.proofs.Sameness.EndInit.{fallen, fallen-shape}
 use Rattle.table.proofs.Sameness.EndInitSame.{init-same}
@@ -16,27 +16,23 @@ use Rattle.table.proofs.Sameness.EndSame.{end-fits, end-same}
 use Rattle.table.proofs.Sameness.FreedRow.{freed-places}
 use Rattle.table.proofs.Sameness.Inside.{Kept, Ready, MadeSame}
 use Rattle.table.proofs.Laws.Facts.{Facts, facts}
-use Rattle.table.proofs.Laws.Slots.{seen-taken, seen-below, alive-taken, init-pid, init-own, root-own, root-only, level-of-root, below-level, below-same, pid-unique, up-level, alive-up, init-seen}
+use Rattle.table.proofs.Laws.Slots.{seen-below, alive-taken, init-pid, init-own, root-own, root-only, level-of-root, below-level, pid-unique, up-level, alive-up, init-seen}
 use Rattle.table.proofs.Keeps.MemberKeeps.{remainder}
-use Rattle.table.proofs.Laws.Quant.{left, right, both, isnt}
+use Rattle.table.proofs.Laws.Quant.{left, right, both}
 use Rattle.table.proofs.Sameness.Readers.{is-init-twins, pid-in-unseen}
 use Rattle.table.proofs.Sameness.Same.{Same}
 use Rattle.table.proofs.Laws.Tree.{below-refl}
 use Rattle.table.proofs.Sameness.SetChildrenSame.{same-freed-only, stands-freed}
-use Rattle.table.proofs.Sameness.Twins.{Pair, Twin, Twins, flip-pair, flip-twin, flip-twins, bool-ext, owns, twins-unique, twins-level}
-use Rattle.table.specs.Answers.{answers, granted, refused}
+use Rattle.table.proofs.Sameness.Twins.{Pair, Twin, Twins, flip-pair, flip-twin, bool-ext, twins-unique}
+use Rattle.table.specs.Answers.{answers, granted}
 use Rattle.table.specs.Calls.{exit, status}
-use Rattle.table.specs.Claims.{KeepsSound}
 use Rattle.table.specs.Ends.{end}
-use Rattle.table.specs.Events.{at, follow, sheet-of}
+use Rattle.table.specs.Events.{at}
 use Rattle.table.specs.Freeing.{freed}
-use Rattle.table.specs.Limits.{namespace-slots, process-slots}
-use Rattle.table.specs.Read.{View, alive, below, init, is-ended, is-init, is-running, living, namespace-taken, pid-in, pid-seen, seen, taken, view}
+use Rattle.table.specs.Read.{View, alive, init, is-ended, is-init, is-running, living, namespace-taken, pid-in, pid-seen, seen, view}
 use Rattle.table.specs.Sound.{SoundTable, kept-end}
 use Rattle.table.specs.Step.{make, runs}
-use Rattle.table.specs.Tests.{_and_, _or_, if_then_else_}
-use Rattle.table.specs.Sound as S
-use Rattle.table.specs.declared.Answer.the-variants.{Number}
+use Rattle.table.specs.Tests.{_or_}
 use Rattle.table.specs.declared.Call.the-variants.{Exit}
 use Rattle.table.specs.declared.End.{End}
 use Rattle.table.specs.declared.End.the-variants.{Exited}
@@ -108,79 +104,74 @@ init-positive v f c s i o n h = lt-of (λ z. n (sym (eqb-true _ _ i) ∙ ap (ini
     lt-of : (v .level s ≡ 0 → ⊥) → 0 < v .level s
     lt-of k = omega arith
 
-module _ (keeps : KeepsSound) where
-  module _ (t u : Table) (s r c d : ℕ) (w : Ready t u s r c d) (e : End) (ok : So (kept-end (Ended e))) where
-    held : Held t u s r s r
-    held =
-        record {
-          fits-t = fits-sound t (w .sound-t);
-          fits-u = fits-sound u (w .sound-u);
-          alive-s = w .pair .alive-v;
-          alive-r = w .pair .alive-u;
-          same = w .pair .same;
-          from = tops (view t) (view u) s r (w .pair);
-        }
+module _ (t u : Table) (s r c d : ℕ) (w : Ready t u s r c d) (e : End) (ok : So (kept-end (Ended e))) where
+  held : Held t u s r s r
+  held =
+      record {
+        fits-t = fits-sound t (w .sound-t);
+        fits-u = fits-sound u (w .sound-u);
+        alive-s = w .pair .alive-v;
+        alive-r = w .pair .alive-u;
+        same = w .pair .same;
+        from = tops (view t) (view u) s r (w .pair);
+      }
 
-    -- S lives on
-    lives-on : (So (is-init (view t) c) → view t .own c ≡ s → ⊥) → SoundTable (freed (end t c e)) → SoundTable (freed (end u d e)) → Kept t u s r (answers (freed (end t c e)) 0) (answers (freed (end u d e)) 0)
-    unfolding EndSame
-    lives-on other h g =
-        let (x, move) = end-same t u s r s r c d e held (w .twin) (w .twin .seen-v) (runs-living t c (w .runs-t)) ok other in
-        both-change t u s r c d w _ _ 0 0 refl h g (stands-freed (end t c e) (x .fits-t .facts) s (x .alive-s)) (stands-freed (end u d e) (x .fits-u .facts) r (x .alive-r)) (same-freed-only (end t c e) (end u d e) s r (pair-of (end t c e) (end u d e) s r s r x))
+  -- S lives on
+  lives-on : (So (is-init (view t) c) → view t .own c ≡ s → ⊥) → SoundTable (freed (end t c e)) → SoundTable (freed (end u d e)) → Kept t u s r (answers (freed (end t c e)) 0) (answers (freed (end u d e)) 0)
+  unfolding EndSame
+  lives-on other h g =
+      let (x, move) = end-same t u s r s r c d e held (w .twin) (w .twin .seen-v) (runs-living t c (w .runs-t)) ok other in
+      both-change t u s r c d w _ _ 0 0 refl h g (stands-freed (end t c e) (x .fits-t .facts) s (x .alive-s)) (stands-freed (end u d e) (x .fits-u .facts) r (x .alive-r)) (same-freed-only (end t c e) (end u d e) s r (pair-of (end t c e) (end u d e) s r s r x))
 
-    -- S's init ends
-    dies : So (is-init (view t) c) → view t .own c ≡ s → (c ≡ 0 → ⊥) → (d ≡ 0 → ⊥) → SoundTable (freed (end t c e)) → SoundTable (freed (end u d e)) → Kept t u s r (answers (freed (end t c e)) 0) (answers (freed (end u d e)) 0)
-    unfolding answers granted end
-    dies ic oc nc nd h g = inr (refl, rw (ic, id, end) (freed-places t u (fallen t (held .fits-t) c e) (fallen u (held .fits-u) d e) (ft .facts) (fu .facts) s r (ft .length-namespaces) (fu .length-namespaces) (rw (ic, end) at h) (rw (id, end) at g) (still-taken t (held .fits-t) c e s (taken-s t u s r c d w)) (still-taken u (held .fits-u) d e r (taken-r t u s r c d w)) (ap (λ (l : ℕ → ℕ). l s) (fallen-shape t (held .fits-t) c e .levels)) (ap (λ (l : ℕ → ℕ). l r) (fallen-shape u (held .fits-u) d e .levels)) same))
-      where
-        p : Pair (view t) (view u) s r
-        p = w .pair
-
-        id : So (is-init (view u) d)
-        id = sym (is-init-twins (view t) (view u) s r p c d (w .twin) (own-lives t u s r c d w)) ∙ ic
-
-        ft : Fits (fallen t (held .fits-t) c e)
-        ft = rw (ic, end) at (end-fits t c e (held .fits-t) (runs-living t c (w .runs-t)) nc ok)
-
-        fu : Fits (fallen u (held .fits-u) d e)
-        fu = rw (id, end) at (end-fits u d e (held .fits-u) (runs-living u d (w .runs-u)) nd ok)
-
-        same : Same (view (fallen t (held .fits-t) c e)) (view (fallen u (held .fits-u) d e)) s r
-        same = init-same t u s r s r held c d e (w .twin) (own-lives t u s r c d w) positive (unseen-above (view t) (w .pair .facts-v) s (view t .own c) (w .pair .alive-v) oc positive-s ∙ sym (unseen-above (view u) (w .pair .facts-u) r (view u .own d) (w .pair .alive-u) od positive-r))
-          where
-            od : view u .own d ≡ r
-            od = twins-unique (view t) (view u) s r (w .pair) _ _ s r (owns-twins t u s r c d w) (tops (view t) (view u) s r (w .pair)) oc
-
-            positive-s : 0 < view t .level s
-            positive-s = init-positive (view t) (w .pair .facts-v) c s ic oc nc (taken-s t u s r c d w)
-
-            positive-r : 0 < view u .level r
-            positive-r = omega (arith, positive-s, w .pair .same .levels)
-
-            positive : 0 < view t .level (view t .own c)
-            positive = omega (arith, positive-s, ap (view t .level) oc)
-
-  exit-cases : (z : ℤ) (t u : Table) (s r c d : ℕ) → Ready t u s r c d → SoundTable (exit t c z .table) → SoundTable (exit u d z .table) → Kept t u s r (exit t c z) (exit u d z)
-  unfolding exit answers granted
-  exit-cases z t u s r c d w h g = go (eqb c 0) refl
+  -- S's init ends
+  dies : So (is-init (view t) c) → view t .own c ≡ s → (c ≡ 0 → ⊥) → (d ≡ 0 → ⊥) → SoundTable (freed (end t c e)) → SoundTable (freed (end u d e)) → Kept t u s r (answers (freed (end t c e)) 0) (answers (freed (end u d e)) 0)
+  unfolding answers granted end
+  dies ic oc nc nd h g = inr (refl, rw (ic, id, end) (freed-places t u (fallen t (held .fits-t) c e) (fallen u (held .fits-u) d e) (ft .facts) (fu .facts) s r (ft .length-namespaces) (fu .length-namespaces) (rw (ic, end) at h) (rw (id, end) at g) (still-taken t (held .fits-t) c e s (taken-s t u s r c d w)) (still-taken u (held .fits-u) d e r (taken-r t u s r c d w)) (ap (λ (l : ℕ → ℕ). l s) (fallen-shape t (held .fits-t) c e .levels)) (ap (λ (l : ℕ → ℕ). l r) (fallen-shape u (held .fits-u) d e .levels)) same))
     where
-      zeros : eqb c 0 ≡ eqb d 0
-      zeros =
-          bool-ext _ _ (λ e. eq-eqb d 0 (zero-there (view t) (view u) s r (w .pair) c d (w .twin) (eqb-true c 0 e)))
-          (λ e. eq-eqb c 0 (zero-there (view u) (view t) r s (flip-pair (view t) (view u) s r (w .pair)) d c (flip-twin (view t) (view u) s r c d (w .twin)) (eqb-true d 0 e)))
+      p : Pair (view t) (view u) s r
+      p = w .pair
 
-      e : End
-      e = Exited (status z)
+      id : So (is-init (view u) d)
+      id = sym (is-init-twins (view t) (view u) s r p c d (w .twin) (own-lives t u s r c d w)) ∙ ic
 
-      ends : eqb c 0 ≡ false → Dec (view t .own c ≡ s) → (b : Bool) → is-init (view t) c ≡ b → SoundTable (freed (end t c e)) → SoundTable (freed (end u d e)) → Kept t u s r (answers (freed (end t c e)) 0) (answers (freed (end u d e)) 0)
-      ends n (yes o) true i a b = dies t u s r c d w e (remainder z) i o (eqb-false c 0 n) (eqb-false d 0 (sym zeros ∙ n)) a b
-      ends n (yes o) false i a b = lives-on t u s r c d w e (remainder z) (λ j q. false≢true (sym i ∙ j)) a b
-      ends n (no o) i j a b = lives-on t u s r c d w e (remainder z) (λ j q. o q) a b
+      ft : Fits (fallen t (held .fits-t) c e)
+      ft = rw (ic, end) at (end-fits t c e (held .fits-t) (runs-living t c (w .runs-t)) nc ok)
 
-      go : (b : Bool) → eqb c 0 ≡ b → Kept t u s r (exit t c z) (exit u d z)
-      go true n = rw (n, sym zeros ∙ n, exit) (both-refuse t u s r c d w Ebusy)
-      go false n = rw (n, sym zeros ∙ n, exit) (ends n (ℕ-discrete (view t .own c) s) (is-init (view t) c) refl (rw (n, exit) at h) (rw (sym zeros ∙ n, exit) at g))
+      fu : Fits (fallen u (held .fits-u) d e)
+      fu = rw (id, end) at (end-fits u d e (held .fits-u) (runs-living u d (w .runs-u)) nd ok)
 
-  pub exit-same : (z : ℤ) → MadeSame (Exit z)
-  unfolding MadeSame make
-  exit-same z t u s r i j w = exit-cases z t u s r i j w (made-sound keeps t i (Exit z) (w .sound-t) (w .runs-t)) (made-sound keeps u j (Exit z) (w .sound-u) (w .runs-u))
+      same : Same (view (fallen t (held .fits-t) c e)) (view (fallen u (held .fits-u) d e)) s r
+      same = init-same t u s r s r held c d e (w .twin) (own-lives t u s r c d w) positive (unseen-above (view t) (w .pair .facts-v) s (view t .own c) (w .pair .alive-v) oc positive-s ∙ sym (unseen-above (view u) (w .pair .facts-u) r (view u .own d) (w .pair .alive-u) od positive-r))
+        where
+          od : view u .own d ≡ r
+          od = twins-unique (view t) (view u) s r (w .pair) _ _ s r (owns-twins t u s r c d w) (tops (view t) (view u) s r (w .pair)) oc
+
+          positive-s : 0 < view t .level s
+          positive-s = init-positive (view t) (w .pair .facts-v) c s ic oc nc (taken-s t u s r c d w)
+
+          positive-r : 0 < view u .level r
+          positive-r = omega (arith, positive-s, w .pair .same .levels)
+
+          positive : 0 < view t .level (view t .own c)
+          positive = omega (arith, positive-s, ap (view t .level) oc)
+
+pub exit-same : (z : ℤ) → MadeSame (Exit z)
+unfolding MadeSame make exit answers granted
+exit-same z t u s r c d w h g = go (eqb c 0) refl
+  where
+    zeros : eqb c 0 ≡ eqb d 0
+    zeros =
+        bool-ext _ _ (λ e. eq-eqb d 0 (zero-there (view t) (view u) s r (w .pair) c d (w .twin) (eqb-true c 0 e)))
+        (λ e. eq-eqb c 0 (zero-there (view u) (view t) r s (flip-pair (view t) (view u) s r (w .pair)) d c (flip-twin (view t) (view u) s r c d (w .twin)) (eqb-true d 0 e)))
+
+    e : End
+    e = Exited (status z)
+
+    ends : eqb c 0 ≡ false → Dec (view t .own c ≡ s) → (b : Bool) → is-init (view t) c ≡ b → SoundTable (freed (end t c e)) → SoundTable (freed (end u d e)) → Kept t u s r (answers (freed (end t c e)) 0) (answers (freed (end u d e)) 0)
+    ends n (yes o) true i a b = dies t u s r c d w e (remainder z) i o (eqb-false c 0 n) (eqb-false d 0 (sym zeros ∙ n)) a b
+    ends n (yes o) false i a b = lives-on t u s r c d w e (remainder z) (λ j q. false≢true (sym i ∙ j)) a b
+    ends n (no o) i j a b = lives-on t u s r c d w e (remainder z) (λ j q. o q) a b
+
+    go : (b : Bool) → eqb c 0 ≡ b → Kept t u s r (exit t c z) (exit u d z)
+    go true n = rw (n, sym zeros ∙ n, exit) (both-refuse t u s r c d w Ebusy)
+    go false n = rw (n, sym zeros ∙ n, exit) (ends n (ℕ-discrete (view t .own c) s) (is-init (view t) c) refl (rw (n, exit) at h) (rw (sym zeros ∙ n, exit) at g))

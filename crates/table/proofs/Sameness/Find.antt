@@ -1,10 +1,10 @@
 -- Finding the process that a number names.
 use Prim.Native.Nat.{ℕ, zero, suc, _+_, _<_, _≤_}
-use native.Mathlib.Decide.{ℕ-discrete, decLt}
+use native.Mathlib.Decide.{ℕ-discrete}
 use native.Mathlib.Omega.{arith}
 use mathlib.Core.Bool.{Bool, true, false, So, false≢true}
-use mathlib.Core.List.{List, [], _∷_, map}
-use mathlib.Core.Logic.{_⊎_, inl, inr, ⊎-elim}
+use mathlib.Core.List.{[]}
+use mathlib.Core.Logic.{_⊎_, inl, inr}
 use mathlib.Core.Path.{_≡_, refl, sym, _∙_, ap, subst}
 use borrow.Author.Tests.{eq-eqb, eqb-true}
 use lib.Dec.{eqb}
@@ -15,7 +15,7 @@ use Rattle.table.proofs.Laws.Quant.{left, right, both}
 use Rattle.table.proofs.Sameness.Same.{Same, same-of-sheets, row-key, level-lt, key, seen-listed}
 use Rattle.table.specs.Limits.{levels, process-slots}
 use Rattle.table.specs.Read.{View, all-seen, find, namespace-taken, pid-seen, seen}
-use Rattle.table.specs.Sheet.{Row, row, sheet}
+use Rattle.table.specs.Sheet.{row, sheet}
 use Rattle.table.specs.Tests.{_and_, lowest}
 
 abbrev Lowest : (ℕ → Bool) → ℕ → ℕ → ℕ → Type 0

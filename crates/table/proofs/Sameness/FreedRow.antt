@@ -1,17 +1,16 @@
 -- Rows are the same after namespaces that nobody holds are freed; and where S then is.
-use Prim.Native.Nat.{ℕ, zero, suc, pred, _-_, _<_, _≤_}
+use Prim.Native.Nat.{ℕ, _<_}
 use native.Mathlib.Omega.{arith}
 use mathlib.Core.Bool.{Bool, true, false, not, So, false≢true}
-use mathlib.Core.List.{List, [], _∷_, map}
-use mathlib.Core.Logic.{_⊎_, inl, inr, ⊎-elim}
-use mathlib.Core.Path.{_≡_, refl, sym, _∙_, ap, ap₂, subst, fun-ext}
-use borrow.Author.Tests.{eqb-true, eq-eqb, ne-eqb}
+use mathlib.Core.List.{List, _∷_, map, []}
+use mathlib.Core.Logic.{inl, ⊎-elim}
+use mathlib.Core.Path.{_≡_, refl, sym, _∙_, ap, ap₂}
 use lib.Dec.{eqb}
 use lib.ListN.{length}
 use Rattle.table.proofs.Laws.ChangedTo.{changed-at}
-use Rattle.table.proofs.Sameness.FreedSame.{process-freed, namespace-freed, taken-freed, own-is-kept, children-is-kept, freed-remain}
+use Rattle.table.proofs.Sameness.FreedSame.{process-freed, namespace-freed, own-is-kept, children-is-kept, freed-remain}
 use Rattle.table.proofs.Laws.Facts.{Facts, facts}
-use Rattle.table.proofs.Laws.Slots.{slot-lt, namespace-lt, seen-taken, seen-below, own-taken, children-of, past-level}
+use Rattle.table.proofs.Laws.Slots.{slot-lt, namespace-lt, seen-taken, children-of, past-level}
 use Rattle.table.proofs.Laws.Lists.{In}
 use Rattle.table.proofs.Laws.Quant.{left, right, both, or-left, or-right, any-intro, or-false-left, false-or-false}
 use Rattle.table.proofs.Sameness.Remain.{Remain, lit, row-remain, seen-remain, pid-in-remain, name-remain, standing}
@@ -20,11 +19,11 @@ use Rattle.table.proofs.Sameness.SetChildrenSame.{everyone, light-remai
 use Rattle.table.specs.Events.{at, follow, gone, sheet-of}
 use Rattle.table.specs.Freeing.{freed, kept}
 use Rattle.table.specs.Fresh.{empty-namespace}
-use Rattle.table.specs.Limits.{namespace-slots, no-slot, process-slots}
-use Rattle.table.specs.Read.{View, all-seen, below, is-init, namespace, namespace-taken, no-namespace, pid-in, process, seen, taken, view}
-use Rattle.table.specs.Sheet.{Row, Sheet, name, row, sheet}
+use Rattle.table.specs.Limits.{namespace-slots, no-slot}
+use Rattle.table.specs.Read.{View, all-seen, is-init, namespace, namespace-taken, no-namespace, pid-in, process, seen, taken, view}
+use Rattle.table.specs.Sheet.{name, row, sheet}
 use Rattle.table.specs.Sound.{SoundTable}
-use Rattle.table.specs.Tests.{_and_, _or_, any, if_then_else_}
+use Rattle.table.specs.Tests.{_and_, _or_, if_then_else_}
 use Rattle.table.specs.declared.Table.{Table}
 
 pub zero-kept : (v : View) (s : ℕ) → kept v s ≡ false → eqb s 0 ≡ false

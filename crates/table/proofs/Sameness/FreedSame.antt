@@ -1,15 +1,15 @@
 -- After namespaces that nobody holds are freed, who remains stands as before.
-use Prim.Native.Nat.{ℕ, zero, suc, pred, _<_, _≤_}
+use Prim.Native.Nat.{ℕ, suc, _<_}
 use native.Mathlib.Omega.{arith}
 use mathlib.Core.Bool.{Bool, true, false, not, So, false≢true}
 use mathlib.Core.Logic.{_⊎_, inl, inr, ⊎-elim}
 use mathlib.Core.Path.{_≡_, refl, sym, _∙_, ap, subst}
-use borrow.Author.Tests.{eqb-true, eq-eqb}
+use borrow.Author.Tests.{eqb-true}
 use lib.Dec.{eqb}
 use Rattle.table.proofs.Sameness.Anchor.{up-below}
 use Rattle.table.proofs.Laws.ChangedTo.{changed-kept}
 use Rattle.table.proofs.Laws.Facts.{Facts}
-use Rattle.table.proofs.Laws.Slots.{slot-lt, own-taken, below-trans, not-root, level-of-root, past-level}
+use Rattle.table.proofs.Laws.Slots.{slot-lt, below-trans, not-root, past-level}
 use Rattle.table.proofs.Laws.Quant.{left, right, both, cases, or-left, or-right, any-elim, any-intro}
 use Rattle.table.proofs.Sameness.Remain.{Remain, below-remain, taken-remain}
 use Rattle.table.proofs.Laws.Tree.{below-refl}
@@ -17,8 +17,7 @@ use Rattle.table.specs.Freeing.{freed, kept}
 use Rattle.table.specs.Fresh.{empty-namespace}
 use Rattle.table.specs.Limits.{namespace-slots, no-slot, process-slots}
 use Rattle.table.specs.Read.{View, below, climb, namespace, no-namespace, no-process, pid-at, process, taken, view}
-use Rattle.table.specs.Records.{changed}
-use Rattle.table.specs.Tests.{_and_, _or_, any, changed-to, if_then_else_}
+use Rattle.table.specs.Tests.{_and_, _or_, if_then_else_}
 use Rattle.table.specs.declared.Table.{Table}
 
 pub process-freed : (t : Table) (i : ℕ) → process (freed t) i ≡ process t i

@@ -1,13 +1,13 @@
 -- Demand 3 from facts about single calls: `Sameness` follows from `KeepsSound`, `OutsideLeaves` and `InsideSame`.
-use Prim.Native.Nat.{ℕ, zero, suc}
+use Prim.Native.Nat.{ℕ}
 use mathlib.Core.Bool.{Bool, true, false, So, false≢true}
-use mathlib.Core.List.{List, [], _∷_}
+use mathlib.Core.List.{List, _∷_, []}
 use mathlib.Core.Logic.{_⊎_, inl, inr, ⊎-elim}
 use mathlib.Core.Option.{Option, none, some}
-use mathlib.Core.Path.{_≡_, refl, sym, _∙_, ap, ap₂, subst}
-use borrow.Author.Tests.{eq-eqb, ne-eqb, eqb-true}
-use lib.Dec.{eqb}
+use mathlib.Core.Path.{_≡_, refl, sym, _∙_, ap, subst}
+use borrow.Author.Tests.{eq-eqb, ne-eqb}
 use native.Mathlib.Omega.{arith}
+use Rattle.table.proofs.Keeps.Changes.{keeps-sound}
 use Rattle.table.proofs.Sameness.Find.{Callers, find-same, find-none}
 use Rattle.table.proofs.Laws.Quant.{left, right}
 use Rattle.table.proofs.Laws.Facts.{facts}
@@ -17,13 +17,12 @@ use Rattle.table.specs.Answers.{is-no-room}
 use Rattle.table.specs.Claims.{Agree, KeepsSound, Observed, OutsideLeaves, Sameness, observations, observe, lacks-room}
 use Rattle.table.specs.Events.{Event, Place, answer-of, at, follow, gone, happens, inside, inside-calls, next-place, next-table, outside, sheet-of, slot-of, table-after}
 use Rattle.table.specs.Limits.{process-slots}
-use Rattle.table.specs.Read.{alive, find, namespace-taken, pid-seen, seen, view}
+use Rattle.table.specs.Read.{find, namespace-taken, pid-seen, seen, view}
 use Rattle.table.specs.Sheet.{Sheet, sheet}
 use Rattle.table.specs.Sound.{SoundTable}
 use Rattle.table.specs.Step.{step}
-use Rattle.table.specs.Tests.{_and_, _or_, if_then_else_}
+use Rattle.table.specs.Tests.{_or_, if_then_else_}
 use Rattle.table.specs.Touches.{allowed, untouched}
-use Rattle.table.specs.declared.Answer.{Answer}
 use Rattle.table.specs.declared.Call.{Call}
 use Rattle.table.specs.declared.Outcome.{Outcome}
 use Rattle.table.specs.declared.Table.{Table}
@@ -70,10 +69,10 @@ unfolding follow
 follow-self t (gone l) h = refl
 follow-self t (at s) h = rw h
 
-module _ (keeps : KeepsSound) (leaves : OutsideLeaves) (same : InsideSame) where
+module _ (leaves : OutsideLeaves) (same : InsideSame) where
   step-sound : (t : Table) (i : ℕ) (c : Call) → SoundTable t → SoundTable (step t i c .table)
   unfolding KeepsSound
-  step-sound t i c h = keeps t i c h
+  step-sound t i c h = keeps-sound t i c h
 
   -- ---- outside calls
 

@@ -1,26 +1,24 @@
 -- A table with one more process: what is read of the others is what it was.
-use Prim.Native.Nat.{ℕ, zero, suc, pred, _+_, _-_, _<_, _≤_}
+use Prim.Native.Nat.{ℕ, zero, suc, pred, _-_, _<_}
 use native.Mathlib.Omega.{arith}
 use native.Mathlib.Decide.{ℕ-discrete}
 use mathlib.Core.Bool.{Bool, true, false, not, So, false≢true}
-use mathlib.Core.Logic.{_⊎_, inl, inr, ⊎-elim}
-use mathlib.Core.Path.{_≡_, refl, sym, _∙_, ap, ap₂, subst, fun-ext}
-use borrow.Author.Tests.{eqb-true, eq-eqb, ne-eqb, le-leb}
+use mathlib.Core.Path.{_≡_, refl, sym, _∙_, ap, ap₂}
+use borrow.Author.Tests.{ne-eqb, le-leb}
 use lib.Dec.{eqb, leb}
-use Rattle.table.proofs.Sameness.Anchor.{anchor, anchor-alive, up-below}
+use Rattle.table.proofs.Sameness.Anchor.{anchor, anchor-alive}
 use Rattle.table.proofs.Laws.Facts.{Facts}
-use Rattle.table.proofs.Laws.Slots.{up-level, up-taken, own-taken, own-not-unborn, seen-taken, namespace-lt, below-level, below-same, below-up-by, up-by-level, up-by-end, init-taken, alive-not-unborn, alive-taken, no-heirs}
-use Rattle.table.proofs.Laws.Quant.{left, right, both, and-false}
+use Rattle.table.proofs.Laws.Slots.{up-level, namespace-lt, below-level, below-same, below-up-by, up-by-level, up-by-end, init-taken, alive-not-unborn, no-heirs}
+use Rattle.table.proofs.Laws.Quant.{both}
 use Rattle.table.proofs.Laws.Tree.{below-refl}
 use Rattle.table.proofs.Sameness.Twins.{bool-ext, pid-in-seen}
 use Rattle.table.specs.Limits.{levels, no-slot, process-slots}
 use Rattle.table.specs.Pids.{next-pid}
-use Rattle.table.specs.Read.{View, above-at, alive, below, climb, dead, init, init-of, is-alive, is-init, is-unborn, namespace-taken, pid-in, pid-seen, seen, taken, unborn, up-by}
-use Rattle.table.specs.Sheet.{Name, Row, by-init, dead-at, name, name-by, nearest, nearest-alive, no-name, row, unborn-name}
-use Rattle.table.specs.Tests.{_and_, if_then_else_, values}
+use Rattle.table.specs.Read.{View, above-at, below, climb, init, init-of, is-alive, is-unborn, namespace-taken, pid-in, pid-seen, seen, taken, unborn, up-by}
+use Rattle.table.specs.Sheet.{by-init, dead-at, name, name-by, nearest, no-name, unborn-name}
+use Rattle.table.specs.Tests.{_and_, if_then_else_}
 use Rattle.table.specs.declared.Life.{Life}
 use Rattle.table.specs.declared.Life.the-variants.{Unborn, Alive, Dead}
-use Rattle.table.specs.declared.ProcSlot.{ProcSlot}
 
 -- v′ is v with a child at the slot k, in the namespace n
 pub record Grown (v v′ : View) (k n : ℕ) : Type 0 where

@@ -1,21 +1,21 @@
 -- `InsideSame` from a fact for each of the calls, made by running callers.
 use Prim.Native.Nat.{ℕ}
 use mathlib.Core.Bool.{Bool, true, false, not, So, false≢true}
-use mathlib.Core.Logic.{_⊎_, inl, inr, ⊎-elim}
-use mathlib.Core.Option.{Option, none, some}
-use mathlib.Core.Path.{_≡_, refl, sym, _∙_, ap, subst}
-use Rattle.table.proofs.Sameness.Glue.{InsideSame, after, follow-self}
-use Rattle.table.proofs.Laws.Facts.{Facts, facts}
-use Rattle.table.proofs.Laws.Slots.{seen-taken, seen-below, living-own-alive, alive-above, alive-taken}
+use mathlib.Core.Logic.{_⊎_, inr}
+use mathlib.Core.Path.{_≡_, refl, sym, _∙_, ap}
+use Rattle.table.proofs.Keeps.Changes.{make-sound}
+use Rattle.table.proofs.Sameness.Glue.{InsideSame, follow-self}
+use Rattle.table.proofs.Laws.Facts.{facts}
+use Rattle.table.proofs.Laws.Slots.{seen-taken, seen-below, living-own-alive, alive-above}
 use Rattle.table.proofs.Sameness.Find.{row-pid}
 use Rattle.table.proofs.Laws.Quant.{left, right, both}
 use Rattle.table.proofs.Sameness.Same.{Same, same-of-sheets, sheets-of-same, level-lt}
 use Rattle.table.proofs.Laws.Slots.{pid-unique}
 use Rattle.table.proofs.Laws.Steps.{step-made, step-refused}
-use Rattle.table.proofs.Sameness.Twins.{Pair, Twin, twin-rows}
+use Rattle.table.proofs.Sameness.Twins.{Pair, Twin}
 use Rattle.table.specs.Answers.{is-no-room, refused}
-use Rattle.table.specs.Events.{Place, at, follow, gone, sheet-of}
-use Rattle.table.specs.Read.{View, alive, is-ended, is-running, living, namespace-taken, pid-seen, seen, taken, view}
+use Rattle.table.specs.Events.{at, follow, sheet-of}
+use Rattle.table.specs.Read.{View, alive, is-ended, is-running, living, namespace-taken, seen, view}
 use Rattle.table.specs.Sheet.{Row, row, sheet}
 use Rattle.table.specs.Sound.{SoundTable}
 use Rattle.table.specs.Step.{make, runs, step}
@@ -45,7 +45,7 @@ pub record Ready (t u : Table) (s r i j : ℕ) : Type 0 where
 
 -- what is left to prove of a call
 unfoldable pub MadeSame : Call → Type 0
-MadeSame c = (t u : Table) (s r i j : ℕ) → Ready t u s r i j → Kept t u s r (make t i c) (make u j c)
+MadeSame c = (t u : Table) (s r i j : ℕ) → Ready t u s r i j → SoundTable (make t i c .table) → SoundTable (make u j c .table) → Kept t u s r (make t i c) (make u j c)
 
 -- a refusal by both
 pub refused-same : (t u : Table) (s r : ℕ) (e : Refusal) → So (namespace-taken (view t) s) → So (namespace-taken (view u) r) → sheet (view t) s ≡ sheet (view u) r → Kept t u s r (refused t e) (refused u e)
@@ -101,5 +101,6 @@ inside-same made t u s r i j c h g hs hr e a b n = go (runs (view t) i) refl
           twin = record { seen-v = a; seen-u = b; pids = n };
           runs-t = k;
           runs-u = sym both-run ∙ k;
-        }))
+        })
+        (make-sound t i c h k) (make-sound u j c g (sym both-run ∙ k)))
     go false k = rw (step-refused t i c h k, step-refused u j c g (sym both-run ∙ k)) (refused-same t u s r NotRunning hs hr e)

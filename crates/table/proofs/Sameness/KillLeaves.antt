@@ -1,15 +1,13 @@
 -- kill by an outsider: a signal to nobody of S, and no end of an init above S.
-use Prim.Native.Nat.{ℕ, pred, _<_}
-use native.Mathlib.Omega.{arith}
+use Prim.Native.Nat.{ℕ, _<_}
 use mathlib.Core.Bool.{Bool, true, false, not, So, false≢true}
-use mathlib.Core.List.{List, [], _∷_}
+use mathlib.Core.List.{List, _∷_, []}
 use mathlib.Core.Path.{_≡_, refl, sym, _∙_, ap, subst}
 use lib.Dec.{eqb}
 use lib.IntN.{ℤ}
 use lib.ListN.{length}
 use Rattle.table.proofs.Laws.Lists.{some-of-false}
 use Rattle.table.proofs.Sameness.BirthLeaves.{same-trans}
-use Rattle.table.proofs.Sameness.Calls.{made-sound}
 use Rattle.table.proofs.Keeps.Deliver.{Safe, deliver-sane}
 use Rattle.table.proofs.Sameness.DeliverEnded.{deliver-nothing, ended-end}
 use Rattle.table.proofs.Sameness.DeliverSame.{Fits, fits-of, fits-sound, not-living-put, resumed-placed}
@@ -28,7 +26,6 @@ use Rattle.table.proofs.Sameness.SetChildrenSame.{everyone, light-remai
 use Rattle.table.proofs.Sameness.WaitLeaves.{untouched-made}
 use Rattle.table.specs.Answers.{answers, granted, is-refused, refused}
 use Rattle.table.specs.Calls.{kill, names-group, natural, targets, within}
-use Rattle.table.specs.Claims.{KeepsSound}
 use Rattle.table.specs.Delivery.{act, action-on, deliver, deliver-all, with-pending}
 use Rattle.table.specs.Ends.{end}
 use Rattle.table.specs.Events.{at, follow, is-inside, sheet-of}
@@ -39,7 +36,7 @@ use Rattle.table.specs.Records.{put, with-state}
 use Rattle.table.specs.Sheet.{sheet}
 use Rattle.table.specs.Sound.{SoundTable}
 use Rattle.table.specs.Step.{make}
-use Rattle.table.specs.Tests.{_and_, _or_, if_then_else_, some-of}
+use Rattle.table.specs.Tests.{_and_, _or_, some-of}
 use Rattle.table.specs.Touches.{signals-into, touched}
 use Rattle.table.specs.declared.Action.{Action}
 use Rattle.table.specs.declared.Action.the-variants.{Finish, Nothing, Pend, Resume, Stop}
@@ -197,34 +194,33 @@ unfolding _and_
 sent true b e h = absurd (false≢true (sym e))
 sent false b e h = h
 
-module _ (keeps : KeepsSound) where
-  pub kill-leaves : (z n : ℤ) → MadeLeaves (Kill z n)
-  unfolding MadeLeaves make kill answers granted refused is-refused touched signals-into
-  kill-leaves z n t s i h hs k a = go (within 0 signals n) refl (names-group z) refl (eqb (length (targets (view t) i z)) 0) refl (made-sound keeps t i (Kill z n) h k)
-    where
-      xs : List ℕ
-      xs = targets (view t) i z
+pub kill-leaves : (z n : ℤ) → MadeLeaves (Kill z n)
+unfolding MadeLeaves make kill answers granted refused is-refused touched signals-into
+kill-leaves z n t s i h hs k a g = go (within 0 signals n) refl (names-group z) refl (eqb (length (targets (view t) i z)) 0) refl g
+  where
+    xs : List ℕ
+    xs = targets (view t) i z
 
-      t₁ : Table
-      t₁ = deliver-all t (view t .own i) xs (natural n)
+    t₁ : Table
+    t₁ = deliver-all t (view t .own i) xs (natural n)
 
-      done : natural n < signals → touched t (freed t₁) (at s) i (Kill z n) ≡ false → SoundTable (freed t₁) → (b : Bool) → eqb (natural n) 0 ≡ b → sheet-of (freed t₁) (follow t (freed t₁) (at s)) ≡ sheet (view t) s
-      done low o g true e =
-          let q = all-zero xs t (view t .own i) (natural n) e in
-          let w = start t s (fits-sound t h) hs in
-          subst (λ y. sheet-of (freed y) (follow t (freed y) (at s)) ≡ sheet (view t) s) (sym q) (freed-after t t s h (fits-sound t h) (subst (λ y. SoundTable (freed y)) q g) hs hs (w .same))
-      done low o g false e =
-          freed-after t t₁ s h (w .fits) g hs (w .stands) (w .same)
-        where
-          w : Going t t₁ s
-          w =
-              all-going (view t .own i) (natural n) low xs t t s (targets-safe (view t) (fits-sound t h .sane-of .facts) i z) (start t s (fits-sound t h) hs) (sent (eqb (natural n) 0) (some-of (λ j. is-inside t (at s) j and living (view t) j) xs) e (or-false-left _ _ o))
-              (λ m l c b d y. lives-on t (freed t₁) s (or-false-right _ _ o) m l c b d (unlike _ (λ v. false≢true (sym y ∙ freed-back t₁ m v))))
+    done : natural n < signals → touched t (freed t₁) (at s) i (Kill z n) ≡ false → SoundTable (freed t₁) → (b : Bool) → eqb (natural n) 0 ≡ b → sheet-of (freed t₁) (follow t (freed t₁) (at s)) ≡ sheet (view t) s
+    done low o g true e =
+        let q = all-zero xs t (view t .own i) (natural n) e in
+        let w = start t s (fits-sound t h) hs in
+        subst (λ y. sheet-of (freed y) (follow t (freed y) (at s)) ≡ sheet (view t) s) (sym q) (freed-after t t s h (fits-sound t h) (subst (λ y. SoundTable (freed y)) q g) hs hs (w .same))
+    done low o g false e =
+        freed-after t t₁ s h (w .fits) g hs (w .stands) (w .same)
+      where
+        w : Going t t₁ s
+        w =
+            all-going (view t .own i) (natural n) low xs t t s (targets-safe (view t) (fits-sound t h .sane-of .facts) i z) (start t s (fits-sound t h) hs) (sent (eqb (natural n) 0) (some-of (λ j. is-inside t (at s) j and living (view t) j) xs) e (or-false-left _ _ o))
+            (λ m l c b d y. lives-on t (freed t₁) s (or-false-right _ _ o) m l c b d (unlike _ (λ v. false≢true (sym y ∙ freed-back t₁ m v))))
 
-      go : (x : Bool) → within 0 signals n ≡ x → (y : Bool) → names-group z ≡ y → (b : Bool) → eqb (length (targets (view t) i z)) 0 ≡ b → SoundTable (kill t i z n .table) → sheet-of (kill t i z n .table) (follow t (kill t i z n .table) (at s)) ≡ sheet (view t) s
-      go false ea y eb b ec g = rw (ea, kill) (as-it-was t s hs)
-      go true ea true eb b ec g = rw (ea, eb, kill) (as-it-was t s hs)
-      go true ea false eb true ec g = rw (ea, eb, ec, kill) (as-it-was t s hs)
-      go true ea false eb false ec g =
-          rw (ea, eb, ec, kill)
-          (done (natural-low n ea) (untouched-made t s i (Kill z n) h k a (answers (freed t₁) 0) (rw (ea, eb, ec, kill) refl) refl) (rw (ea, eb, ec, kill) at g) (eqb (natural n) 0) refl)
+    go : (x : Bool) → within 0 signals n ≡ x → (y : Bool) → names-group z ≡ y → (b : Bool) → eqb (length (targets (view t) i z)) 0 ≡ b → SoundTable (kill t i z n .table) → sheet-of (kill t i z n .table) (follow t (kill t i z n .table) (at s)) ≡ sheet (view t) s
+    go false ea y eb b ec g = rw (ea, kill) (as-it-was t s hs)
+    go true ea true eb b ec g = rw (ea, eb, kill) (as-it-was t s hs)
+    go true ea false eb true ec g = rw (ea, eb, ec, kill) (as-it-was t s hs)
+    go true ea false eb false ec g =
+        rw (ea, eb, ec, kill)
+        (done (natural-low n ea) (untouched-made t s i (Kill z n) h k a (answers (freed t₁) 0) (rw (ea, eb, ec, kill) refl) refl) (rw (ea, eb, ec, kill) at g) (eqb (natural n) 0) refl)

@@ -1,41 +1,34 @@
 -- An outsider's call leaves the sheet: from rows that stay; and setns.
-use Prim.Native.Nat.{ℕ, zero, suc, _<_}
-use native.Mathlib.Omega.{arith}
-use mathlib.Core.Bool.{Bool, true, false, not, So, false≢true}
-use mathlib.Core.List.{[]}
-use mathlib.Core.Logic.{_⊎_, inl, inr, ⊎-elim}
-use mathlib.Core.Path.{_≡_, refl, sym, _∙_, ap, ap₂, subst}
-use borrow.Author.Tests.{eqb-true, eqb-false, eq-eqb, ne-eqb}
+use Prim.Native.Nat.{ℕ}
+use mathlib.Core.Bool.{Bool, true, false, So, false≢true}
+use mathlib.Core.Logic.{⊎-elim}
+use mathlib.Core.Path.{_≡_, refl, sym, _∙_, ap, subst}
 use lib.Dec.{eqb}
-use lib.IntN.{ℤ, pos, negsuc}
-use lib.ListN.{length, length-set}
-use Rattle.table.proofs.Sameness.Calls.{made-sound, processes-length, namespaces-length}
-use Rattle.table.proofs.Sameness.FreedSame.{process-freed, namespace-freed, own-is-kept, children-is-kept}
+use lib.IntN.{ℤ}
+use lib.ListN.{length}
+use Rattle.table.proofs.Sameness.Calls.{namespaces-length}
+use Rattle.table.proofs.Sameness.FreedSame.{process-freed, namespace-freed, children-is-kept}
 use Rattle.table.proofs.Sameness.FreedRow.{empty-sheet, freed-away}
 use Rattle.table.proofs.Laws.Facts.{Facts, facts}
 use Rattle.table.proofs.Laws.Slots.{slot-lt, namespace-lt, seen-taken, children-of}
 use Rattle.table.proofs.Sameness.Light.{relight, Placed, put-light, put-other}
 use Rattle.table.proofs.Sameness.Outside.{MadeLeaves, as-it-was, outsider}
-use Rattle.table.proofs.Laws.Quant.{left, right, both, or-left, or-right, any-intro, false-or-false}
+use Rattle.table.proofs.Laws.Quant.{left, right, both, or-left, or-right, any-intro}
 use Rattle.table.proofs.Sameness.Remain.{Remain, lit, row-remain, seen-remain, below-remain, taken-remain, pid-in-remain, name-remain, standing}
 use Rattle.table.proofs.Sameness.Same.{Same, sheets-of-same}
 use Rattle.table.proofs.Sameness.SetChildrenSame.{everyone, name-no-slot, K, remain-freed, light-remain}
 use Rattle.table.specs.Answers.{answers, granted, refused}
 use Rattle.table.specs.Calls.{named, set-children, setns}
-use Rattle.table.specs.Claims.{KeepsSound}
-use Rattle.table.specs.Events.{at, follow, gone, outside, sheet-of}
+use Rattle.table.specs.Events.{at, follow, sheet-of}
 use Rattle.table.specs.Freeing.{freed, kept}
-use Rattle.table.specs.Limits.{namespace-slots, no-slot, process-slots}
+use Rattle.table.specs.Limits.{process-slots}
 use Rattle.table.specs.Read.{View, below, is-init, namespace-taken, pid-in, process, seen, taken, view}
 use Rattle.table.specs.Records.{put, with-children}
-use Rattle.table.specs.Sheet.{Row, name, row, sheet}
+use Rattle.table.specs.Sheet.{name, row, sheet}
 use Rattle.table.specs.Sound.{SoundTable}
 use Rattle.table.specs.Step.{make}
-use Rattle.table.specs.Tests.{_and_, _or_, if_then_else_}
-use Rattle.table.specs.Touches.{allowed}
+use Rattle.table.specs.Tests.{_or_, if_then_else_}
 use Rattle.table.specs.declared.Call.the-variants.{Setns}
-use Rattle.table.specs.declared.Process.{Process}
-use Rattle.table.specs.declared.Refusal.the-variants.{Esrch}
 use Rattle.table.specs.declared.Table.{Table}
 
 -- S stands, and each row that was there is there, and no other
@@ -117,17 +110,16 @@ module _ (t : Table) (h : SoundTable t) (t₁ : Table) (p : view t₁ ≡ religh
           })
       go false ks = gone-leaves t (freed t₁) s (emptied ks) (λ i k. false≢true (sym ks ∙ seen-kept i k))
 
-module _ (keeps : KeepsSound) where
-  pub setns-leaves : (z : ℤ) → MadeLeaves (Setns z)
-  unfolding MadeLeaves make setns set-children answers granted refused
-  setns-leaves z t s i h hs k a = go (eqb (named (view t) i z) process-slots or view t .ended (named (view t) i z)) refl (made-sound keeps t i (Setns z) h k)
-    where
-      go : (b : Bool) → eqb (named (view t) i z) process-slots or view t .ended (named (view t) i z) ≡ b → SoundTable (make t i (Setns z) .table) → sheet-of (setns t i z .table) (follow t (setns t i z .table) (at s)) ≡ sheet (view t) s
-      go true e g = rw (e, setns) (as-it-was t s hs)
-      go false e g =
-          rw (e, setns)
-          (freed-leaves t h (put t i (with-children (process t i) (view t .own (named (view t) i z)) (process t i .unshared))) (put-light t i _ placed) refl s hs
-          (λ j m. put-other t i _ placed j (λ q. false≢true (sym (outsider t s i (Setns z) a) ∙ ap (seen (view t) s) (sym q) ∙ m))) (rw (e, setns) at g))
-        where
-          placed : Placed (with-children (process t i) (view t .own (named (view t) i z)) (process t i .unshared)) (process t i)
-          placed = record { owns = refl; parents = refl; pids = refl }
+pub setns-leaves : (z : ℤ) → MadeLeaves (Setns z)
+unfolding MadeLeaves make setns set-children answers granted refused
+setns-leaves z t s i h hs k a g = go (eqb (named (view t) i z) process-slots or view t .ended (named (view t) i z)) refl g
+  where
+    go : (b : Bool) → eqb (named (view t) i z) process-slots or view t .ended (named (view t) i z) ≡ b → SoundTable (make t i (Setns z) .table) → sheet-of (setns t i z .table) (follow t (setns t i z .table) (at s)) ≡ sheet (view t) s
+    go true e g = rw (e, setns) (as-it-was t s hs)
+    go false e g =
+        rw (e, setns)
+        (freed-leaves t h (put t i (with-children (process t i) (view t .own (named (view t) i z)) (process t i .unshared))) (put-light t i _ placed) refl s hs
+        (λ j m. put-other t i _ placed j (λ q. false≢true (sym (outsider t s i (Setns z) a) ∙ ap (seen (view t) s) (sym q) ∙ m))) (rw (e, setns) at g))
+      where
+        placed : Placed (with-children (process t i) (view t .own (named (view t) i z)) (process t i .unshared)) (process t i)
+        placed = record { owns = refl; parents = refl; pids = refl }

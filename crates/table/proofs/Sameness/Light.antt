@@ -1,28 +1,21 @@
 -- A change that leaves who is where: own namespaces, parents, numbers and all of the namespaces.
-use Prim.Native.Nat.{ℕ, zero, suc, _-_, _<_}
-use native.Mathlib.Omega.{arith}
-use native.Mathlib.Decide.{ℕ-discrete}
-use mathlib.Core.Bool.{Bool, true, false, not, So, false≢true}
-use mathlib.Core.List.{List, [], _∷_, map}
-use mathlib.Core.Logic.{_⊎_, inl, inr, ⊎-elim}
-use mathlib.Core.Path.{_≡_, refl, sym, _∙_, ap, ap₂, subst, fun-ext}
-use borrow.Author.Tests.{eqb-true}
+use Prim.Native.Nat.{ℕ, _-_, _<_}
+use mathlib.Core.Bool.{Bool, false, false≢true}
+use mathlib.Core.List.{List, _∷_, map, []}
+use mathlib.Core.Logic.{inl, inr}
+use mathlib.Core.Path.{_≡_, refl, sym, _∙_, ap, ap₂, fun-ext}
 use lib.Dec.{eqb}
-use lib.ListN.{getD, set, length}
+use lib.ListN.{getD, length}
 use lib.Seq.{getD-set-same, getD-set-other}
 use Rattle.table.proofs.Laws.Frame.{read-set}
-use Rattle.table.proofs.Laws.Facts.{Facts, facts}
-use Rattle.table.proofs.Laws.Slots.{slot-lt, seen-taken}
 use Rattle.table.proofs.Laws.Lists.{In}
-use Rattle.table.proofs.Laws.Quant.{left, right, both}
 use Rattle.table.proofs.Sameness.Same.{Same, listed-seen}
-use Rattle.table.proofs.Sameness.Twins.{Pair, Twin, twin-rows, twin-there, twin-unique, flip-pair, flip-twin}
-use Rattle.table.specs.Limits.{levels, no-slot, process-slots}
-use Rattle.table.specs.Read.{View, alive, all-seen, below, init, is-ended, is-init, namespace-taken, no-process, pid-at, pid-in, pid-seen, process, seen, taken, view}
+use Rattle.table.proofs.Sameness.Twins.{Pair, Twin, twin-rows, twin-there, flip-pair, flip-twin}
+use Rattle.table.specs.Limits.{levels, no-slot}
+use Rattle.table.specs.Read.{View, all-seen, below, init, is-init, no-process, pid-at, pid-in, pid-seen, process, seen, taken, view}
 use Rattle.table.specs.Records.{put}
-use Rattle.table.specs.Sheet.{Name, Row, Sheet, by-init, dead-at, name, name-by, nearest, nearest-alive, no-name, row, sheet}
-use Rattle.table.specs.Sound.{SoundTable, shaped}
-use Rattle.table.specs.Tests.{_and_, if_then_else_, values}
+use Rattle.table.specs.Sheet.{Name, Row, by-init, dead-at, name, name-by, nearest-alive, no-name, row, sheet}
+use Rattle.table.specs.Tests.{if_then_else_, values}
 use Rattle.table.specs.declared.Life.{Life}
 use Rattle.table.specs.declared.Life.the-variants.{Unborn, Alive, Dead}
 use Rattle.table.specs.declared.Process.{Process}

@@ -1,21 +1,16 @@
 -- The namespaces that twins hold for their children, and the subtree of a living one.
-use Prim.Native.Nat.{ℕ, zero, suc, pred, _<_, _≤_}
+use Prim.Native.Nat.{ℕ, _<_, _≤_}
 use native.Mathlib.Omega.{arith}
-use mathlib.Core.Bool.{Bool, true, false, not, So, false≢true}
-use mathlib.Core.Logic.{_⊎_, inl, inr, ⊎-elim}
-use mathlib.Core.Path.{_≡_, refl, sym, _∙_, ap, ap₂, subst, subst₂}
-use borrow.Author.Tests.{eqb-true, eq-eqb, ne-eqb}
-use lib.Dec.{eqb}
-use Rattle.table.proofs.Sameness.Anchor.{anchor, anchor-self, anchor-alive, anchor-below, anchor-least, is-by-init, is-unborn-name, is-dead-name, name-pid, name-taken, name-alive, name-anchor}
+use mathlib.Core.Bool.{Bool, true, false, So, false≢true}
+use mathlib.Core.Path.{_≡_, refl, sym, _∙_, ap, subst}
+use Rattle.table.proofs.Sameness.Anchor.{anchor, anchor-self, anchor-alive, anchor-below, anchor-least, is-by-init, is-unborn-name, name-pid, name-taken, name-alive, name-anchor}
 use Rattle.table.proofs.Laws.Facts.{Facts}
-use Rattle.table.proofs.Laws.Slots.{seen-taken, seen-below, living-taken, below-trans, below-level, below-same, below-parent, init-seen, alive-not-unborn, alive-otherwise}
-use Rattle.table.proofs.Laws.Quant.{left, right, both, given}
+use Rattle.table.proofs.Laws.Slots.{living-taken, below-trans, below-level, below-same, below-parent, init-seen, alive-not-unborn}
+use Rattle.table.proofs.Laws.Quant.{both}
 use Rattle.table.proofs.Sameness.Readers.{parent-seen, parent-twin, seen-above}
-use Rattle.table.proofs.Sameness.Twins.{Pair, Twin, Twins, flip-pair, flip-twin, flip-twins, bool-ext, pid-in-seen, twin-rows, below-twins, seen-twins, twins-up, twins-level}
-use Rattle.table.specs.Limits.{no-slot}
-use Rattle.table.specs.Read.{View, alive, below, dead, init, is-alive, is-dead, is-unborn, living, namespace-taken, pid-in, pid-seen, seen, taken, unborn}
-use Rattle.table.specs.Sheet.{Name, Row, by-init, dead-at, name, name-by, no-name, row, unborn-name}
-use Rattle.table.specs.Tests.{_and_, _implies_, if_then_else_}
+use Rattle.table.proofs.Sameness.Twins.{Pair, Twin, Twins, bool-ext, pid-in-seen, below-twins, seen-twins, twins-up, twins-level}
+use Rattle.table.specs.Read.{View, alive, below, init, is-alive, is-unborn, living, namespace-taken, pid-in, seen, unborn}
+use Rattle.table.specs.Sheet.{Name, by-init, dead-at, name, name-by, no-name, unborn-name}
 use Rattle.table.specs.Sound as S
 use Rattle.table.specs.declared.Life.{Life}
 use Rattle.table.specs.declared.Life.the-variants.{Unborn, Alive, Dead}

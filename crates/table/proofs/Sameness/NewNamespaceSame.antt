@@ -1,19 +1,16 @@
 -- A fresh namespace below the callers' own: unshare, and clone with a new one.
-use Prim.Native.Nat.{ℕ, zero, suc, _<_, _≤_}
+use Prim.Native.Nat.{ℕ, suc, _<_}
 use native.Mathlib.Omega.{arith}
-use native.Mathlib.Decide.{ℕ-discrete}
 use mathlib.Core.Bool.{Bool, true, false, not, So, false≢true}
-use mathlib.Core.Logic.{_⊎_, inl, inr, ⊎-elim}
-use mathlib.Core.Option.{some}
-use mathlib.Core.Path.{_≡_, refl, sym, _∙_, ap, ap₂, subst, subst₂}
-use borrow.Author.Tests.{eqb-true, eqb-false, eq-eqb, ne-eqb}
+use mathlib.Core.Logic.{inl, inr, ⊎-elim}
+use mathlib.Core.Path.{_≡_, refl, sym, _∙_, ap, subst, subst₂}
+use borrow.Author.Tests.{eqb-false, ne-eqb}
 use lib.Dec.{eqb}
-use lib.ListN.{length, length-set}
 use lib.Seq.{getD-set-same, getD-set-other}
-use Rattle.table.proofs.Sameness.BirthPids.{Cradles, Unborns}
+use Rattle.table.proofs.Sameness.BirthPids.{Cradles}
 use Rattle.table.proofs.Sameness.BirthSame.{birth-same}
 use Rattle.table.proofs.Sameness.BirthTable.{grown, lights, the-child}
-use Rattle.table.proofs.Sameness.Calls.{Shown, shown, both-refuse, both-change, owns-twins, own-lives, made-sound, processes-length, namespaces-length, taken-s, taken-r, the-rows, lt-t, lt-u}
+use Rattle.table.proofs.Sameness.Calls.{shown, both-refuse, both-change, owns-twins, own-lives}
 use Rattle.table.proofs.Sameness.CloneSame.{no-room-left, no-room-right, one-up}
 use Rattle.table.proofs.Keeps.Changes.{namespace-sane}
 use Rattle.table.proofs.Sameness.DeliverSame.{Fits, fits-of, fits-sound}
@@ -21,33 +18,29 @@ use Rattle.table.proofs.Sameness.ExitSame.{runs-living}
 use Rattle.table.proofs.Sameness.Find.{lowest-cases}
 use Rattle.table.proofs.Sameness.Inside.{Kept, Ready, MadeSame, stands-same}
 use Rattle.table.proofs.Laws.Facts.{Facts, facts}
-use Rattle.table.proofs.Laws.Slots.{seen-taken, seen-below, slot-lt, namespace-lt, own-taken, up-taken, alive-taken, children-of, below-trans}
+use Rattle.table.proofs.Laws.Slots.{seen-taken, slot-lt, own-taken, up-taken, alive-taken, children-of, below-trans}
 use Rattle.table.proofs.Sameness.Light.{Placed, put-light}
 use Rattle.table.proofs.Sameness.NextPid.{next-twins}
-use Rattle.table.proofs.Laws.Quant.{left, right, both, isnt, or-true, or-left, or-right, or-false-left, or-false-right}
-use Rattle.table.proofs.Sameness.Remain.{Remain, Lit, same-remain, standing, pid-in-remain, name-remain, seen-remain, pid-remain, below-remain}
-use Rattle.table.proofs.Sameness.Same.{Same}
-use Rattle.table.proofs.Laws.Tree.{below-refl}
+use Rattle.table.proofs.Laws.Quant.{isnt, or-right, or-false-left, or-false-right}
+use Rattle.table.proofs.Sameness.Remain.{Remain, Lit, same-remain, standing, pid-in-remain, name-remain, seen-remain, pid-remain}
 use Rattle.table.proofs.Sameness.SetChildrenSame.{everyone, name-no-slot, same-set-children, remain-set-children, alive-kept}
 use Rattle.table.proofs.Sameness.Twins.{Pair, Twin, Twins, twin-rows, twins-level, owns}
 use Rattle.table.proofs.Sameness.Anchor.{up-below}
-use Rattle.table.specs.Answers.{answers, granted, refused}
+use Rattle.table.specs.Answers.{answers, granted}
 use Rattle.table.specs.Births.{birth, newborn}
 use Rattle.table.specs.Calls.{born, clone-new, new-namespace, own-level, set-children, unshare}
-use Rattle.table.specs.Claims.{KeepsSound}
-use Rattle.table.specs.Freeing.{freed}
 use Rattle.table.specs.Limits.{deepest, namespace-slots, no-slot, process-slots}
-use Rattle.table.specs.Pids.{free-namespace-slot, free-slot, next-pid}
-use Rattle.table.specs.Read.{View, alive, below, init, is-alive, is-init, is-unborn, namespace, namespace-taken, no-namespace, pid-in, pid-seen, process, seen, taken, unborn, view}
-use Rattle.table.specs.Records.{put, put-namespace, to-pid, with-children}
+use Rattle.table.specs.Pids.{free-namespace-slot, free-slot}
+use Rattle.table.specs.Read.{View, alive, below, is-alive, is-init, is-unborn, namespace, namespace-taken, no-namespace, pid-in, process, taken, unborn, view}
+use Rattle.table.specs.Records.{put, to-pid, with-children}
 use Rattle.table.specs.Sheet.{Row, name, name-by, row, unborn-name}
 use Rattle.table.specs.Sound.{SoundTable}
 use Rattle.table.specs.Step.{make}
-use Rattle.table.specs.Tests.{_and_, _or_, if_then_else_, lowest}
+use Rattle.table.specs.Tests.{_or_, if_then_else_}
 use Rattle.table.specs.declared.Answer.the-variants.{Number}
 use Rattle.table.specs.declared.Call.the-variants.{CloneNew, Unshare}
 use Rattle.table.specs.declared.Life.the-variants.{Unborn}
-use Rattle.table.specs.declared.Refusal.the-variants.{Einval, Enospc, Eagain}
+use Rattle.table.specs.declared.Refusal.the-variants.{Einval, Enospc}
 use Rattle.table.specs.declared.Table.{Table}
 
 namespace-slot-free : (v : View) → (free-namespace-slot v ≡ namespace-slots → ⊥) → So (not (namespace-taken v (free-namespace-slot v))) × (free-namespace-slot v < namespace-slots)
@@ -262,48 +255,39 @@ module _ (t u : Table) (s r c d : ℕ) (w : Ready t u s r c d) (ot : own-level (
 
 -- ---- the two calls
 
-module _ (keeps : KeepsSound) where
-  levels-alike : (t u : Table) (s r c d : ℕ) → Ready t u s r c d → own-level (view t) c ≡ own-level (view u) d
-  levels-alike t u s r c d w = twins-level (view t) (view u) s r (w .pair) _ _ (owns-twins t u s r c d w)
+levels-alike : (t u : Table) (s r c d : ℕ) → Ready t u s r c d → own-level (view t) c ≡ own-level (view u) d
+levels-alike t u s r c d w = twins-level (view t) (view u) s r (w .pair) _ _ (owns-twins t u s r c d w)
 
-  unshare-cases : (t u : Table) (s r c d : ℕ) → Ready t u s r c d → SoundTable (unshare t c .table) → SoundTable (unshare u d .table) → Kept t u s r (unshare t c) (unshare u d)
-  unfolding unshare answers granted
-  unshare-cases t u s r c d w h g = go (process t c .unshared) refl (eqb (own-level (view t) c) deepest) refl (eqb (free-namespace-slot (view t)) namespace-slots) refl (eqb (free-namespace-slot (view u)) namespace-slots) refl
-    where
-      mark : process t c .unshared ≡ process u d .unshared
-      mark = shown t u s r (w .pair) c d (w .twin) .marks
+pub unshare-same : MadeSame Unshare
+unfolding MadeSame make unshare answers granted
+unshare-same t u s r c d w h g = go (process t c .unshared) refl (eqb (own-level (view t) c) deepest) refl (eqb (free-namespace-slot (view t)) namespace-slots) refl (eqb (free-namespace-slot (view u)) namespace-slots) refl
+  where
+    mark : process t c .unshared ≡ process u d .unshared
+    mark = shown t u s r (w .pair) c d (w .twin) .marks
 
-      deep : eqb (own-level (view t) c) deepest ≡ eqb (own-level (view u) d) deepest
-      deep = ap (λ n. eqb n deepest) (levels-alike t u s r c d w)
+    deep : eqb (own-level (view t) c) deepest ≡ eqb (own-level (view u) d) deepest
+    deep = ap (λ n. eqb n deepest) (levels-alike t u s r c d w)
 
-      go : (m : Bool) → process t c .unshared ≡ m → (a : Bool) → eqb (own-level (view t) c) deepest ≡ a → (b : Bool) → eqb (free-namespace-slot (view t)) namespace-slots ≡ b → (b′ : Bool) → eqb (free-namespace-slot (view u)) namespace-slots ≡ b′ → Kept t u s r (unshare t c) (unshare u d)
-      go true em a ea b eb b′ eb′ = rw (em, sym mark ∙ em, unshare) (both-refuse t u s r c d w Einval)
-      go false em true ea b eb b′ eb′ = rw (em, sym mark ∙ em, ea, sym deep ∙ ea, unshare) (both-refuse t u s r c d w Enospc)
-      go false em false ea true eb b′ eb′ = rw (em, ea, eb, unshare) (no-room-left t u s r (unshare u d))
-      go false em false ea false eb true eb′ = rw (sym mark ∙ em, sym deep ∙ ea, eb′, unshare) (no-room-right t u s r (unshare t c))
-      go false em false ea false eb false eb′ =
-          rw (em, sym mark ∙ em, ea, sym deep ∙ ea, eb, eb′, unshare)
-          (unshared-kept t u s r c d w (eqb-false _ _ ea) (eqb-false _ _ (sym deep ∙ ea)) (eqb-false _ _ eb) (eqb-false _ _ eb′) (rw (em, ea, eb, unshare) at h) (rw (sym mark ∙ em, sym deep ∙ ea, eb′, unshare) at g))
+    go : (m : Bool) → process t c .unshared ≡ m → (a : Bool) → eqb (own-level (view t) c) deepest ≡ a → (b : Bool) → eqb (free-namespace-slot (view t)) namespace-slots ≡ b → (b′ : Bool) → eqb (free-namespace-slot (view u)) namespace-slots ≡ b′ → Kept t u s r (unshare t c) (unshare u d)
+    go true em a ea b eb b′ eb′ = rw (em, sym mark ∙ em, unshare) (both-refuse t u s r c d w Einval)
+    go false em true ea b eb b′ eb′ = rw (em, sym mark ∙ em, ea, sym deep ∙ ea, unshare) (both-refuse t u s r c d w Enospc)
+    go false em false ea true eb b′ eb′ = rw (em, ea, eb, unshare) (no-room-left t u s r (unshare u d))
+    go false em false ea false eb true eb′ = rw (sym mark ∙ em, sym deep ∙ ea, eb′, unshare) (no-room-right t u s r (unshare t c))
+    go false em false ea false eb false eb′ =
+        rw (em, sym mark ∙ em, ea, sym deep ∙ ea, eb, eb′, unshare)
+        (unshared-kept t u s r c d w (eqb-false _ _ ea) (eqb-false _ _ (sym deep ∙ ea)) (eqb-false _ _ eb) (eqb-false _ _ eb′) (rw (em, ea, eb, unshare) at h) (rw (sym mark ∙ em, sym deep ∙ ea, eb′, unshare) at g))
 
-  pub unshare-same : MadeSame Unshare
-  unfolding MadeSame make
-  unshare-same t u s r i j w = unshare-cases t u s r i j w (made-sound keeps t i Unshare (w .sound-t) (w .runs-t)) (made-sound keeps u j Unshare (w .sound-u) (w .runs-u))
+pub clone-new-same : MadeSame CloneNew
+unfolding MadeSame make clone-new
+clone-new-same t u s r c d w h g = go (eqb (own-level (view t) c) deepest) refl (eqb (free-slot (view t)) process-slots or eqb (free-namespace-slot (view t)) namespace-slots) refl (eqb (free-slot (view u)) process-slots or eqb (free-namespace-slot (view u)) namespace-slots) refl
+  where
+    deep : eqb (own-level (view t) c) deepest ≡ eqb (own-level (view u) d) deepest
+    deep = ap (λ n. eqb n deepest) (levels-alike t u s r c d w)
 
-  clone-new-cases : (t u : Table) (s r c d : ℕ) → Ready t u s r c d → SoundTable (clone-new t c .table) → SoundTable (clone-new u d .table) → Kept t u s r (clone-new t c) (clone-new u d)
-  unfolding clone-new
-  clone-new-cases t u s r c d w h g = go (eqb (own-level (view t) c) deepest) refl (eqb (free-slot (view t)) process-slots or eqb (free-namespace-slot (view t)) namespace-slots) refl (eqb (free-slot (view u)) process-slots or eqb (free-namespace-slot (view u)) namespace-slots) refl
-    where
-      deep : eqb (own-level (view t) c) deepest ≡ eqb (own-level (view u) d) deepest
-      deep = ap (λ n. eqb n deepest) (levels-alike t u s r c d w)
-
-      go : (a : Bool) → eqb (own-level (view t) c) deepest ≡ a → (b : Bool) → eqb (free-slot (view t)) process-slots or eqb (free-namespace-slot (view t)) namespace-slots ≡ b → (b′ : Bool) → eqb (free-slot (view u)) process-slots or eqb (free-namespace-slot (view u)) namespace-slots ≡ b′ → Kept t u s r (clone-new t c) (clone-new u d)
-      go true ea b eb b′ eb′ = rw (ea, sym deep ∙ ea, clone-new) (both-refuse t u s r c d w Enospc)
-      go false ea true eb b′ eb′ = rw (ea, eb, clone-new) (no-room-left t u s r (clone-new u d))
-      go false ea false eb true eb′ = rw (sym deep ∙ ea, eb′, clone-new) (no-room-right t u s r (clone-new t c))
-      go false ea false eb false eb′ =
-          rw (ea, sym deep ∙ ea, eb, eb′, clone-new)
-          (cloned-kept t u s r c d w (eqb-false _ _ ea) (eqb-false _ _ (sym deep ∙ ea)) (eqb-false _ _ (or-false-right _ _ eb)) (eqb-false _ _ (or-false-right _ _ eb′)) (eqb-false _ _ (or-false-left _ _ eb)) (eqb-false _ _ (or-false-left _ _ eb′)) (rw (ea, eb, clone-new) at h) (rw (sym deep ∙ ea, eb′, clone-new) at g))
-
-  pub clone-new-same : MadeSame CloneNew
-  unfolding MadeSame make
-  clone-new-same t u s r i j w = clone-new-cases t u s r i j w (made-sound keeps t i CloneNew (w .sound-t) (w .runs-t)) (made-sound keeps u j CloneNew (w .sound-u) (w .runs-u))
+    go : (a : Bool) → eqb (own-level (view t) c) deepest ≡ a → (b : Bool) → eqb (free-slot (view t)) process-slots or eqb (free-namespace-slot (view t)) namespace-slots ≡ b → (b′ : Bool) → eqb (free-slot (view u)) process-slots or eqb (free-namespace-slot (view u)) namespace-slots ≡ b′ → Kept t u s r (clone-new t c) (clone-new u d)
+    go true ea b eb b′ eb′ = rw (ea, sym deep ∙ ea, clone-new) (both-refuse t u s r c d w Enospc)
+    go false ea true eb b′ eb′ = rw (ea, eb, clone-new) (no-room-left t u s r (clone-new u d))
+    go false ea false eb true eb′ = rw (sym deep ∙ ea, eb′, clone-new) (no-room-right t u s r (clone-new t c))
+    go false ea false eb false eb′ =
+        rw (ea, sym deep ∙ ea, eb, eb′, clone-new)
+        (cloned-kept t u s r c d w (eqb-false _ _ ea) (eqb-false _ _ (sym deep ∙ ea)) (eqb-false _ _ (or-false-right _ _ eb)) (eqb-false _ _ (or-false-right _ _ eb′)) (eqb-false _ _ (or-false-left _ _ eb)) (eqb-false _ _ (or-false-left _ _ eb′)) (rw (ea, eb, clone-new) at h) (rw (sym deep ∙ ea, eb′, clone-new) at g))

@@ -1,15 +1,14 @@
 -- The next number in two twin namespaces is the same.
-use Prim.Native.Nat.{ℕ, zero, suc, _-_, _<_, _≤_}
-use native.Mathlib.Omega.{arith}
-use mathlib.Core.Bool.{Bool, true, false, not, So, false≢true}
-use mathlib.Core.Path.{_≡_, refl, sym, _∙_, ap, ap₂, subst, fun-ext}
+use Prim.Native.Nat.{ℕ, suc, _-_}
+use mathlib.Core.Bool.{Bool, not, So}
+use mathlib.Core.Path.{_≡_, refl, sym, _∙_, ap, ap₂, fun-ext}
 use borrow.Author.Tests.{eq-eqb, eqb-true}
 use lib.Dec.{eqb, leb}
 use Rattle.table.proofs.Laws.Facts.{Facts}
 use Rattle.table.proofs.Laws.Slots.{slot-lt, seen-taken, init-own}
 use Rattle.table.proofs.Laws.Quant.{left, right, both, any-elim, any-intro}
 use Rattle.table.proofs.Sameness.Readers.{seen-above}
-use Rattle.table.proofs.Sameness.Twins.{Pair, Twin, Twins, flip-pair, flip-twins, bool-ext, twin-there, twin-rows, seen-twins, pid-twins, inits-twin}
+use Rattle.table.proofs.Sameness.Twins.{Pair, Twins, flip-pair, flip-twins, bool-ext, twin-there, twin-rows, seen-twins, pid-twins, inits-twin}
 use Rattle.table.specs.Limits.{greatest-pid, process-slots, restart-pid}
 use Rattle.table.specs.Pids.{free-pid, next-pid}
 use Rattle.table.specs.Read.{View, alive, init, is-init, pid-seen, seen}

@@ -1,36 +1,35 @@
 -- Calls by an outsider that leave who is where: the sheet stays.
-use Prim.Native.Nat.{ℕ, zero, suc, pred}
-use mathlib.Core.Bool.{Bool, true, false, not, So, false≢true}
-use mathlib.Core.Path.{_≡_, refl, sym, _∙_, ap, subst}
+use Prim.Native.Nat.{ℕ}
+use mathlib.Core.Bool.{Bool, true, false, not, So}
+use mathlib.Core.Path.{_≡_, refl}
 use lib.Dec.{eqb}
-use lib.IntN.{ℤ, pos, negsuc}
+use lib.IntN.{ℤ}
+use Rattle.table.proofs.Keeps.Changes.{make-sound}
 use Rattle.table.proofs.Sameness.Glue.{follow-self}
-use Rattle.table.proofs.Sameness.Light.{Placed, put-outside}
-use Rattle.table.proofs.Laws.Quant.{left, right, isnt}
+use Rattle.table.proofs.Sameness.Light.{put-outside}
+use Rattle.table.proofs.Laws.Quant.{left, isnt}
 use Rattle.table.proofs.Laws.Steps.{step-made, step-refused}
 use Rattle.table.specs.Answers.{answers, granted, refused}
 use Rattle.table.specs.Calls.{getpid, getppid, handle, handle-off, handle-on, natural, poll, within}
 use Rattle.table.specs.Claims.{OutsideLeaves}
-use Rattle.table.specs.Events.{Place, at, follow, gone, happens, is-inside, next-place, next-table, outside, sheet-of, table-after}
-use Rattle.table.specs.Limits.{process-slots, signals, sigkill, sigstop}
-use Rattle.table.specs.Read.{View, namespace-taken, process, seen, view}
+use Rattle.table.specs.Events.{at, follow, happens, is-inside, outside, sheet-of, table-after}
+use Rattle.table.specs.Limits.{signals, sigkill, sigstop}
+use Rattle.table.specs.Read.{namespace-taken, process, seen, view}
 use Rattle.table.specs.Records.{put, with-signals}
 use Rattle.table.specs.Sheet.{sheet}
-use Rattle.table.specs.SignalSets.{lowest-signal, with-signal, without-signal}
+use Rattle.table.specs.SignalSets.{lowest-signal}
 use Rattle.table.specs.Sound.{SoundTable}
 use Rattle.table.specs.Step.{make, runs, step}
-use Rattle.table.specs.Tests.{_and_, _or_, if_then_else_}
-use Rattle.table.specs.Touches.{allowed, touches}
+use Rattle.table.specs.Tests.{_or_}
+use Rattle.table.specs.Touches.{allowed}
 use Rattle.table.specs.declared.Call.{Call}
 use Rattle.table.specs.declared.Call.the-variants.{Getpid, Getppid, Handle, Poll}
-use Rattle.table.specs.declared.Process.{Process}
-use Rattle.table.specs.declared.Refusal.the-variants.{NotRunning, Einval}
 use Rattle.table.specs.declared.Table.{Table}
 
 -- what is to prove of a call made by a running outsider
 unfoldable pub MadeLeaves : Call → Type 0
 MadeLeaves c =
-    (t : Table) (s i : ℕ) → SoundTable t → So (namespace-taken (view t) s) → So (runs (view t) i) → So (allowed t (at s) (outside i c))
+    (t : Table) (s i : ℕ) → SoundTable t → So (namespace-taken (view t) s) → So (runs (view t) i) → So (allowed t (at s) (outside i c)) → SoundTable (make t i c .table)
     → sheet-of (make t i c .table) (follow t (make t i c .table) (at s)) ≡ sheet (view t) s
 
 -- the table as it was
@@ -43,7 +42,7 @@ unfolding OutsideLeaves MadeLeaves happens table-after refused
 outside-leaves made t s i c h hs a = go (runs (view t) i) refl
   where
     go : (b : Bool) → runs (view t) i ≡ b → sheet-of (step t i c .table) (follow t (step t i c .table) (at s)) ≡ sheet (view t) s
-    go true k = rw (step-made t i c h k) (made c t s i h hs k a)
+    go true k = rw (step-made t i c h k) (made c t s i h hs k a (make-sound t i c h k))
     go false k = rw (step-refused t i c h k) (as-it-was t s hs)
 
 -- the caller is not of the subtree
@@ -57,15 +56,15 @@ signals-leave t s i a b h o = rw h (put-outside t s i (with-signals (process t i
 
 pub getpid-leaves : MadeLeaves Getpid
 unfolding MadeLeaves make getpid answers granted
-getpid-leaves t s i h hs k a = as-it-was t s hs
+getpid-leaves t s i h hs k a g = as-it-was t s hs
 
 pub getppid-leaves : MadeLeaves Getppid
 unfolding MadeLeaves make getppid answers granted
-getppid-leaves t s i h hs k a = as-it-was t s hs
+getppid-leaves t s i h hs k a g = as-it-was t s hs
 
 pub handle-leaves : (z : ℤ) (on : Bool) → MadeLeaves (Handle z on)
 unfolding MadeLeaves make handle handle-on handle-off answers granted refused
-handle-leaves z on t s i h hs k a = go (not (within 1 signals z) or eqb (natural z) sigkill or eqb (natural z) sigstop) refl on refl
+handle-leaves z on t s i h hs k a g = go (not (within 1 signals z) or eqb (natural z) sigkill or eqb (natural z) sigstop) refl on refl
   where
     go : (b : Bool) → not (within 1 signals z) or eqb (natural z) sigkill or eqb (natural z) sigstop ≡ b → (o : Bool) → on ≡ o → sheet-of (handle t i z on .table) (follow t (handle t i z on .table) (at s)) ≡ sheet (view t) s
     go true e o q = rw (e, handle) (as-it-was t s hs)
@@ -74,7 +73,7 @@ handle-leaves z on t s i h hs k a = go (not (within 1 signals z) or eqb (natural
 
 pub poll-leaves : MadeLeaves Poll
 unfolding MadeLeaves make poll answers granted
-poll-leaves t s i h hs k a = go (eqb (lowest-signal (process t i .pending)) signals) refl
+poll-leaves t s i h hs k a g = go (eqb (lowest-signal (process t i .pending)) signals) refl
   where
     go : (b : Bool) → eqb (lowest-signal (process t i .pending)) signals ≡ b → sheet-of (poll t i .table) (follow t (poll t i .table) (at s)) ≡ sheet (view t) s
     go true e = rw (e, poll) (as-it-was t s hs)

@@ -1,20 +1,20 @@
 -- More that reads the same on two tables that are the same to a living namespace.
-use Prim.Native.Nat.{ℕ, zero, suc, _<_, _≤_}
+use Prim.Native.Nat.{ℕ, _<_, _≤_}
 use native.Mathlib.Omega.{arith}
-use mathlib.Core.Bool.{Bool, true, false, not, So, false≢true}
-use mathlib.Core.Logic.{_⊎_, inl, inr, ⊎-elim}
+use mathlib.Core.Bool.{Bool, true, false, So, false≢true}
+use mathlib.Core.Logic.{_⊎_, inl, inr}
 use mathlib.Core.Path.{_≡_, refl, sym, _∙_, ap, ap₂, subst}
-use borrow.Author.Tests.{eq-eqb, ne-eqb, eqb-true, eqb-false}
+use borrow.Author.Tests.{eq-eqb, ne-eqb, eqb-true}
 use lib.Dec.{eqb}
 use Rattle.table.proofs.Sameness.Find.{Found, find-cases}
 use Rattle.table.proofs.Laws.Facts.{Facts}
 use Rattle.table.proofs.Laws.Slots.{slot-lt, seen-taken, seen-below, below-level, below-trans, pid-pos, alive-taken, pid-unique}
 use Rattle.table.proofs.Laws.Quant.{left, right, both}
-use Rattle.table.proofs.Sameness.Twins.{Pair, Twin, Twins, flip-pair, flip-twin, flip-twins, bool-ext, pid-in-seen, twin-rows, twin-there, twin-unique, seen-twins, pid-twins, inits-twin, owns, own-alive}
+use Rattle.table.proofs.Sameness.Twins.{Pair, Twin, Twins, flip-pair, flip-twin, bool-ext, pid-in-seen, twin-rows, twin-there, twin-unique, seen-twins, pid-twins, inits-twin, owns}
 use Rattle.table.specs.Limits.{process-slots}
-use Rattle.table.specs.Read.{View, alive, below, child-of, find, init, is-init, pid-in, pid-seen, seen, taken}
+use Rattle.table.specs.Read.{View, alive, below, child-of, find, is-init, pid-in, pid-seen, seen}
 use Rattle.table.specs.Sheet.{Row, row}
-use Rattle.table.specs.Tests.{_and_, _or_, any, if_then_else_}
+use Rattle.table.specs.Tests.{_and_, if_then_else_}
 
 module _ (v : View) (f : Facts v) where
   -- seen from one is seen from all above

@@ -1,47 +1,31 @@
 -- wait, by twin callers.
-use Prim.Native.Nat.{ℕ, zero, suc, pred, _<_, _≤_}
+use Prim.Native.Nat.{ℕ, zero, suc, _<_, _≤_}
 use native.Mathlib.Omega.{arith}
-use native.Mathlib.Decide.{ℕ-discrete, decLt}
+use native.Mathlib.Decide.{ℕ-discrete}
 use mathlib.Core.Bool.{Bool, true, false, not, So, false≢true}
 use mathlib.Core.Logic.{_⊎_, inl, inr, ⊎-elim}
-use mathlib.Core.Option.{some}
-use mathlib.Core.Path.{_≡_, refl, sym, _∙_, ap, ap₂, subst}
-use borrow.Author.Tests.{eqb-true, eqb-false, eq-eqb, ne-eqb, ltb-true, ltb-false}
+use mathlib.Core.Path.{_≡_, refl, sym, _∙_, ap, subst}
+use borrow.Author.Tests.{eqb-true, eqb-false, ne-eqb, ltb-true, ltb-false}
 use lib.Dec.{eqb, ltb}
-use lib.ListN.{length, List·getD-eq-default}
 use lib.Seq.{getD-set-same, getD-set-other}
-use Rattle.table.proofs.Sameness.Calls.{shown, processes-length, both-refuse, both-tell, owns-twins, made-sound, taken-s, taken-r}
+use Rattle.table.proofs.Sameness.Calls.{shown, processes-length}
 use Rattle.table.proofs.Sameness.FreedSame.{process-freed, namespace-freed, own-is-kept, children-is-kept, freed-remain}
-use Rattle.table.proofs.Sameness.Inside.{Kept, Ready, MadeSame, stands-same}
 use Rattle.table.proofs.Laws.Facts.{Facts, facts}
-use Rattle.table.proofs.Laws.Slots.{slot-lt, seen-taken, seen-below, children-of, alive-taken, init-taken, init-own, init-living, parent-living, below-trans, past-level}
-use Rattle.table.proofs.Laws.Quant.{left, right, both, cases, any-elim, any-intro, isnt, and-false, true-and, true-or, false-or-true, false-or-false, true-and-false}
-use Rattle.table.proofs.Sameness.Readers.{child-twins, seen-above, twin-eqb}
+use Rattle.table.proofs.Laws.Slots.{slot-lt, seen-taken, children-of, alive-taken, init-taken, init-own, init-living, parent-living, past-level}
+use Rattle.table.proofs.Laws.Quant.{right, both, isnt, and-false, true-and, true-or, false-or-true, false-or-false, true-and-false}
+use Rattle.table.proofs.Sameness.Readers.{twin-eqb}
 use Rattle.table.proofs.Sameness.Remain.{Remain, Lit, same-remain, standing, pid-in-remain, name-remain, taken-remain}
 use Rattle.table.proofs.Sameness.Same.{Same}
-use Rattle.table.proofs.Sameness.Setns.{ended-twins}
-use Rattle.table.proofs.Sameness.Targets.{twin-of-pid}
 use Rattle.table.proofs.Sameness.SetChildrenSame.{everyone, name-no-slot}
-use Rattle.table.proofs.Sameness.Twins.{Pair, Twin, Twins, flip-pair, flip-twin, bool-ext, twin-rows, twin-there, twin-unique, pid-twins}
-use Rattle.table.specs.Answers.{answers, granted, refused}
-use Rattle.table.specs.Calls.{first-ended, pid-to, reap, wait}
-use Rattle.table.specs.Claims.{KeepsSound}
+use Rattle.table.proofs.Sameness.Twins.{Pair, Twin, twin-rows}
 use Rattle.table.specs.Freeing.{freed, kept}
 use Rattle.table.specs.Fresh.{empty-process}
-use Rattle.table.specs.Limits.{no-slot, process-slots}
-use Rattle.table.specs.Read.{View, alive, below, child-of, init, is-ended, is-init, living, namespace, namespace-taken, no-process, pid-at, pid-in, pid-seen, process, seen, taken, view}
-use Rattle.table.specs.Records.{put, to-pid}
+use Rattle.table.specs.Limits.{no-slot}
+use Rattle.table.specs.Read.{alive, init, is-init, living, namespace-taken, no-process, pid-at, pid-in, process, taken, view}
+use Rattle.table.specs.Records.{put}
 use Rattle.table.specs.Sheet.{Row, name, row}
 use Rattle.table.specs.Sound.{SoundTable}
-use Rattle.table.specs.Step.{make}
-use Rattle.table.specs.Tests.{_and_, _or_, any, if_then_else_, least}
-use Rattle.table.specs.declared.Answer.the-variants.{Reaped}
-use Rattle.table.specs.declared.Call.the-variants.{Wait}
-use Rattle.table.specs.declared.End.{End}
-use Rattle.table.specs.declared.Process.{Process}
-use Rattle.table.specs.declared.Refusal.the-variants.{Echild}
-use Rattle.table.specs.declared.State.{State}
-use Rattle.table.specs.declared.State.the-variants.{Running, Stopped, Ended}
+use Rattle.table.specs.Tests.{_and_, _or_, if_then_else_, least}
 use Rattle.table.specs.declared.Table.{Table}
 
 -- ---- the lowest

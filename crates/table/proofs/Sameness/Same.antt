@@ -1,16 +1,16 @@
 -- Two tables are the same to a namespace: its level, and each row of one is a row of the other.
-use Prim.Native.Nat.{ℕ, zero, suc, _+_, _-_, _<_, _≤_}
+use Prim.Native.Nat.{ℕ, zero, suc, _+_, _-_, _<_}
 use native.Mathlib.Omega.{arith}
-use mathlib.Core.Bool.{Bool, true, false, So}
-use mathlib.Core.List.{List, [], _∷_, map}
-use mathlib.Core.Path.{_≡_, refl, sym, _∙_, ap, ap₂, subst}
+use mathlib.Core.Bool.{So}
+use mathlib.Core.List.{map}
+use mathlib.Core.Path.{_≡_, sym, _∙_, ap, subst}
 use lib.ListN.{getD}
 use Rattle.table.proofs.Laws.Facts.{Facts}
 use Rattle.table.proofs.Laws.Slots.{slot-lt, seen-taken, pid-unique, level-deepest}
 use Rattle.table.proofs.Laws.Lists.{In, in-map, map-in, in-ascending, ascending-in, ascending-sorted, Sorted, map-sorted, sorted-unique}
 use Rattle.table.specs.Limits.{levels, process-slots}
 use Rattle.table.specs.Read.{View, all-seen, namespace-taken, pid-seen, seen}
-use Rattle.table.specs.Sheet.{Row, Sheet, row, sheet}
+use Rattle.table.specs.Sheet.{Row, row, sheet}
 use Rattle.table.specs.Tests.{values}
 
 pub record Same (v u : View) (s r : ℕ) : Type 0 where

@@ -1,39 +1,28 @@
 -- A process changed in its lights, then namespaces freed: setns, and the first half of unshare.
-use Prim.Native.Nat.{ℕ, zero, suc, pred, _<_, _≤_}
+use Prim.Native.Nat.{ℕ, _<_}
 use native.Mathlib.Omega.{arith}
 use native.Mathlib.Decide.{ℕ-discrete}
-use mathlib.Core.Bool.{Bool, true, false, not, So, false≢true}
-use mathlib.Core.Logic.{_⊎_, inl, inr, ⊎-elim}
-use mathlib.Core.Path.{_≡_, refl, sym, _∙_, ap, ap₂, subst}
-use borrow.Author.Tests.{eqb-true, eq-eqb, ne-eqb}
-use lib.Dec.{eqb}
-use lib.IntN.{ℤ, pos, negsuc}
+use mathlib.Core.Bool.{Bool, true, So, false≢true}
+use mathlib.Core.Logic.{_⊎_, inl, ⊎-elim}
+use mathlib.Core.Path.{_≡_, refl, sym, _∙_, ap, subst}
+use borrow.Author.Tests.{eq-eqb}
 use lib.ListN.{length}
 use Rattle.table.proofs.Sameness.Calls.{Shown, shown, shown-put, lights-of}
-use Rattle.table.proofs.Sameness.FreedSame.{process-freed, namespace-freed, taken-freed, own-is-kept, children-is-kept, freed-remain}
-use Rattle.table.proofs.Sameness.Inside.{Kept, Ready, MadeSame}
-use Rattle.table.proofs.Laws.Facts.{Facts, facts}
-use Rattle.table.proofs.Laws.Slots.{slot-lt, seen-taken, own-taken, children-of, alive-taken, init-taken, init-own, past-level}
+use Rattle.table.proofs.Sameness.FreedSame.{process-freed, namespace-freed, own-is-kept, children-is-kept, freed-remain}
+use Rattle.table.proofs.Laws.Facts.{Facts}
+use Rattle.table.proofs.Laws.Slots.{slot-lt, seen-taken, children-of, alive-taken, init-taken, init-own, past-level}
 use Rattle.table.proofs.Sameness.Light.{relight, Lights, Placed, put-light, put-same, put-other}
-use Rattle.table.proofs.Laws.Quant.{left, right, both, or-false-left, or-false-right}
-use Rattle.table.proofs.Sameness.Readers.{find-twins}
+use Rattle.table.proofs.Laws.Quant.{right, both}
 use Rattle.table.proofs.Sameness.Remain.{Remain, Lit, standing, same-remain, pid-in-remain, name-remain, taken-remain}
 use Rattle.table.proofs.Sameness.Same.{Same}
-use Rattle.table.proofs.Sameness.Twins.{Pair, Twin, Twins, twin-rows}
-use Rattle.table.specs.Answers.{answers, granted, refused}
-use Rattle.table.specs.Calls.{named, set-children, setns}
-use Rattle.table.specs.Claims.{KeepsSound}
+use Rattle.table.proofs.Sameness.Twins.{Pair, Twin, twin-rows}
 use Rattle.table.specs.Freeing.{freed, kept}
-use Rattle.table.specs.Limits.{no-slot, process-slots}
-use Rattle.table.specs.Read.{View, alive, find, init, is-init, namespace, namespace-taken, pid-in, process, seen, taken, view}
-use Rattle.table.specs.Records.{put, with-children}
+use Rattle.table.specs.Limits.{no-slot}
+use Rattle.table.specs.Read.{View, alive, init, is-init, namespace-taken, pid-in, process, taken, view}
+use Rattle.table.specs.Records.{put}
 use Rattle.table.specs.Sheet.{Row, name, no-name, row}
-use Rattle.table.specs.Sound.{SoundTable}
-use Rattle.table.specs.Step.{make, runs}
-use Rattle.table.specs.Tests.{_and_, _or_, if_then_else_}
-use Rattle.table.specs.declared.Call.the-variants.{Setns}
+use Rattle.table.specs.Tests.{_and_, if_then_else_}
 use Rattle.table.specs.declared.Process.{Process}
-use Rattle.table.specs.declared.Refusal.the-variants.{Esrch}
 use Rattle.table.specs.declared.Table.{Table}
 
 abbrev pub everyone : ℕ → Bool

@@ -1,22 +1,21 @@
 -- A change that leaves the tree of namespaces, and of each process that remains its own namespace and numbers.
-use Prim.Native.Nat.{ℕ, zero, suc, pred, _-_, _<_, _≤_}
+use Prim.Native.Nat.{ℕ, zero, suc}
 use native.Mathlib.Omega.{arith}
 use native.Mathlib.Decide.{ℕ-discrete}
 use mathlib.Core.Bool.{Bool, true, false, not, So, false≢true}
-use mathlib.Core.Logic.{_⊎_, inl, inr, ⊎-elim}
-use mathlib.Core.Path.{_≡_, refl, sym, _∙_, ap, ap₂, subst, fun-ext}
+use mathlib.Core.Path.{_≡_, refl, sym, _∙_, ap, ap₂, subst}
 use borrow.Author.Tests.{ne-eqb}
 use lib.Dec.{eqb}
 use Rattle.table.proofs.Sameness.Anchor.{anchor, anchor-alive, anchor-below, up-below}
 use Rattle.table.proofs.Laws.Facts.{Facts}
-use Rattle.table.proofs.Laws.Slots.{up-level, up-taken, own-taken, seen-taken, namespace-lt, below-level, below-trans, below-parent, below-same, alive-up, init-own}
-use Rattle.table.proofs.Laws.Quant.{left, right, both, and-false}
+use Rattle.table.proofs.Laws.Slots.{up-level, namespace-lt, below-level, below-trans, below-parent, below-same, alive-up}
+use Rattle.table.proofs.Laws.Quant.{and-false}
 use Rattle.table.proofs.Sameness.Same.{Same}
-use Rattle.table.proofs.Sameness.Twins.{Pair, Twin, Twins, twin-rows, twin-there, flip-pair, flip-twin, bool-ext}
+use Rattle.table.proofs.Sameness.Twins.{Pair, Twin, twin-there, flip-pair, flip-twin, bool-ext}
 use Rattle.table.specs.Limits.{levels, no-slot}
-use Rattle.table.specs.Read.{View, alive, below, climb, init, init-of, is-alive, is-init, namespace-taken, pid-in, pid-seen, seen, taken}
-use Rattle.table.specs.Sheet.{Name, Row, by-init, dead-at, name, name-by, nearest, nearest-alive, no-name, row, unborn-name}
-use Rattle.table.specs.Tests.{_and_, if_then_else_, values}
+use Rattle.table.specs.Read.{View, alive, below, climb, init, init-of, is-alive, namespace-taken, pid-in, pid-seen, seen, taken}
+use Rattle.table.specs.Sheet.{by-init, dead-at, name, name-by, nearest, no-name, row}
+use Rattle.table.specs.Tests.{_and_, if_then_else_}
 use Rattle.table.specs.declared.Life.{Life}
 use Rattle.table.specs.declared.Life.the-variants.{Unborn, Alive, Dead}
 

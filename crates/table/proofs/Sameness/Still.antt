@@ -5,7 +5,6 @@ use native.Mathlib.Decide.{ℕ-discrete}
 use mathlib.Core.Bool.{Bool, true, false, not, So, false≢true}
 use mathlib.Core.Logic.{_⊎_, inl, inr, ⊎-elim}
 use mathlib.Core.Path.{_≡_, refl, sym, _∙_, ap, ap₂, subst, fun-ext}
-use borrow.Author.Tests.{eqb-true}
 use lib.Dec.{eqb}
 use Rattle.table.proofs.Sameness.Anchor.{anchor, up-below}
 use Rattle.table.proofs.Sameness.DeliverSame.{Fits}
@@ -13,7 +12,7 @@ use Rattle.table.proofs.Sameness.FreedRow.{freed-seen, freed-row, seen-
 use Rattle.table.proofs.Laws.Facts.{Facts}
 use Rattle.table.proofs.Laws.Slots.{up-level, seen-taken, seen-below, below-trans, below-parent, below-same, below-level}
 use Rattle.table.proofs.Sameness.Leaves.{stands-leaves, gone-leaves}
-use Rattle.table.proofs.Laws.Quant.{left, both, cases, or-left, or-right, given}
+use Rattle.table.proofs.Laws.Quant.{both, cases, or-left, or-right}
 use Rattle.table.proofs.Sameness.Same.{Same}
 use Rattle.table.proofs.Sameness.Namespaces.{children-below}
 use Rattle.table.proofs.Laws.Tree.{below-refl}

@@ -1,27 +1,27 @@
 -- Whom a kill finds: pairs of twins, in the same order.
-use Prim.Native.Nat.{ℕ, zero, suc, _<_, _≤_}
+use Prim.Native.Nat.{ℕ, zero, suc}
 use native.Mathlib.Omega.{arith}
 use mathlib.Core.Bool.{Bool, true, false, not, So, false≢true}
-use mathlib.Core.List.{List, [], _∷_, map}
-use mathlib.Core.Logic.{_⊎_, inl, inr, ⊎-elim}
+use mathlib.Core.List.{List, _∷_, map, []}
+use mathlib.Core.Logic.{_⊎_, inl, inr}
 use mathlib.Core.Path.{_≡_, refl, sym, _∙_, ap, ap₂, subst}
-use borrow.Author.Tests.{eqb-true, eqb-false, eq-eqb, ne-eqb}
+use borrow.Author.Tests.{eqb-false, eq-eqb, ne-eqb}
 use lib.Dec.{eqb}
 use lib.IntN.{ℤ, pos, negsuc}
 use lib.ListN.{length}
 use Rattle.table.proofs.Sameness.Calls.{owns-twins}
 use Rattle.table.proofs.Sameness.Inside.{Ready}
-use Rattle.table.proofs.Laws.Facts.{Facts, facts}
-use Rattle.table.proofs.Laws.Slots.{slot-lt, seen-taken, pid-unique, alive-taken}
-use Rattle.table.proofs.Laws.Lists.{In, in-map, map-in, in-ascending, ascending-in, ascending-sorted, Sorted, map-sorted, sorted-unique, heads-equal, tails-equal, not-empty}
+use Rattle.table.proofs.Laws.Facts.{Facts}
+use Rattle.table.proofs.Laws.Slots.{pid-unique, alive-taken}
+use Rattle.table.proofs.Laws.Lists.{In, in-map, map-in, ascending-sorted, Sorted, map-sorted, sorted-unique, heads-equal, tails-equal, not-empty}
 use Rattle.table.proofs.Sameness.Readers.{seen-above, twin-eqb}
 use Rattle.table.proofs.Sameness.Same.{seen-listed, listed-seen}
 use Rattle.table.proofs.Sameness.Setns.{Named, named-twins}
-use Rattle.table.proofs.Sameness.Twins.{Pair, Twin, Twins, flip-pair, flip-twin, flip-twins, twin-there, seen-twins, pid-twins}
-use Rattle.table.specs.Calls.{named, others, pid-to, targets}
+use Rattle.table.proofs.Sameness.Twins.{Pair, Twin, Twins, flip-pair, flip-twins, twin-there, seen-twins, pid-twins}
+use Rattle.table.specs.Calls.{named, others, targets}
 use Rattle.table.specs.Limits.{process-slots}
 use Rattle.table.specs.Read.{View, alive, all-seen, find, pid-seen, seen, view}
-use Rattle.table.specs.Tests.{_and_, ascending, if_then_else_, only}
+use Rattle.table.specs.Tests.{_and_, if_then_else_, only}
 use Rattle.table.proofs.Sameness.Find.{Found, find-cases}
 use Rattle.table.specs.declared.Table.{Table}
 

@@ -2,23 +2,18 @@
 use Prim.Native.Nat.{ℕ, zero, suc, pred, _+_, _-_, _<_, _≤_}
 use native.Mathlib.Omega.{arith}
 use native.Mathlib.Decide.{decLt}
-use mathlib.Core.Bool.{Bool, true, false, not, So, false≢true}
-use mathlib.Core.Logic.{_⊎_, inl, inr, ⊎-elim}
+use mathlib.Core.Bool.{Bool, true, false, So}
 use mathlib.Core.Path.{_≡_, refl, sym, _∙_, ap, subst, subst₂}
-use borrow.Author.Tests.{eq-eqb, ne-eqb, eqb-true}
-use lib.Dec.{eqb}
 use lib.ListN.{getD}
 use Rattle.table.proofs.Sameness.Anchor.{anchor, anchor-self, anchor-alive, anchor-below, anchor-least, is-by-init, name-pid, name-alive, name-anchor}
-use Rattle.table.proofs.Sameness.Find.{Found, find-cases, row-pid}
+use Rattle.table.proofs.Sameness.Find.{row-pid}
 use Rattle.table.proofs.Laws.Facts.{Facts}
-use Rattle.table.proofs.Laws.Slots.{slot-lt, seen-taken, seen-below, pid-unique, own-taken, own-not-unborn, pid-pos, pid-zero, level-deepest, below-level, below-trans, below-parent, below-same, below-up-by, below-taken, up-by-below, up-by-end, up-by-level, up-level, alive-taken, alive-up, init-seen, init-own, init-parent, init-taken, init-living, living-taken, parent-living, not-root, root-own}
-use Rattle.table.proofs.Laws.Quant.{left, right, both}
+use Rattle.table.proofs.Laws.Slots.{seen-taken, seen-below, pid-unique, own-taken, own-not-unborn, pid-pos, pid-zero, level-deepest, below-level, below-trans, below-parent, below-up-by, up-by-below, up-level, alive-taken, alive-up, init-seen, init-own, init-parent, init-taken, living-taken, parent-living, not-root, root-own}
+use Rattle.table.proofs.Laws.Quant.{right, both}
 use Rattle.table.proofs.Sameness.Same.{Same, getD-values, level-lt}
-use Rattle.table.proofs.Laws.Tree.{below-refl}
-use Rattle.table.specs.Limits.{deepest, levels, process-slots}
-use Rattle.table.specs.Read.{View, alive, below, find, init, living, namespace-taken, pid-in, pid-seen, seen, taken, up-by}
-use Rattle.table.specs.Sheet.{Row, name, row}
-use Rattle.table.specs.Tests.{_and_, if_then_else_}
+use Rattle.table.specs.Limits.{levels}
+use Rattle.table.specs.Read.{View, alive, below, init, pid-in, pid-seen, seen, taken, up-by}
+use Rattle.table.specs.Sheet.{Row, row}
 
 -- S lives in both
 pub record Pair (v u : View) (s r : ℕ) : Type 0 where

@@ -6,7 +6,6 @@ use mathlib.Core.Path.{_≡_, refl, sym, _∙_, ap, subst}
 use borrow.Author.Tests.{eqb-false}
 use lib.Dec.{eqb}
 use Rattle.table.proofs.Sameness.BirthLeaves.{same-trans, new-same, new-stands, new-seen}
-use Rattle.table.proofs.Sameness.Calls.{made-sound}
 use Rattle.table.proofs.Keeps.Changes.{namespace-sane}
 use Rattle.table.proofs.Sameness.DeliverSame.{Fits, fits-of, fits-sound}
 use Rattle.table.proofs.Sameness.ExitSame.{runs-living}
@@ -24,7 +23,6 @@ use Rattle.table.proofs.Sameness.Still.{Still, same-still, stands-still
 use Rattle.table.proofs.Sameness.SetChildrenSame.{everyone, K, remain-freed, light-remain}
 use Rattle.table.specs.Answers.{answers, granted, refused}
 use Rattle.table.specs.Calls.{new-namespace, own-level, set-children, unshare}
-use Rattle.table.specs.Claims.{KeepsSound}
 use Rattle.table.specs.Events.{at, follow, sheet-of}
 use Rattle.table.specs.Freeing.{freed, kept}
 use Rattle.table.specs.Limits.{deepest, namespace-slots}
@@ -117,19 +115,18 @@ module _ (t : Table) (h : SoundTable t) (c : ℕ) (room : free-namespace-slot (v
           gone-leaves t (freed t₂) s (freed-away t₂ s (w .length-namespaces) (namespace-lt (view t₁) (w .facts) s h₁) ks)
           (λ i k. false≢true (sym ks ∙ seen-kept t₁ w t₂ pl s others i (new-seen t h c room s hs i ∙ k)))
 
-module _ (keeps : KeepsSound) where
-  pub unshare-leaves : MadeLeaves Unshare
-  unfolding MadeLeaves make unshare set-children answers granted refused
-  unshare-leaves t s i h hs k a = go (process t i .unshared) refl (eqb (own-level (view t) i) deepest) refl (eqb (free-namespace-slot (view t)) namespace-slots) refl (made-sound keeps t i Unshare h k)
-    where
-      go : (m : Bool) → process t i .unshared ≡ m → (x : Bool) → eqb (own-level (view t) i) deepest ≡ x → (b : Bool) → eqb (free-namespace-slot (view t)) namespace-slots ≡ b → SoundTable (unshare t i .table) → sheet-of (unshare t i .table) (follow t (unshare t i .table) (at s)) ≡ sheet (view t) s
-      go true em x ea b eb g = rw (em, unshare) (as-it-was t s hs)
-      go false em true ea b eb g = rw (em, ea, unshare) (as-it-was t s hs)
-      go false em false ea true eb g = rw (em, ea, eb, unshare) (as-it-was t s hs)
-      go false em false ea false eb g =
-          rw (em, ea, eb, unshare)
-          (set-children-leaves t h i room s hs (outsider t s i Unshare a) (fits-of (new-namespace t i) (namespace-sane t (fits-sound t h .sane-of) i (runs-living t i k) (eqb-false _ _ ea) room))
-          (with-children (process (new-namespace t i) i) (free-namespace-slot (view t)) true) (record { owns = refl; parents = refl; pids = refl }) (rw (em, ea, eb, unshare) at g))
-        where
-          room : free-namespace-slot (view t) ≡ namespace-slots → ⊥
-          room = eqb-false _ _ eb
+pub unshare-leaves : MadeLeaves Unshare
+unfolding MadeLeaves make unshare set-children answers granted refused
+unshare-leaves t s i h hs k a g = go (process t i .unshared) refl (eqb (own-level (view t) i) deepest) refl (eqb (free-namespace-slot (view t)) namespace-slots) refl g
+  where
+    go : (m : Bool) → process t i .unshared ≡ m → (x : Bool) → eqb (own-level (view t) i) deepest ≡ x → (b : Bool) → eqb (free-namespace-slot (view t)) namespace-slots ≡ b → SoundTable (unshare t i .table) → sheet-of (unshare t i .table) (follow t (unshare t i .table) (at s)) ≡ sheet (view t) s
+    go true em x ea b eb g = rw (em, unshare) (as-it-was t s hs)
+    go false em true ea b eb g = rw (em, ea, unshare) (as-it-was t s hs)
+    go false em false ea true eb g = rw (em, ea, eb, unshare) (as-it-was t s hs)
+    go false em false ea false eb g =
+        rw (em, ea, eb, unshare)
+        (set-children-leaves t h i room s hs (outsider t s i Unshare a) (fits-of (new-namespace t i) (namespace-sane t (fits-sound t h .sane-of) i (runs-living t i k) (eqb-false _ _ ea) room))
+        (with-children (process (new-namespace t i) i) (free-namespace-slot (view t)) true) (record { owns = refl; parents = refl; pids = refl }) (rw (em, ea, eb, unshare) at g))
+      where
+        room : free-namespace-slot (view t) ≡ namespace-slots → ⊥
+        room = eqb-false _ _ eb

@@ -8,7 +8,7 @@ use borrow.Author.Tests.{eq-eqb, ne-eqb}
 use lib.Dec.{eqb}
 use lib.ListN.{List·getD-eq-default}
 use lib.Seq.{getD-set-other}
-use Rattle.table.proofs.Sameness.Calls.{made-sound, processes-length, namespaces-length}
+use Rattle.table.proofs.Sameness.Calls.{processes-length, namespaces-length}
 use Rattle.table.proofs.Sameness.FreedSame.{process-freed, namespace-freed, children-is-kept}
 use Rattle.table.proofs.Sameness.FreedRow.{freed-away}
 use Rattle.table.proofs.Laws.Facts.{Facts, facts}
@@ -23,7 +23,6 @@ use Rattle.table.proofs.Sameness.Still.{Still, same-still, stands-still
 use Rattle.table.proofs.Sameness.Twins.{bool-ext}
 use Rattle.table.specs.Answers.{answers, granted, is-refused, refused}
 use Rattle.table.specs.Calls.{first-ended, pid-to, reap, wait}
-use Rattle.table.specs.Claims.{KeepsSound}
 use Rattle.table.specs.Events.{at, follow, gone, is-inside, outside, sheet-of}
 use Rattle.table.specs.Freeing.{freed, kept}
 use Rattle.table.specs.Fresh.{empty-process}
@@ -141,31 +140,30 @@ first-taken t h c e = go (least-cases (ended-kid (view t) c) (pid-to (view t) c)
     go (inl (a, b)) = absurd (false≢true (sym (ap (λ p. is-ended (p .state)) (List·getD-eq-default (t .processes) no-process (omega (arith, processes-length t h, a)))) ∙ e))
     go (inr (a, b, m)) = left _ _ (left _ _ a)
 
-module _ (keeps : KeepsSound) where
-  pub wait-leaves : MadeLeaves Wait
-  unfolding MadeLeaves make wait reap answers granted refused is-refused touched removes-from is-inside
-  wait-leaves t s i h hs k a = go (any process-slots (child-of (view t) i)) refl (view t .state x) refl (made-sound keeps t i Wait h k)
-    where
-      x : ℕ
-      x = first-ended (view t) i
+pub wait-leaves : MadeLeaves Wait
+unfolding MadeLeaves make wait reap answers granted refused is-refused touched removes-from is-inside
+wait-leaves t s i h hs k a g = go (any process-slots (child-of (view t) i)) refl (view t .state x) refl g
+  where
+    x : ℕ
+    x = first-ended (view t) i
 
-      go : (b : Bool) → any process-slots (child-of (view t) i) ≡ b → (z : State) → view t .state x ≡ z → SoundTable (wait t i .table) → sheet-of (wait t i .table) (follow t (wait t i .table) (at s)) ≡ sheet (view t) s
-      go false e z q g = rw (e, wait) (as-it-was t s hs)
-      go true e Running q g = rw (e, q, wait) (as-it-was t s hs)
-      go true e Stopped q g = rw (e, q, wait) (as-it-was t s hs)
-      go true e (Ended y) q g = rw (e, q, wait) (reaped-leaves t h x tx ex s hs unseen (rw (e, q, wait) at g))
-        where
-          ex : So (view t .ended x)
-          ex = ap is-ended q
+    go : (b : Bool) → any process-slots (child-of (view t) i) ≡ b → (z : State) → view t .state x ≡ z → SoundTable (wait t i .table) → sheet-of (wait t i .table) (follow t (wait t i .table) (at s)) ≡ sheet (view t) s
+    go false e z q g = rw (e, wait) (as-it-was t s hs)
+    go true e Running q g = rw (e, q, wait) (as-it-was t s hs)
+    go true e Stopped q g = rw (e, q, wait) (as-it-was t s hs)
+    go true e (Ended y) q g = rw (e, q, wait) (reaped-leaves t h x tx ex s hs unseen (rw (e, q, wait) at g))
+      where
+        ex : So (view t .ended x)
+        ex = ap is-ended q
 
-          tx : So (taken (view t) x)
-          tx = first-taken t h i ex
+        tx : So (taken (view t) x)
+        tx = first-taken t h i ex
 
-          no-touch : touched t (freed (put t x empty-process)) (at s) i Wait ≡ false
-          no-touch = untouched-made t s i Wait h k a (reap t i x (Ended y)) (rw (e, q, wait) refl) refl
+        no-touch : touched t (freed (put t x empty-process)) (at s) i Wait ≡ false
+        no-touch = untouched-made t s i Wait h k a (reap t i x (Ended y)) (rw (e, q, wait) refl) refl
 
-          unseen : seen (view t) s x ≡ false
-          unseen =
-              bool-ext _ _
-              (λ m. absurd (false≢true (sym no-touch ∙ any-intro _ _ x (slot-lt (view t) (facts t h) x tx) (both _ _ m (ap not (reaped-gone t h x tx ex s hs))))))
-              (λ m. absurd (false≢true m))
+        unseen : seen (view t) s x ≡ false
+        unseen =
+            bool-ext _ _
+            (λ m. absurd (false≢true (sym no-touch ∙ any-intro _ _ x (slot-lt (view t) (facts t h) x tx) (both _ _ m (ap not (reaped-gone t h x tx ex s hs))))))
+            (λ m. absurd (false≢true m))

@@ -1,37 +1,34 @@
 -- wait, by twin callers.
-use Prim.Native.Nat.{ℕ, zero, suc, _<_, _≤_}
+use Prim.Native.Nat.{ℕ, _<_}
 use native.Mathlib.Omega.{arith}
-use mathlib.Core.Bool.{Bool, true, false, not, So, false≢true}
-use mathlib.Core.Logic.{_⊎_, inl, inr, ⊎-elim}
-use mathlib.Core.Path.{_≡_, refl, sym, _∙_, ap, ap₂, subst}
-use borrow.Author.Tests.{eqb-true, eq-eqb}
-use lib.Dec.{eqb}
-use lib.ListN.{length, List·getD-eq-default}
-use Rattle.table.proofs.Sameness.Calls.{shown, processes-length, both-refuse, both-tell, owns-twins, made-sound}
+use mathlib.Core.Bool.{Bool, true, false, So, false≢true}
+use mathlib.Core.Logic.{_⊎_, inl, inr}
+use mathlib.Core.Path.{_≡_, refl, sym, _∙_, ap, subst}
+use borrow.Author.Tests.{eqb-true}
+use lib.ListN.{List·getD-eq-default}
+use Rattle.table.proofs.Sameness.Calls.{shown, processes-length, both-refuse, both-tell, owns-twins}
 use Rattle.table.proofs.Sameness.Inside.{Kept, Ready, MadeSame, stands-same}
 use Rattle.table.proofs.Laws.Facts.{Facts, facts}
 use Rattle.table.proofs.Laws.Slots.{slot-lt, seen-taken, child-seen}
-use Rattle.table.proofs.Laws.Quant.{left, right, both, any-elim, any-intro, isnt}
+use Rattle.table.proofs.Laws.Quant.{left, right, both, any-elim, any-intro}
 use Rattle.table.proofs.Sameness.Readers.{child-twins, seen-above}
 use Rattle.table.proofs.Sameness.ReapSame.{Least, least-cases, same-reap, stands-t, stands-u}
 use Rattle.table.proofs.Sameness.Setns.{ended-twins}
 use Rattle.table.proofs.Sameness.Targets.{twin-of-pid}
 use Rattle.table.proofs.Laws.Tree.{below-refl}
-use Rattle.table.proofs.Sameness.Twins.{Pair, Twin, Twins, flip-pair, flip-twin, flip-twins, bool-ext, twin-there, pid-twins}
-use Rattle.table.specs.Answers.{answers, granted, refused}
+use Rattle.table.proofs.Sameness.Twins.{Twin, Twins, flip-pair, flip-twin, bool-ext, twin-there, pid-twins}
+use Rattle.table.specs.Answers.{granted}
 use Rattle.table.specs.Calls.{first-ended, pid-to, reap, wait}
-use Rattle.table.specs.Claims.{KeepsSound}
 use Rattle.table.specs.Freeing.{freed}
 use Rattle.table.specs.Fresh.{empty-process}
 use Rattle.table.specs.Limits.{process-slots}
-use Rattle.table.specs.Read.{View, below, child-of, is-ended, no-process, pid-seen, process, seen, taken, view}
+use Rattle.table.specs.Read.{View, child-of, is-ended, no-process, seen, taken, view}
 use Rattle.table.specs.Records.{put, to-pid}
 use Rattle.table.specs.Sound.{SoundTable}
 use Rattle.table.specs.Step.{make}
-use Rattle.table.specs.Tests.{_and_, any, if_then_else_, least}
+use Rattle.table.specs.Tests.{_and_, any, least}
 use Rattle.table.specs.declared.Answer.the-variants.{Reaped}
 use Rattle.table.specs.declared.Call.the-variants.{Wait}
-use Rattle.table.specs.declared.End.{End}
 use Rattle.table.specs.declared.Refusal.the-variants.{Echild}
 use Rattle.table.specs.declared.State.{State}
 use Rattle.table.specs.declared.State.the-variants.{Running, Stopped, Ended}
@@ -123,29 +120,24 @@ reap-kept t u s r c d w x y k ex ey (Ended e) z h g =
       stands-same t u (freed (put t x empty-process)) (freed (put u y empty-process)) s r h g (stands-t t u s r x y (w .sound-t) (w .sound-u) (w .pair) k ex ey) (stands-u t u s r x y (w .sound-t) (w .sound-u) (w .pair) k ex ey) (same-reap t u s r x y (w .sound-t) (w .sound-u) (w .pair) k ex ey),
     )
 
-module _ (keeps : KeepsSound) where
-  wait-cases : (t u : Table) (s r c d : ℕ) → Ready t u s r c d → SoundTable (wait t c .table) → SoundTable (wait u d .table) → Kept t u s r (wait t c) (wait u d)
-  unfolding wait reap
-  wait-cases t u s r c d w h g = go (any process-slots (child-of (view t) c)) refl
-    where
-      x : ℕ
-      x = first-ended (view t) c
+pub wait-same : MadeSame Wait
+unfolding MadeSame make wait reap
+wait-same t u s r c d w h g = go (any process-slots (child-of (view t) c)) refl
+  where
+    x : ℕ
+    x = first-ended (view t) c
 
-      y : ℕ
-      y = first-ended (view u) d
+    y : ℕ
+    y = first-ended (view u) d
 
-      some-child : any process-slots (child-of (view t) c) ≡ true → First t u s r c d w x y → Kept t u s r (wait t c) (wait u d)
-      some-child e (inl (a, b)) =
-          rw (e, sym (any-same t u s r c d w) ∙ e, no-state t (w .sound-t) x a, no-state u (w .sound-u) y b, wait) (both-tell t u s r c d w 0 0 refl)
-      some-child e (inr (k, ex, ey)) =
-          let q = shown t u s r (w .pair) x y k .states in
-          rw (e, sym (any-same t u s r c d w) ∙ e, ← q, wait)
-          (reap-kept t u s r c d w x y k ex ey (view t .state x) ex (rw (e, wait) at h) (rw (sym (any-same t u s r c d w) ∙ e, ← q, wait) at g))
+    some-child : any process-slots (child-of (view t) c) ≡ true → First t u s r c d w x y → Kept t u s r (wait t c) (wait u d)
+    some-child e (inl (a, b)) =
+        rw (e, sym (any-same t u s r c d w) ∙ e, no-state t (w .sound-t) x a, no-state u (w .sound-u) y b, wait) (both-tell t u s r c d w 0 0 refl)
+    some-child e (inr (k, ex, ey)) =
+        let q = shown t u s r (w .pair) x y k .states in
+        rw (e, sym (any-same t u s r c d w) ∙ e, ← q, wait)
+        (reap-kept t u s r c d w x y k ex ey (view t .state x) ex (rw (e, wait) at h) (rw (sym (any-same t u s r c d w) ∙ e, ← q, wait) at g))
 
-      go : (b : Bool) → any process-slots (child-of (view t) c) ≡ b → Kept t u s r (wait t c) (wait u d)
-      go true e = some-child e (first-twins t u s r c d w)
-      go false e = rw (e, sym (any-same t u s r c d w) ∙ e, wait) (both-refuse t u s r c d w Echild)
-
-  pub wait-same : MadeSame Wait
-  unfolding MadeSame make
-  wait-same t u s r i j w = wait-cases t u s r i j w (made-sound keeps t i Wait (w .sound-t) (w .runs-t)) (made-sound keeps u j Wait (w .sound-u) (w .runs-u))
+    go : (b : Bool) → any process-slots (child-of (view t) c) ≡ b → Kept t u s r (wait t c) (wait u d)
+    go true e = some-child e (first-twins t u s r c d w)
+    go false e = rw (e, sym (any-same t u s r c d w) ∙ e, wait) (both-refuse t u s r c d w Echild)

@@ -1,0 +1,52 @@
+-- Two sentences of soundness follow from the others, for any table of the declared type.
+use Prim.Native.Nat.{ℕ, _<_}
+use native.Mathlib.Omega.{arith}
+use mathlib.Core.Bool.{So}
+use mathlib.Core.Path.{_≡_, refl, sym, _∙_, ap, subst}
+use Rattle.table.proofs.Laws.Cases.{dead-otherwise}
+use Rattle.table.proofs.Laws.Facts.{Stands, Taken, Other, Past, in-range, in-namespace, is-seen}
+use Rattle.table.proofs.Laws.Iff.{tests}
+use Rattle.table.proofs.Laws.Tree.{below-refl}
+use Rattle.table.specs.Limits.{namespace-slots, no-slot}
+use Rattle.table.specs.Read.{View, living, pid-seen, dead, unborn, alive, init, below}
+use Rattle.table.specs.Sound.{root-process, have-parents, inits, below-dead, holds, unborn-namespace, unborn-namespaces, first-pids, dead-members, unborn-members, parents, first-parents, ended-bare}
+use Rattle.table.specs.Tests.{one}
+
+module _ (v : View) (r : Past v) (u : So (unborn-namespaces v)) (d : So (dead-members v)) where
+  -- "None belongs to an unborn one": an unborn namespace has no members.
+  pub unborn-members-follow : So (unborn-members v)
+  unfolding unborn-members unborn-namespaces unborn-namespace dead-members
+  unborn-members-follow =
+      simp tests (λ i l t b. let s = (simp tests at d) i l t .0 in (simp tests at u) (v .own i) (in-namespace v r _ s) s b .0 .0 .0 .1 i l t refl)
+
+  ended : (i : ℕ) → Taken v i → So (dead v (v .own i)) → So (v .ended i)
+  unfolding dead-members
+  ended i t = (simp tests at d) i (in-range v r i t) t .1
+
+  -- "All below a dead one are dead": one that lives has an init, whose parent belongs to the namespace above and is not
+  -- ended; an unborn one has a holder that belongs there, and an ended process holds no namespace.
+  module _ (h : So (root-process v)) (hp : So (have-parents v)) (hi : So (inits v)) (hn : So (first-pids v)) (p : So (parents v)) (fp : So (first-parents v)) (e : So (ended-bare v)) where
+    not-unborn : (n : ℕ) → n < namespace-slots → Stands v n → So (dead v (v .up n)) → So (unborn v n) → ⊥
+    unfolding unborn-namespaces unborn-namespace holds one ended-bare
+    not-unborn n l s z b =
+        let q = (simp tests at u) n l s b in
+        let (i, m, x) = q .0 .1 in
+        let o : v .own i ≡ v .up n = q .1 i m (x .0) in
+        let k : v .children i ≡ no-slot = (simp tests at e) i m (x .0 .0) (ended i (x .0 .0) (subst (λ y. So (dead v y)) (sym o) z)) .0 .0 .0 in
+        omega (arith, k, x .0 .1)
+
+    not-alive : (n : ℕ) → n < namespace-slots → Stands v n → Other n → So (dead v (v .up n)) → So (alive v n) → ⊥
+    unfolding inits first-pids parents first-parents have-parents root-process living pid-seen
+    not-alive n l s o z a =
+        let i = init v n in
+        let x = (simp tests at hi) n l s a in
+        let t : Taken v i = x .0 .0 in
+        let m = in-range v r i t in
+        let k : Other i = λ q. o (sym (x .1) ∙ ap (v .own) q ∙ (simp tests at h) .0 .0 .1) in
+        let first = (simp tests at hn) n l s a i m (is-seen v n i t (subst (λ y. So (below v y n)) (sym (x .1)) (below-refl v n))) .1 refl in
+        let q : v .own (v .parent i) ≡ v .up (v .own i) = (simp tests at fp) i m t k (ap (λ y. v .pid i (v .level y)) (x .1) ∙ first) in
+        (simp tests at p) i m t k .0 .0 (ended (v .parent i) ((simp tests at hp) i m t k) (subst (λ y. So (dead v y)) (sym (q ∙ ap (v .up) (x .1))) z))
+
+    pub below-dead-follows : So (below-dead v)
+    unfolding below-dead
+    below-dead-follows = simp tests (λ n l s o z. dead-otherwise (v .life n) (not-unborn n l s z) (not-alive n l s o z))

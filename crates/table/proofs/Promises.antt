@@ -1,0 +1,36 @@
+-- The promises of specs/Claims.antt, each proved.
+use Rattle.table.proofs.Keeps.Changes as Changes
+use Rattle.table.proofs.Keeps.Falls as Falls
+use Rattle.table.proofs.Keeps.Finds as Finds
+use Rattle.table.proofs.Keeps.Fixed as Fixed
+use Rattle.table.proofs.Keeps.Refusals as Refusals
+use Rattle.table.proofs.Sameness.Demand3 as Demand3
+use Rattle.table.specs.Claims.{RefusalLeaves, KeepsSound, NamespaceFixed, SignalFinds, SubtreeFalls, OutsideLeaves, Sameness}
+
+-- A refusal leaves the whole table unchanged and tells the host no slot.
+pub refusal-leaves : RefusalLeaves
+refusal-leaves = Refusals.refusal-leaves
+
+-- Each call leaves a sound table sound.
+pub keeps-sound : KeepsSound
+keeps-sound = Changes.keeps-sound
+
+-- A process never changes namespace.
+pub namespace-fixed : NamespaceFixed
+namespace-fixed = Fixed.namespace-fixed
+
+-- A signal finds exactly the processes of the caller's namespace and those below.
+pub signal-finds : SignalFinds
+signal-finds = Finds.signal-finds
+
+-- A namespace's first process takes its whole subtree down.
+pub subtree-falls : SubtreeFalls
+subtree-falls = Falls.subtree-falls
+
+-- An outside call that makes no touch leaves the sheet as it was.
+pub outside-leaves : OutsideLeaves
+outside-leaves = Demand3.outside-calls
+
+-- Demand 3: what inside calls answer and leave is the same on two tables whose sheets are equal.
+pub sameness : Sameness
+sameness = Demand3.demand3
