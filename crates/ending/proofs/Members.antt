@@ -9,14 +9,16 @@ use lib.Dec.{eqb}
 use lib.ListN.{getD}
 use Rattle.table.proofs.Chains.{pick-yes, pick-no, and-true, and-false, and-false-later, and-goes}
 use Rattle.table.proofs.FoldLoops.{turns, Turned, fold-done}
+use Rattle.table.specs.Fresh.{empty-process}
 use Rattle.table.specs.Limits.{process-slots}
 use Rattle.table.specs.Read.{process, pid-at, no-namespace, is-ended, init-of}
-use Rattle.table.specs.Records.{put}
+use Rattle.table.specs.Records.{as-ended, with-parent, put}
 use Rattle.table.specs.Tests.{_and_, if_then_else_}
+use Rattle.table.specs.declared.End.{End}
 use Rattle.table.specs.declared.Namespace.{Namespace}
 use Rattle.table.specs.declared.Process.{Process}
 use Rattle.table.specs.declared.Table.{Table}
-use Rattle.ending.specs.Ending.{killed, falls-with, end-member-by, member-turn, end-namespace, end-member, marked-dead}
+use Rattle.ending.specs.Ending.{killed, falls-with, end-member-by, member-turn, end-namespace, end-member, marked-dead, once-swept, once-handed}
 
 -- ---- small steps from what the code has
 
@@ -112,3 +114,35 @@ namespace-is (suc left) t n = refl
 pub namespace-done : (left : ℕ) (t : Table) (n : ℕ) (v u : Table) (i : ℕ) → v ≡ marked-dead t n → Turned process-slots (turn left n) v u i → process-slots ≤ i → u ≡ end-namespace left t n
 namespace-done left t n v u i e k h =
     fold-done process-slots (turn left n) v u i k h ∙ ap (turns process-slots (turn left n)) e ∙ sym (namespace-is left t n)
+
+-- ---- one process, in the sweep and in the hand-over
+
+module _ (inside : ℕ → Bool) (i : ℕ) (q : Process) (a : Bool) (e : a ≡ inside i) where
+  pub swept-out : not a ≡ true → q ≡ once-swept inside i q
+  unfolding once-swept
+  swept-out h = sym (pick-no (inside i and inside (q .parent .0)) empty-process q (and-false (inside i) _ (sym e ∙ not-true a h)))
+
+  -- b says whether the parent is inside
+  module _ (b : Bool) (f : b ≡ inside (q .parent .0)) where
+    pub swept-stays : not b ≡ true → q ≡ once-swept inside i q
+    unfolding once-swept
+    swept-stays h = sym (pick-no (inside i and inside (q .parent .0)) empty-process q (and-false-later (inside i) _ (sym f ∙ not-true b h)))
+
+    pub swept-gone : (x : Process) → not a ≡ false → not b ≡ false → x ≡ empty-process → x ≡ once-swept inside i q
+    unfolding once-swept
+    swept-gone x h k z =
+        z ∙ sym (pick-yes (inside i and inside (q .parent .0)) empty-process q (and-true (inside i) _ (sym e ∙ not-false a h) (sym f ∙ not-false b k)))
+
+-- r says whether the slot of q is taken
+module _ (p : ℕ) (e : End) (k i : ℕ) (q : Process) (r : Bool) (o : i ≡ p → ⊥) (t : r ≡ not (eqb (pid-at q 0) 0)) where
+  pub handed-empty : not r ≡ true → q ≡ once-handed p e k i q
+  unfolding once-handed
+  handed-empty h =
+      sym (pick-no (eqb i p) (as-ended q e) _ (ne-eqb i p o)
+      ∙ pick-no (not (eqb (pid-at q 0) 0) and eqb (q .parent .0) p) (with-parent q k) q (and-false _ _ (sym t ∙ not-true r h)))
+
+  pub handed-child : not r ≡ false → q .parent .0 ≡ p → with-parent q k ≡ once-handed p e k i q
+  unfolding once-handed
+  handed-child h c =
+      sym (pick-no (eqb i p) (as-ended q e) _ (ne-eqb i p o)
+      ∙ pick-yes (not (eqb (pid-at q 0) 0) and eqb (q .parent .0) p) (with-parent q k) q (and-true _ _ (sym t ∙ not-false r h) (eq-eqb _ _ c)))

@@ -10,7 +10,7 @@ use Rattle.table.proofs.FoldLoops.{turns}
 use Rattle.table.specs.Fresh.{empty-process}
 use Rattle.table.specs.Limits.{deepest, namespace-slots, process-slots, sigkill}
 use Rattle.table.specs.Read.{view, process, pid-at, no-process, no-namespace, is-ended, is-unborn, init-of, seen}
-use Rattle.table.specs.Records.{as-ended, with-life, put}
+use Rattle.table.specs.Records.{as-ended, with-life, with-parent, put}
 use Rattle.table.specs.Tests.{_and_, _or_, if_then_else_, changed-to}
 use Rattle.table.specs.declared.End.{End}
 use Rattle.table.specs.declared.End.the-variants.{Signaled}
@@ -63,16 +63,29 @@ end-member (suc left) t n i = end-member-by (end-namespace left) t n i
 
 -- ---- an init
 
--- removed: each whose parent is inside the subtree, as it is itself
+-- what is left of the process q at slot i, where some slots are inside: nothing, if it and its parent are
+unfoldable pub once-swept : (ℕ → Bool) → ℕ → Process → Process
+once-swept inside i q = if inside i and inside (q .parent .0) then empty-process else q
+
+-- the subtree of n without those whose parent is inside
 unfoldable pub swept : Table → ℕ → Table
 swept t n =
-    record {
-      processes = changed-to (λ i q. if seen (view t) n i and seen (view t) n (view t .parent i) then empty-process else q) no-process process-slots (t .processes);
-      namespaces = t .namespaces;
-    }
+    record { processes = changed-to (once-swept (seen (view t) n)) no-process process-slots (t .processes); namespaces = t .namespaces }
 
 -- the init at p ends for the reason e, which it keeps
 unfoldable pub end-init : Table → ℕ → End → Table
 end-init t p e =
     let q = getD (t .processes) p empty-process in
     swept (put (end-namespace deepest t (q .own .0)) p (as-ended q e)) (q .own .0)
+
+-- ---- another process
+
+-- what becomes of the process q at slot i when the one at p ends, whose children go to the process at k
+unfoldable pub once-handed : ℕ → End → ℕ → ℕ → Process → Process
+once-handed p e k i q =
+    if eqb i p then as-ended q e
+    else (if not (eqb (pid-at q 0) 0) and eqb (q .parent .0) p then with-parent q k else q)
+
+unfoldable pub handed-over : Table → ℕ → End → ℕ → Table
+handed-over t p e k =
+    record { processes = changed-to (once-handed p e k) no-process process-slots (t .processes); namespaces = t .namespaces }
