@@ -1,3 +1,4 @@
 -- Laws that belong to no one function.
 pub mod Members
 pub mod Marks
+pub mod Falling
