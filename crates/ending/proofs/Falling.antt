@@ -283,8 +283,10 @@ module _ (t : Table) (count : length (t .processes) ≡ process-slots) (namespac
 
             at : (j : ℕ) → Dec (j ≡ i) → (process (put w i (killed (process w i))) j ≡ process w j) ⊎ (Seen v n j × (process (put w i (killed (process w i))) j ≡ killed (process w j)))
             at j (yes q) =
-                inr (is-seen v n j (subst (Taken v) (sym q) c) (subst (λ a. Below v a n) (sym (ap (v .own) q ∙ e)) (below-refl v n)),
-                subst (λ z. process (put w i (killed (process w i))) z ≡ killed (process w z)) (sym q) here)
+                inr (
+                  is-seen v n j (subst (Taken v) (sym q) c) (subst (λ a. Below v a n) (sym (ap (v .own) q ∙ e)) (below-refl v n)),
+                  subst (λ z. process (put w i (killed (process w i))) z ≡ killed (process w z)) (sym q) here,
+                )
             at j (no q) = inl (getD-set-other (w .processes) i j (killed (process w i)) no-process q)
 
             step : Step v n w (put w i (killed (process w i)))

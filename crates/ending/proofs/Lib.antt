@@ -2,3 +2,6 @@
 pub mod Members
 pub mod Marks
 pub mod Falling
+pub mod Passes
+pub mod Fallen
+pub mod Freeing

@@ -10,7 +10,7 @@ use lib.ListN.{getD}
 use Rattle.table.proofs.Chains.{pick-yes, pick-no, and-true, and-false, and-false-later, and-goes}
 use Rattle.table.proofs.FoldLoops.{turns, Turned, fold-done}
 use Rattle.table.specs.Fresh.{empty-process}
-use Rattle.table.specs.Limits.{process-slots}
+use Rattle.table.specs.Limits.{deepest, process-slots}
 use Rattle.table.specs.Read.{process, pid-at, no-namespace, is-ended, init-of}
 use Rattle.table.specs.Records.{as-ended, with-parent, put}
 use Rattle.table.specs.Tests.{_and_, if_then_else_}
@@ -18,7 +18,7 @@ use Rattle.table.specs.declared.End.{End}
 use Rattle.table.specs.declared.Namespace.{Namespace}
 use Rattle.table.specs.declared.Process.{Process}
 use Rattle.table.specs.declared.Table.{Table}
-use Rattle.ending.specs.Ending.{killed, falls-with, end-member-by, member-turn, end-namespace, end-member, marked-dead, once-swept, once-handed}
+use Rattle.ending.specs.Ending.{killed, falls-with, end-member-by, member-turn, end-namespace, end-member, marked-dead, once-swept, swept, end-init, once-handed}
 
 -- ---- small steps from what the code has
 
@@ -146,3 +146,10 @@ module _ (p : ℕ) (e : End) (k i : ℕ) (q : Process) (r : Bool) (o : i ≡ p �
   handed-child h c =
       sym (pick-no (eqb i p) (as-ended q e) _ (ne-eqb i p o)
       ∙ pick-yes (not (eqb (pid-at q 0) 0) and eqb (q .parent .0) p) (with-parent q k) q (and-true _ _ (sym t ∙ not-false r h) (eq-eqb _ _ c)))
+
+-- q is the process at p, x the table once its namespace has ended, y the ended init, z the table with it
+pub init-swept : (t : Table) (p : ℕ) (e : End) (q : Process) (x : Table) (y : Process) (z r : Table) → q ≡ getD (t .processes) p empty-process → x ≡ end-namespace deepest t (q .own .0) → y ≡ as-ended q e → z ≡ put x p y → r ≡ swept z (q .own .0) → r ≡ end-init t p e
+unfolding end-init
+init-swept t p e q x y z r a b c d g =
+    g ∙ ap (λ u. swept u (q .own .0)) (d ∙ ap₂ (λ u k. put u p k) b c)
+    ∙ ap (λ (k : Process). swept (put (end-namespace deepest t (k .own .0)) p (as-ended k e)) (k .own .0)) a

@@ -277,10 +277,7 @@ fn once_handed(slot: ProcSlot, how: End, init: ProcSlot, i: ProcSlot, p: Process
     if parent.0 != slot.0 {
         return p;
     }
-    Process {
-        parent: init,
-        ..p
-    }
+    Process { parent: init, ..p }
 }
 
 // The end of a process that is no init: all its children go to the init of its own namespace.
