@@ -19,7 +19,7 @@ use Rattle.table.proofs.Slots.{length-mapped, field-within, read-at}
 use Rattle.table.specs.Ends.{member-ends, init-ends, namespace-dies, end}
 use Rattle.table.specs.Fresh.{empty-process}
 use Rattle.table.specs.Limits.{deepest, namespace-slots, process-slots}
-use Rattle.table.specs.Read.{View, view, process, namespace, pid-at, no-process, no-namespace, is-ended, is-dead, init-of, init, is-init, living, taken, child-of, seen, below, climb}
+use Rattle.table.specs.Read.{View, view, process, namespace, pid-at, no-process, no-namespace, is-ended, is-dead, init-of, init, is-init, taken, child-of, seen, below, climb}
 use Rattle.table.specs.Records.{as-ended, with-life, with-parent, put, changed}
 use Rattle.table.specs.Tests.{_and_, if_then_else_, changed-to}
 use Rattle.table.specs.declared.End.{End}
@@ -29,7 +29,7 @@ use Rattle.table.specs.declared.Process.{Process}
 use Rattle.table.specs.declared.Table.{Table}
 use Rattle.ending.proofs.Falling.{Step, Down, namespace-falls, ended-stays, dead-stays, killed-keeps}
 use Rattle.ending.proofs.Passes.{changed-same, changed-none}
-use Rattle.ending.specs.Ending.{killed, end-namespace, once-swept, swept, end-init, once-handed, handed-over}
+use Rattle.ending.specs.Ending.{killed, end-namespace, once-swept, swept, end-init, once-handed, handed-over, end-process, Ends}
 
 -- ---- a table that a subtree has gone down in, by its slots
 
@@ -53,6 +53,29 @@ module _ (v : View) (n : ℕ) (t u : Table) (s : Step v n t u) (d : Down v n u) 
       (λ e. q ∙ sym (pick-no (below v m n) (with-life (namespace t m) Dead) (namespace t m) e)))
       (λ (q : Below v m n × (namespace u m ≡ with-life (namespace t m) Dead)). q .1 ∙ sym (pick-yes (below v m n) (with-life (namespace t m) Dead) (namespace t m) (q .0)))
       (s .namespaces m h)
+
+-- ---- the end of a namespace, at one go
+
+-- every process of the subtree not yet ended is ended by signal 9, and every namespace of it is dead
+abbrev pub fallen : Table → ℕ → Table
+fallen t n = changed t (λ i q. if seen (view t) n i then killed q else q) (namespace-dies (view t) n)
+
+pub namespace-end-is : (t : Table) → length (t .processes) ≡ process-slots → length (t .namespaces) ≡ namespace-slots → Facts (view t) → (n : ℕ) → Stands (view t) n → end-namespace deepest t n ≡ fallen t n
+unfolding namespace-dies
+namespace-end-is t count namespace-count f n stands =
+    let (s, d) = namespace-falls t count namespace-count f n stands in
+    ap₂ (λ a b. record { processes = a; namespaces = b })
+    (ext-getD no-process _ _ (s .count ∙ sym (changed-length ends no-process process-slots (t .processes)))
+    (λ i h.
+    let k : i < process-slots = omega (arith, s .count, count) in
+    fallen-process (view t) n t _ s d i k ∙ sym (changed-at ends no-process process-slots i (t .processes) k (omega arith))))
+    (ext-getD no-namespace _ _ (s .namespace-count ∙ sym (changed-length (namespace-dies (view t) n) no-namespace namespace-slots (t .namespaces)))
+    (λ m h.
+    let k : m < namespace-slots = omega (arith, s .namespace-count, namespace-count) in
+    fallen-namespace (view t) n t _ s d m k ∙ sym (changed-at (namespace-dies (view t) n) no-namespace namespace-slots m (t .namespaces) k (omega arith))))
+  where
+    ends : ℕ → Process → Process
+    ends i q = if seen (view t) n i then killed q else q
 
 -- ---- the end of an init
 
@@ -146,7 +169,7 @@ module _ (t : Table) (count : length (t .processes) ≡ process-slots) (namespac
       stays a b (no q) = at-other i h q ∙ pick-yes (seen v n i) (killed (process t i)) (process t i) a ∙ sym (rw (a, b, ne-eqb i p q))
 
   swept-all : swept w n ≡ changed t (init-ends v p e) (namespace-dies v n)
-  unfolding swept namespace-dies
+  unfolding swept
   swept-all =
       ap₂ (λ a b. record { processes = a; namespaces = b })
       (ext-getD no-process _ _ (swept-length ∙ w-count ∙ sym (changed-length (init-ends v p e) no-process process-slots (t .processes) ∙ count))
@@ -155,10 +178,7 @@ module _ (t : Table) (count : length (t .processes) ≡ process-slots) (namespac
       changed-at (once-swept (seen (view w) n)) no-process process-slots i (w .processes) k (omega (arith, w-count))
       ∙ ap (λ g. once-swept g i (process w i)) same-seen ∙ swept-at i k
       ∙ sym (changed-at (init-ends v p e) no-process process-slots i (t .processes) k (omega arith))))
-      (ext-getD no-namespace _ _ (step .namespace-count ∙ sym (changed-length (namespace-dies v n) no-namespace namespace-slots (t .namespaces)))
-      (λ m h.
-      let k : m < namespace-slots = omega (arith, step .namespace-count, namespace-count) in
-      fallen-namespace v n t u step down m k ∙ sym (changed-at (namespace-dies v n) no-namespace namespace-slots m (t .namespaces) k (omega arith))))
+      (ap (λ x. x .namespaces) (namespace-end-is t count namespace-count f n stands))
     where
       swept-length : length (changed-to (once-swept (seen (view w) n)) no-process process-slots (w .processes)) ≡ length (w .processes)
       swept-length = changed-length (once-swept (seen (view w) n)) no-process process-slots (w .processes)
@@ -185,16 +205,25 @@ member-end-is t p e k i o =
 
 -- ---- as the code has it: q is the process at p, s its own namespace, k the init of that
 
-module _ (t : Table) (p : ℕ) (q : Process) (s : Namespace) (k : ℕ) (e : End) (r : Table) where
-  its-init : q ≡ getD (t .processes) p empty-process → s ≡ namespace t (q .own .0) → k ≡ init-of (s .life) → k ≡ init (view t) (view t .own p)
-  its-init at own has = has ∙ ap (λ x. init-of (x .life)) own ∙ ap (λ a. init-of (namespace t a .life)) (read-at t p q at .own)
+module _ (t : Table) (p : ℕ) (q : Process) (s : Namespace) (k : ℕ) (e : End) (r : Table) (at : q ≡ getD (t .processes) p empty-process) (own : s ≡ namespace t (q .own .0)) (has : k ≡ init-of (s .life)) where
+  found : k ≡ init-of (namespace t (getD (t .processes) p empty-process .own .0) .life)
+  found = has ∙ ap (λ x. init-of (x .life)) own ∙ ap (λ (x : Process). init-of (namespace t (x .own .0) .life)) at
 
-  pub end-of-init : length (t .processes) ≡ process-slots → length (t .namespaces) ≡ namespace-slots → q ≡ getD (t .processes) p empty-process → s ≡ namespace t (q .own .0) → k ≡ init-of (s .life) → k ≡ p → r ≡ end-init t p e
-      → Facts (view t) → So (living (view t) p) → r ≡ end t p e
-  unfolding is-init
-  end-of-init count namespace-count at own has c d f lives =
-      d ∙ init-end-is t count namespace-count f p e lives (eq-eqb _ p (sym (its-init at own has) ∙ c))
+  its-init : k ≡ init (view t) (view t .own p)
+  its-init = has ∙ ap (λ x. init-of (x .life)) own ∙ ap (λ a. init-of (namespace t a .life)) (read-at t p q at .own)
 
-  pub end-of-member : q ≡ getD (t .processes) p empty-process → s ≡ namespace t (q .own .0) → k ≡ init-of (s .life) → (k ≡ p → ⊥) → r ≡ handed-over t p e k → r ≡ end t p e
-  unfolding is-init
-  end-of-member at own has c d = d ∙ member-end-is t p e k (its-init at own has) (ne-eqb _ p (λ x. c (its-init at own has ∙ x)))
+  pub end-of-init : length (t .processes) ≡ process-slots → length (t .namespaces) ≡ namespace-slots → k ≡ p → r ≡ end-init t p e → Ends t p e r
+  unfolding is-init end-process
+  end-of-init count namespace-count c d =
+      record {
+        always = d ∙ sym (pick-yes (eqb _ p) (end-init t p e) _ (eq-eqb _ p (sym found ∙ c)));
+        as-defined = λ f lives. d ∙ init-end-is t count namespace-count f p e lives (eq-eqb _ p (sym its-init ∙ c));
+      }
+
+  pub end-of-member : (k ≡ p → ⊥) → r ≡ handed-over t p e k → Ends t p e r
+  unfolding is-init end-process
+  end-of-member c d =
+      record {
+        always = d ∙ ap (handed-over t p e) found ∙ sym (pick-no (eqb _ p) (end-init t p e) _ (ne-eqb _ p (λ x. c (found ∙ x))));
+        as-defined = λ f lives. d ∙ member-end-is t p e k its-init (ne-eqb _ p (λ x. c (its-init ∙ x)));
+      }

@@ -2,14 +2,17 @@
 -- the init of a namespace right below takes that one down by the same rule, the levels left falling; then those whose
 -- parent is inside are removed. proofs/Fallen.antt has the law that this is the change that the definitions make at one go.
 use Prim.Native.Nat.{ℕ, zero, suc}
-use mathlib.Core.Bool.{Bool, true, false, not}
+use mathlib.Core.Bool.{Bool, true, false, not, So}
 use mathlib.Core.List.{List}
+use mathlib.Core.Path.{_≡_}
 use lib.Dec.{eqb}
 use lib.ListN.{getD}
 use Rattle.table.proofs.FoldLoops.{turns}
+use Rattle.table.proofs.Laws.Facts.{Facts}
+use Rattle.table.specs.Ends.{end}
 use Rattle.table.specs.Fresh.{empty-process}
 use Rattle.table.specs.Limits.{deepest, namespace-slots, process-slots, sigkill}
-use Rattle.table.specs.Read.{view, process, pid-at, no-process, no-namespace, is-ended, is-unborn, init-of, seen}
+use Rattle.table.specs.Read.{view, process, namespace, pid-at, no-process, no-namespace, is-ended, is-unborn, init-of, living, seen}
 use Rattle.table.specs.Records.{as-ended, with-life, with-parent, put}
 use Rattle.table.specs.Tests.{_and_, _or_, if_then_else_, changed-to}
 use Rattle.table.specs.declared.End.{End}
@@ -89,3 +92,17 @@ once-handed p e k i q =
 unfoldable pub handed-over : Table → ℕ → End → ℕ → Table
 handed-over t p e k =
     record { processes = changed-to (once-handed p e k) no-process process-slots (t .processes); namespaces = t .namespaces }
+
+-- ---- any process
+
+-- the process at p ends for the reason e, with its namespace if it is its init
+unfoldable pub end-process : Table → ℕ → End → Table
+end-process t p e =
+    let k = init-of (namespace t (getD (t .processes) p empty-process .own .0) .life) in
+    if eqb k p then end-init t p e else handed-over t p e k
+
+-- r is what the end of the process at p leaves: always by the rules above; and document 01's end at one go, if the facts of
+-- a sound table hold, but for namespaces that nobody holds, and p has not ended
+pub record Ends (t : Table) (p : ℕ) (e : End) (r : Table) : Type 0 where
+  pub always : r ≡ end-process t p e
+  pub as-defined : Facts (view t) → So (living (view t) p) → r ≡ end t p e

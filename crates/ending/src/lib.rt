@@ -1,5 +1,5 @@
-// The end of a process, and the freeing of namespaces that nobody holds. A table is 2.5 kB and is copied at each call: what
-// is done at each slot takes one record, and the table goes only where it changes.
+// The end of a process, and the freeing of namespaces that nobody holds. A table is 2.5 kB and is copied at each call:
+// what is done at each slot takes one record, and the table goes only where it changes.
 use table::End;
 use table::LEVELS;
 use table::Life;
@@ -20,18 +20,16 @@ use tree::levels;
 use tree::seen;
 use tree::ups;
 ghost use mathlib.Core.Path.{_≡_};
-ghost use mathlib.Core.Bool.{So, true};
+ghost use mathlib.Core.Bool.{true};
 ghost use Prim.Native.Nat.{_<_};
 ghost use lib.ListN.{getD, set};
-ghost use Rattle.table.proofs.Laws.Facts.{Facts};
-ghost use Rattle.table.specs.Ends.{end};
 ghost use Rattle.table.specs.Freeing.{freed};
 ghost use Rattle.table.specs.Limits.{process-slots, namespace-slots};
-ghost use Rattle.table.specs.Read.{view, living, seen as seen-in, no-namespace, climb};
+ghost use Rattle.table.specs.Read.{view, seen as seen-in, no-namespace, climb};
 ghost use Rattle.table.specs.Records.{as-ended};
 ghost use Rattle.table.specs.Tests.{_and_};
 ghost use Rattle.tree.specs.Tree.{slot-in, level-in};
-ghost use Rattle.ending.specs.Ending.{killed as killed-by-9, dies-with, once-dead, marked-dead, falls-with, end-member, end-namespace, once-swept, swept, end-init, once-handed, handed-over};
+ghost use Rattle.ending.specs.Ending.{killed as killed-by-9, dies-with, once-dead, marked-dead, falls-with, end-member, end-namespace, once-swept, swept, end-init, once-handed, handed-over, Ends};
 ghost use Rattle.ending.specs.Holding.{mark-at, with-marks, marks-of, kept-for, once-freed};
 
 const SIGKILL: u8 = 9;
@@ -127,8 +125,8 @@ fn mark_dead(t: Table, n: NsSlot) -> Table
     u
 }
 
-// Whether the process p at a slot ends as n does: it is a member of n that has not ended, or the init of a namespace right
-// below n.
+// Whether the process p at a slot ends as n does: it is a member of n that has not ended, or the init of a namespace
+// right below n.
 fn falls_with(
     namespaces: [Namespace; NAMESPACE_SLOTS],
     n: NsSlot,
@@ -170,8 +168,8 @@ pub fn end_namespace(t: Table, n: NsSlot, left: u8) -> Table
     u
 }
 
-// Ends the process at i, which falls with n. A member of n is ended by signal 9; the init of a namespace right below takes
-// its own namespace down.
+// Ends the process at i, which falls with n. A member of n is ended by signal 9; the init of a namespace right below
+// takes its own namespace down.
 pub fn end_member(t: Table, n: NsSlot, i: usize, left: u8) -> Table
     requires { ⌜ i < process-slots ⌝ }
     ensures { λ r. ⌜ r ≡ end-member left t (n .0) i ⌝ }
@@ -295,9 +293,9 @@ fn hand_over(t: Table, slot: ProcSlot, how: End, init: ProcSlot) -> Table
     u
 }
 
-// The end of a process. The table need not be free of unheld namespaces: a signal to many ends several in a row.
+// The end of a process. The table may have namespaces that nobody holds: a signal to many ends several in a row.
 pub fn end_process(t: Table, slot: ProcSlot, how: End) -> Table
-    ensures { λ r. ⌜ (Facts (view t) → So (living (view t) (slot .0)) → r ≡ end t (slot .0) how) ⌝ }
+    ensures { λ r. ⌜ Ends t (slot .0) how r ⌝ }
 {
     let p = t.process(slot);
     let home = t.namespace(p.own);

@@ -1,8 +1,9 @@
--- `end_process` brings about the end of the definitions, in a table of which the facts hold.
+-- `end_process` ends an init with its namespace, and hands over the children of any other.
 use mathlib.Core.Path.{_≡_}
+use borrow.Author.Needs.{needs}
 use lib.ListN.{length}
 use Rattle.table.proofs.Slots.{length-mapped}
-use borrow.Author.Needs.{needs}
+use Rattle.table.specs.Limits.{namespace-slots, process-slots}
 use Rattle.ending.proofs.Fallen.{end-of-init, end-of-member}
 use Rattle.ending.proofs.end_process.Statement.{statement}
 use Rattle.ending.proofs.end_process.Tie as tie
@@ -20,16 +21,18 @@ end-init-requires : tie.Need-end-init-requires
 end-init-requires c κs = search needs
 
 returns : tie.Need-returns
-returns c facts lives =
-    let n : length (c .before .before .before .before .before .before .before .args .t .processes) ≡ 64 = search length-mapped in
-    let m : length (c .before .before .before .before .before .before .before .args .t .namespaces) ≡ 32 = let g = c .before .before .before .before .before .before .before .good in search length-mapped in
-    end-of-init _ _ _ _ _ _ _ n m (c .before .before .before .before .before .before .process .ensures) (c .before .before .before .before .before .namespace .ensures) (c .before .before .before .before .init .ensures) (c .before .if1 .taken) (c .end-init .ensures) facts lives
+returns c =
+    let start = c .before .before .before .before .before .before .before in
+    let good = start .good in
+    let n : length (start .args .t .processes) ≡ process-slots = search length-mapped in
+    let m : length (start .args .t .namespaces) ≡ namespace-slots = search length-mapped in
+    end-of-init _ _ _ _ _ _ _ (c .before .before .before .before .before .before .process .ensures) (c .before .before .before .before .before .namespace .ensures) (c .before .before .before .before .init .ensures) n m (c .before .if1 .taken) (c .end-init .ensures)
 
 hand-over-requires : tie.Need-hand-over-requires
 hand-over-requires c κs = search needs
 
 returns-2 : tie.Need-returns-2
-returns-2 c facts lives =
+returns-2 c =
     end-of-member _ _ _ _ _ _ _ (c .before .before .before .before .before .before .process .ensures) (c .before .before .before .before .before .namespace .ensures) (c .before .before .before .before .init .ensures) (c .before .if1 .left) (c .hand-over .ensures)
 
 pub end-process-spec : {M : Type 1} → statement M
