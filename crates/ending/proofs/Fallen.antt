@@ -11,7 +11,7 @@ use lib.Dec.{eqb}
 use lib.ListN.{length, getD, set, length-set, length-map, List·getD-eq-default}
 use lib.Seq.{getD-set-same, getD-set-other, ext-getD}
 use Rattle.table.proofs.Chains.{by-bool, pick-yes, pick-no, and-true, and-false, and-false-later}
-use Rattle.table.proofs.Laws.Cases.{no-so}
+use Rattle.table.proofs.Laws.Tests.{no-so}
 use Rattle.table.proofs.Laws.Facts.{Facts, Taken, Stands, Lives, Below, Seen, lives-taken, is-seen}
 use Rattle.table.proofs.Laws.Tree.{below-refl}
 use Rattle.table.proofs.MapLoops.{changed-length, changed-at}

@@ -15,9 +15,9 @@ use lib.Seq.{getD-set-same, getD-set-other}
 use Rattle.table.proofs.Chains.{by-bool, pick-yes, pick-no}
 use Rattle.table.proofs.FoldLoops.{turns}
 use Rattle.table.proofs.Laws.Below.{below-up, last-step, below-level, below-trans, no-level, shallow-below}
-use Rattle.table.proofs.Laws.Cases.{yes-or-no, no-so, life-cases, dead-otherwise, alive-unborn, dead-unborn}
+use Rattle.table.proofs.Laws.Tests.{yes-or-no, no-so, life-cases, dead-otherwise, alive-unborn, dead-unborn}
 use Rattle.table.proofs.Laws.Facts.{Facts, Taken, Stands, Lives, Below, Seen, Other, lives-taken, is-seen, seen-taken, seen-below, lives-or-ended}
-use Rattle.table.proofs.Laws.Quant.{left, right, both, cases, or-left, or-right}
+use Rattle.table.proofs.Laws.Tests.{left, right, both, cases, or-left, or-right}
 use Rattle.table.proofs.Laws.Slots.{alive-above, below-parent, below-same, init-own, init-taken, living-own-alive}
 use Rattle.table.proofs.Laws.Tree.{below-refl}
 use Rattle.table.proofs.MapLoops.{changed-length, changed-at}

@@ -14,9 +14,9 @@ use Rattle.table.proofs.Chains.{by-bool, pick-yes, pick-no}
 use Rattle.table.proofs.FoldLoops.{turns}
 use Rattle.table.proofs.Keeps.Changed.{getD-replicate}
 use Rattle.table.proofs.Laws.Below.{shallow-below}
-use Rattle.table.proofs.Laws.Cases.{no-so}
+use Rattle.table.proofs.Laws.Tests.{no-so}
 use Rattle.table.proofs.Laws.Facts.{Taken, Below}
-use Rattle.table.proofs.Laws.Quant.{left, right, both, cases, or-left, or-right, any-elim, any-intro}
+use Rattle.table.proofs.Laws.Tests.{left, right, both, cases, or-left, or-right, any-elim, any-intro}
 use Rattle.table.proofs.MapLoops.{Mapped, map-done}
 use Rattle.table.proofs.Sameness.Twins.{bool-ext}
 use Rattle.table.proofs.Slots.{length-mapped}
