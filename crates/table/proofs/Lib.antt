@@ -9,6 +9,8 @@ pub mod Laws
 pub mod Keeps
 pub mod Sameness
 pub mod Promises
+pub mod Witness
+pub mod Learnt
 -- Laws of chains of tests and of loops, each kind once.
 pub mod Chains
 pub mod AllLoops

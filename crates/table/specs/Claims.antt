@@ -111,3 +111,18 @@ Sameness =
     → sheet (view t) s ≡ sheet (view u) r
     → (es fs : List Event) → inside-calls es ≡ inside-calls fs → So (untouched t (at s) es) → So (untouched u (at r) fs)
     → Agree (observations t (at s) es) (observations u (at r) fs)
+
+-- no observation is a "no room"
+unfoldable pub roomy : List Observed → Bool
+roomy [] = true
+roomy (o ∷ os) = not (lacks-room o) and roomy os
+
+-- A program inside cannot learn, by any calls, anything of what stands outside, but by the four touches and the lack of
+-- room: where there is room, all that is observed is the same on both tables.
+unfoldable pub NothingLearnt : Type 0
+NothingLearnt =
+    (t u : Table) (s r : ℕ) → SoundTable t → SoundTable u → So (alive (view t) s) → So (alive (view u) r)
+    → sheet (view t) s ≡ sheet (view u) r
+    → (es fs : List Event) → inside-calls es ≡ inside-calls fs → So (untouched t (at s) es) → So (untouched u (at r) fs)
+    → So (roomy (observations t (at s) es)) → So (roomy (observations u (at r) fs))
+    → observations t (at s) es ≡ observations u (at r) fs
