@@ -64,6 +64,7 @@ module _ (v : View) (f : Facts v) (c n k : ℕ) (new : taken v k ≡ false) (tn 
       not-here : So (below v n s) → ⊥
       not-here b = false≢true (sym o ∙ b)
 
+  -- it leaves all that the sheet of S rests on
   pub birth-still : Still v v′ s (near v s)
   birth-still =
       record {
@@ -101,6 +102,7 @@ module _ (t : Table) (w : Sane t) (c n : ℕ) (tn : So (namespace-taken (view t)
   pub birth-stands : So (namespace-taken (view t) s) → So (namespace-taken (view (birth t c n)) s)
   birth-stands h = stands-still (view t) (view (birth t c n)) s (near (view t) s) (w .facts) still h
 
+-- plain clone
 pub clone-leaves : MadeLeaves Clone
 unfolding MadeLeaves make clone refused is-refused touched clones-into namespace-inside
 clone-leaves t s i h hs k a g = go (dead (view t) (view t .children i)) refl (eqb (free-slot (view t)) process-slots) refl g
@@ -162,6 +164,7 @@ module _ (t : Table) (h : SoundTable t) (c : ℕ) (room : free-namespace-slot (v
         lasts = λ i k. ap (λ z. z .last .0) (getD-set-other (t .namespaces) x (view t .own i) _ no-namespace (taken-other t ft c room _ (own-taken (view t) (ft .facts) i (seen-taken (view t) s i k))));
       }
 
+  -- a fresh namespace changes nothing for S
   pub new-same : Same (view t₁) (view t) s s
   new-same = same-still (view t) (view t₁) s (K t ft c room) (ft .facts) new-still
 
@@ -191,6 +194,7 @@ same-free : (t : Table) (c : ℕ) → free-slot (view (new-namespace t c)) ≡ f
 unfolding free-slot taken new-namespace
 same-free t c = refl
 
+-- clone new
 pub clone-new-leaves : MadeLeaves CloneNew
 unfolding MadeLeaves make clone-new refused
 clone-new-leaves t s i h hs k a g = go (eqb (own-level (view t) i) deepest) refl (eqb (free-slot (view t)) process-slots or eqb (free-namespace-slot (view t)) namespace-slots) refl g
@@ -229,6 +233,7 @@ clone-new-leaves t s i h hs k a g = go (eqb (own-level (view t) i) deepest) refl
 
 -- ---- unshare by an outsider
 
+-- unshare
 pub unshare-leaves : MadeLeaves Unshare
 unfolding MadeLeaves make unshare set-children answers granted refused namespace-taken
 unshare-leaves t s i h hs k a g = go (process t i .unshared) refl (eqb (own-level (view t) i) deepest) refl (eqb (free-namespace-slot (view t)) namespace-slots) refl

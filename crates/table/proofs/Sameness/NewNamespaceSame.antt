@@ -74,6 +74,7 @@ module _ (t : Table) (f : Sane t) (c : ℕ) (room : free-namespace-slot (view t)
   apart : (n : ℕ) → So (K n) → n ≡ x → ⊥
   apart n h = eqb-false n x (isnt _ h)
 
+  -- all that was there stands
   pub namespace-remain : Remain (view t) (view t₁) K everyone
   unfolding new-namespace
   namespace-remain =
@@ -259,6 +260,7 @@ module _ (t u : Table) (s r c d : ℕ) (w : Ready t u s r c d) (ot : own-level (
 levels-alike : (t u : Table) (s r c d : ℕ) → Ready t u s r c d → own-level (view t) c ≡ own-level (view u) d
 levels-alike t u s r c d w = twins-level (view t) (view u) s r (w .pair) _ _ (owns-twins t u s r c d w)
 
+-- unshare by twin callers
 pub unshare-same : MadeSame Unshare
 unfolding MadeSame make unshare answers granted
 unshare-same t u s r c d w h g = go (process t c .unshared) refl (eqb (own-level (view t) c) deepest) refl (eqb (free-namespace-slot (view t)) namespace-slots) refl (eqb (free-namespace-slot (view u)) namespace-slots) refl
@@ -278,6 +280,7 @@ unshare-same t u s r c d w h g = go (process t c .unshared) refl (eqb (own-level
         rw (em, sym mark ∙ em, ea, sym deep ∙ ea, eb, eb′, unshare)
         (unshared-kept t u s r c d w (eqb-false _ _ ea) (eqb-false _ _ (sym deep ∙ ea)) (eqb-false _ _ eb) (eqb-false _ _ eb′))
 
+-- clone new by twin callers
 pub clone-new-same : MadeSame CloneNew
 unfolding MadeSame make clone-new
 clone-new-same t u s r c d w h g = go (eqb (own-level (view t) c) deepest) refl (eqb (free-slot (view t)) process-slots or eqb (free-namespace-slot (view t)) namespace-slots) refl (eqb (free-slot (view u)) process-slots or eqb (free-namespace-slot (view u)) namespace-slots) refl

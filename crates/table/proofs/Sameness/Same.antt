@@ -18,6 +18,7 @@ use Rattle.table.specs.Tests.{values, if_then_else_}
 
 -- ---- two tables are the same to a namespace: its level, and each row of one is a row of the other
 
+-- its level, and each row of one is a row of the other
 pub record Same (v u : View) (s r : ℕ) : Type 0 where
   pub levels : v .level s ≡ u .level r
   pub there : (i : ℕ) → So (seen v s i) → (j : ℕ) × So (seen u r j) × (row v s i ≡ row u r j)
@@ -57,6 +58,7 @@ one-way v u s r h e i k =
     let (j, m, q) = map-in (row u r) (row v s i) (all-seen u r) (subst (In (row v s i)) (ap (λ x. x .rows) e) (in-map (row v s) i (all-seen v s) (seen-listed v h s i k))) in
     (j, listed-seen u r j m, q)
 
+-- equal sheets, and the same rows
 pub same-of-sheets : (v u : View) (s r : ℕ) → Facts v → Facts u → sheet v s ≡ sheet u r → Same v u s r
 unfolding sheet
 same-of-sheets v u s r h g e =
@@ -115,6 +117,7 @@ pub record Callers (v u : View) (s r i j : ℕ) : Type 0 where
   pub lt-t : i < process-slots
   pub lt-u : j < process-slots
 
+-- a number finds the same row, or nobody
 pub find-same : (v u : View) (s r k : ℕ) → Facts v → Facts u → So (namespace-taken v s) → So (namespace-taken u r) → sheet v s ≡ sheet u r → ((find v s k ≡ process-slots) × (find u r k ≡ process-slots)) ⊎ Callers v u s r (find v s k) (find u r k)
 find-same v u s r k h g hs hr e = go (find-cases v s k) (find-cases u r k)
   where

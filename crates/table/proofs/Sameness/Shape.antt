@@ -20,6 +20,7 @@ use Rattle.table.specs.Sheet.{dead-at, name, name-by, nearest, row}
 use Rattle.table.specs.Tests.{_and_, if_then_else_}
 use Rattle.table.specs.declared.Life.the-variants.{Dead}
 
+-- the processes of Q keep own namespace and numbers, the others are gone; the tree stays
 pub record Shape (v v′ : View) (Q : ℕ → Bool) : Type 0 where
   pub owns : (i : ℕ) → So (Q i) → v′ .own i ≡ v .own i
   pub pids : (i l : ℕ) → So (Q i) → v′ .pid i l ≡ v .pid i l
@@ -61,6 +62,7 @@ module _ (v v′ : View) (Q : ℕ → Bool) (w : Shape v v′ Q) where
 
 -- two tables, the rows of who remains given
 module _ (v u v′ u′ : View) (s r : ℕ) (w : Pair v u s r) (Q Q′ : ℕ → Bool) (a : Shape v v′ Q) (b : Shape u u′ Q′) (both-remain : (i j : ℕ) → Twin v u s r i j → Q i ≡ Q′ j) where
+  -- two tables that were the same to S still are, if the rows of who remains are
   pub same-shape : ((i j : ℕ) → Twin v u s r i j → So (Q i) → row v′ s i ≡ row u′ r j) → Same v′ u′ s r
   same-shape h =
       record {
@@ -127,6 +129,7 @@ module _ (v v′ : View) (f : Facts v) (Q : ℕ → Bool) (w : Shape v v′ Q) (
 
   -- the init of a namespace that lives on remains
   module _ (stays : (n : ℕ) → So (alive v n) → below v n top ≡ false → So (Q (init v n))) where
+    -- outside the subtree names stay; in it they name the init above
     pub name-out : (s n : ℕ) → below v n top ≡ false → So (namespace-taken v n) → name v′ s n ≡ name v s n
     name-out s n h = name-stays v v′ out f stays-out s (λ m k a. pid-in-shape v v′ Q w s (init v m) (stays m a (isnt (below v m top) k))) n (ap not h)
 
