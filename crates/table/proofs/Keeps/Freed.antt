@@ -21,8 +21,6 @@ use Rattle.table.specs.declared.Life.the-variants.{Unborn}
 use Rattle.table.specs.declared.Namespace.{Namespace}
 use Rattle.table.specs.declared.Table.{Table}
 
--- ---- freeing namespaces restores soundness
-
 -- ---- who is kept
 
 module _ (v : View) (p : Facts v) where

@@ -10,8 +10,6 @@ use lib.Dec.{eqb}
 use Rattle.table.proofs.Laws.Facts.{SignalsOk}
 use Rattle.table.specs.SignalSets.{has, with-signal, without-signal}
 
--- ---- laws of the sets of signals
-
 -- what is in a set with a signal more, or one less
 pub has-with-same : (m s : ℕ) → So (has (with-signal m s) s)
 unfolding has with-signal

@@ -42,8 +42,6 @@ use Rattle.table.specs.Touches.{touched, clones-into}
 use Rattle.table.specs.declared.Call.the-variants.{Clone, CloneNew, Unshare}
 use Rattle.table.specs.declared.Table.{Table}
 
--- ---- clone and clone new by an outsider, the child being born outside S
-
 -- a birth in a namespace that is not of S
 module _ (v : View) (f : Facts v) (c n k : ℕ) (new : taken v k ≡ false) (tn : So (namespace-taken v n)) (s : ℕ) (o : below v n s ≡ false) where
   abbrev v′ : View

@@ -132,9 +132,7 @@ along-with R S [] (y ∷ ys) h k = k
 along-with R S (x ∷ xs) [] h k = k
 along-with R S (x ∷ xs) (y ∷ ys) h k = (h x y (inl refl) (k .0), along-with R S xs ys (λ a b m r. h a b (inr m) r) (k .1))
 
--- ---- signals delivered to pairs of twins, one pair after the other
-
--- ---- effects
+-- ---- what a signal does
 
 twins-eqb : (v u : View) (s r : ℕ) (w : Pair v u s r) (a b n m : ℕ) → Twins v u s r a b → Twins v u s r n m → eqb a n ≡ eqb b m
 twins-eqb v u s r w a b n m j k =

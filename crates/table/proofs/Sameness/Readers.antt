@@ -21,8 +21,6 @@ use Rattle.table.specs.Tests.{_and_, if_then_else_}
 use Rattle.table.specs.declared.Life.the-variants.{Unborn, Alive, Dead}
 use Rattle.table.specs.declared.Life.{Life}
 
--- ---- more that reads the same on two tables that are the same to a living namespace
-
 module _ (v : View) (f : Facts v) where
   -- seen from one is seen from all above
   pub seen-above : (n m i : ℕ) → So (below v n m) → So (seen v n i) → So (seen v m i)

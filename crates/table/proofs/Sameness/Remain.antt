@@ -8,7 +8,7 @@ use Rattle.table.proofs.Laws.Slots.{own-taken}
 use Rattle.table.proofs.Laws.Tests.{and-false}
 use Rattle.table.proofs.Sameness.Same.{Same}
 use Rattle.table.proofs.Sameness.Stays.{Stays, below-stays, name-stays}
-use Rattle.table.proofs.Sameness.Twins.{Pair, Twin, twin-rows, twin-there, flip-pair, flip-twin}
+use Rattle.table.proofs.Sameness.Twins.{Pair, Twin, twin-rows, same-rows}
 use Rattle.table.specs.Limits.{levels}
 use Rattle.table.specs.Read.{View, alive, below, init, init-of, is-init, namespace-taken, pid-in, pid-seen, seen, taken}
 use Rattle.table.specs.Sheet.{Name, Row, name, row}
@@ -121,20 +121,8 @@ module _ (v u v′ u′ : View) (s r : ℕ) (w : Pair v u s r) (K Q K′ Q′ : 
   -- two tables that were the same to S still are, if what may change is the same
   pub same-remain : Same v′ u′ s r
   same-remain =
-      record {
-        levels = a .levels s hs ∙ w .same .levels ∙ sym (b .levels r hr);
-        there =
-            λ i k.
-            let q = remains v v′ K Q (w .facts-v) a s i k in
-            let (j, p) = twin-there v u s r w i (sym (seen-remain v v′ K Q (w .facts-v) a s i q) ∙ k) in
-            (j, seen-remain u u′ K′ Q′ (w .facts-u) b r j (sym (both-remain i j p) ∙ q) ∙ p .seen-u, remain-rows i j p q);
-        back =
-            λ j k.
-            let q = remains u u′ K′ Q′ (w .facts-u) b r j k in
-            let (i, p) = twin-there u v r s (flip-pair v u s r w) j (sym (seen-remain u u′ K′ Q′ (w .facts-u) b r j q) ∙ k) in
-            let p′ = flip-twin u v r s j i p in
-            (i, seen-remain v v′ K Q (w .facts-v) a s i (both-remain i j p′ ∙ q) ∙ p .seen-u, remain-rows i j p′ (both-remain i j p′ ∙ q));
-      }
+      same-rows v u v′ u′ s r w Q Q′ (a .levels s hs) (b .levels r hr) (seen-remain v v′ K Q (w .facts-v) a s) (remains v v′ K Q (w .facts-v) a s)
+      (seen-remain u u′ K′ Q′ (w .facts-u) b r) (remains u u′ K′ Q′ (w .facts-u) b r) both-remain remain-rows
 
 -- a namespace of K stands
 pub standing : (v v′ : View) (K Q : ℕ → Bool) → Remain v v′ K Q → (n : ℕ) → So (K n) → So (namespace-taken v n) → So (namespace-taken v′ n)

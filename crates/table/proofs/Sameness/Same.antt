@@ -16,8 +16,6 @@ use Rattle.table.specs.Read.{View, all-seen, namespace-taken, pid-seen, 
 use Rattle.table.specs.Sheet.{Row, row, sheet, name}
 use Rattle.table.specs.Tests.{values, if_then_else_}
 
--- ---- two tables are the same to a namespace: its level, and each row of one is a row of the other
-
 -- its level, and each row of one is a row of the other
 pub record Same (v u : View) (s r : ℕ) : Type 0 where
   pub levels : v .level s ≡ u .level r
@@ -102,8 +100,6 @@ same-trans v u x s r q a b =
       there = λ i k. let (j, m, e) = a .there i k in let (l, n, g) = b .there j m in (l, n, e ∙ g);
       back = λ l n. let (j, m, g) = b .back l n in let (i, k, e) = a .back j m in (i, k, e ∙ g);
     }
-
--- ---- finding the process that a number names
 
 -- ---- with equal sheets
 

@@ -222,3 +222,23 @@ module _ (v u : View) (s r : ℕ) (w : Pair v u s r) where
   unfolding pid-seen
   pid-twins i j n m k l =
       twin-pid v u s r w i j (v .level n) k (below-level v (w .facts-v) n s (l .below-v)) (level-lt v (w .facts-v) n (alive-taken v (w .facts-v) n (l .lives-v))) ∙ ap (u .pid j) (twins-level v u s r w n m l)
+
+-- Two tables stay the same to S where the processes of Q are seen as before, no others are, and their rows are the same.
+pub same-rows : (v u v′ u′ : View) (s r : ℕ) → Pair v u s r → (Q Q′ : ℕ → Bool) → v′ .level s ≡ v .level s → u′ .level r ≡ u .level r
+    → ((i : ℕ) → So (Q i) → seen v′ s i ≡ seen v s i) → ((i : ℕ) → So (seen v′ s i) → So (Q i)) → ((j : ℕ) → So (Q′ j) → seen u′ r j ≡ seen u r j) → ((j : ℕ) → So (seen u′ r j) → So (Q′ j))
+    → ((i j : ℕ) → Twin v u s r i j → Q i ≡ Q′ j) → ((i j : ℕ) → Twin v u s r i j → So (Q i) → row v′ s i ≡ row u′ r j) → Same v′ u′ s r
+same-rows v u v′ u′ s r w Q Q′ lv lu av bv au bu both h =
+    record {
+      levels = lv ∙ w .same .levels ∙ sym lu;
+      there =
+          λ i k.
+          let q = bv i k in
+          let (j, p) = twin-there v u s r w i (sym (av i q) ∙ k) in
+          (j, au j (sym (both i j p) ∙ q) ∙ p .seen-u, h i j p q);
+      back =
+          λ j k.
+          let q = bu j k in
+          let (i, p) = twin-there u v r s (flip-pair v u s r w) j (sym (au j q) ∙ k) in
+          let p′ = flip-twin u v r s j i p in
+          (i, av i (both i j p′ ∙ q) ∙ p .seen-u, h i j p′ (both i j p′ ∙ q));
+    }

@@ -47,8 +47,6 @@ use Rattle.table.specs.declared.State.the-variants.{Running, Stopped, En
 use Rattle.table.specs.declared.State.{State}
 use Rattle.table.specs.declared.Table.{Table}
 
--- ---- the removal of two twins that have ended: the tables stay the same to S
-
 -- ---- the lowest
 
 abbrev pub Least : (ℕ → Bool) → (ℕ → ℕ) → ℕ → ℕ → ℕ → Type 0
