@@ -25,7 +25,7 @@ unfolding is-init
 root-init v f i z = eq-eqb _ i (ap (init v) (ap (v .own) z ∙ f .root-own) ∙ f .root-init ∙ sym z)
 
 module _ (v : View) (i s : ℕ) where
-  -- what an effect needs
+  -- what an action needs
   abbrev pub Good : Action → Type 0
   Good Nothing = Unit {0}
   Good Resume = Lives v i

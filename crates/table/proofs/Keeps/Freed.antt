@@ -213,7 +213,7 @@ module _ (v : View) (p : Facts v) where
             (kept-cases v p n k);
       }
 
--- ---- a table that is sound up to freeing is sound once freed
+-- ---- a table with the facts is sound once freed
 
 -- what is read then
 pub freed-view : (t : Table) → So (shaped t) → view (freed t) ≡ restrict (kept (view t)) (view t)
