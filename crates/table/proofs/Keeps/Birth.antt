@@ -75,6 +75,7 @@ module _ (v : View) (n : ℕ) where
       held : (j : ℕ) → j ≤ process-slots → (find v n (restart-pid + j) < process-slots) × Seen v n (find v n (restart-pid + j)) × (pid-seen v n (find v n (restart-pid + j)) ≡ restart-pid + j)
       held j l = found v n (restart-pid + j) (h (restart-pid + j) (omega arith) (omega arith))
 
+  -- the next number is from 1 to 32,767, and nobody has it
   pub next-fresh : Fresh v n (next-pid v n)
   unfolding next-pid
   next-fresh = go (leb low greatest-pid) refl
@@ -99,6 +100,7 @@ module _ (v : View) (p : Facts v) (n : ℕ) (s : Stands v n) where
       let t = seen-taken v n i h in
       ⊎-elim (λ e. p .unborn-empty n s u i t e) (λ (m, x, o, e, b). p .unborn-leaf n s u m x o e) (last-step v p (v .own i) n (p .members i t .0 .0) (seen-below v n i h))
 
+  -- the first number in an unborn namespace is 1
   pub next-first : So (unborn v n) → next-pid v n ≡ 1
   unfolding next-pid
   next-first u =
@@ -284,6 +286,7 @@ module _ (v : View) (f : Facts v) (c n k : ℕ) (c-lives : Lives v c) (here : St
       rw (e, old-c) (⊎-elim up-own (λ u. absurd (not-first n (below-refl v n) (life-cases (v .life n) (no-so u) not-dead) one)) (yes-or-no (unborn v n))))
       (λ (y, z). rw (y, old-parent i z o) (f .first-parents i z o (sym (pid-w _ i y) ∙ (rw y at x)))) (taken-w i t)
 
+  -- the facts after a birth, and that each namespace is held
   pub born-facts : Facts w
   unfolding namespace-taken below
   born-facts =
@@ -408,6 +411,7 @@ module _ (t : Table) (g : So (shaped t)) (f : Facts (view t)) (c n : ℕ) (here 
   abbrev new : (m : ℕ) → Namespace → Namespace
   new m s = record { parent = s .parent; level = s .level; last = to-pid (next-pid v m); life = if is-unborn (s .life) then Alive (record { 0 = k }) else s .life }
 
+  -- what is read of the table of a birth
   pub birth-view : view (birth t c n) ≡ with-born v c n k
   unfolding birth joined newborn
   birth-view =

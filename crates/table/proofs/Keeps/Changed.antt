@@ -39,6 +39,7 @@ module _ {A : Type 0} (f : ℕ → A → A) (d : A) where
       go (yes e) r = rw e (getD-set-same (changed-to f d n l) n _ d (omega (arith, length-changed n l)))
       go (no o) r = getD-set-other (changed-to f d n l) n i _ d o ∙ r (omega arith)
 
+  -- each element of a changed list
   pub changed-at : (n : ℕ) (l : List A) → length l ≡ n → ((i : ℕ) → n ≤ i → f i d ≡ d) → (i : ℕ) → getD (changed-to f d n l) i d ≡ f i (getD l i d)
   changed-at n l e out i = go (decLt i n)
     where
@@ -85,6 +86,7 @@ abbrev pub process-shaped : Process → Bool
 process-shaped p = eqb (length (p .pids)) levels and ltb (p .handled) (2 ^ signals) and ltb (p .pending) (2 ^ signals)
 
 module _ (t : Table) (f : ℕ → Process → Process) (g : ℕ → Namespace → Namespace) (h : So (shaped t)) where
+  -- what is read of a changed table
   pub view-changed : ((i : ℕ) → process-slots ≤ i → f i no-process ≡ no-process) → ((n : ℕ) → namespace-slots ≤ n → g n no-namespace ≡ no-namespace)
       → view (changed t f g) ≡ view-of (λ i. f i (process t i)) (λ n. g n (namespace t n))
   view-changed out namespace-out =
@@ -111,6 +113,7 @@ stored l k x d h i = go (ℕ-discrete i k)
     go (no o) = rw (ne-eqb i k o) (getD-set-other l k i x d o)
 
 module _ (t : Table) (h : So (shaped t)) (k : ℕ) where
+  -- what is read of a table with one record put
   pub view-put : (x : Process) → k < process-slots → view (put t k x) ≡ view-of (λ i. if eqb i k then x else process t i) (namespace t)
   view-put x l = ap₂ view-of (fun-ext (stored (t .processes) k x no-process (omega (arith, process-count t h)))) refl
 

@@ -67,6 +67,7 @@ namespace-sane t s c l a b =
       facts = subst Facts (sym (new-namespace-view t (s .shape-of) c low)) (namespace-facts (view t) f (view t .own c) _ (m .0 .0) d (λ x. not-ended (view t) c l (m .0 .1 x)) (m .1) low free);
     }
 
+-- each change keeps the facts, so a run of them does
 pub change-sane : (t u : Table) → Sane t → Change t u → Sane u
 change-sane t u s (ends p e l o ok) = end-sane t s p e l o ok
 change-sane t u s (signals-of c l x o k h q ok a b) = signalled-sane t s c l x o h q k ok a b
@@ -102,11 +103,13 @@ pub data Made (t : Table) : Table → Type 0 where
   born : (c n : ℕ) → MayBear (view t) c n → Made t (birth t c n)
   born-in-new : (c n : ℕ) → Change t (new-namespace t c) → free-namespace-slot (view t) < namespace-slots → MayBear (view (new-namespace t c)) c n → Made t (birth (new-namespace t c) c n)
 
+-- a birth makes a sound table
 pub birth-keeps : (t : Table) → Sane t → (c n : ℕ) → MayBear (view t) c n → SoundTable (birth t c n)
 birth-keeps t s c n m =
     let (low, free) = K.free-slot-is (view t) (m .room) in
     K.birth-sound t (s .shape-of) (s .facts) c n (m .lives) (m .namespace) (m .below) (m .not-dead) low free (m .up-own) (m .holder) (m .held-by)
 
+-- what a call makes of a sound table is sound
 pub made-sound : (t u : Table) → SoundTable t → Made t u → SoundTable u
 made-sound t u h nothing-done = h
 made-sound t u h (freed-after x r) = let s = run-sane t x (sane t h) r in freed-keeps x (s .shape-of) (s .facts)
@@ -121,6 +124,7 @@ unfolding resumed with-pending
 resumed-run t u r s i l true e = let (a, b, f) = sets u s i l in rw (e, resumed) (more r (signals-of i l Running refl refl _ _ (pend-ok _ _ 18 f e) a (with-signal-lt signals _ 18 b (omega arith))))
 resumed-run t u r s i l false e = let (a, b, f) = sets u s i l in rw (e, resumed) (more r (signals-of i l Running refl refl _ _ f a b))
 
+-- what a signal does to a process is a run
 pub act-run : (t u : Table) → Run t u → Sane u → (i k : ℕ) → k < signals → (e : Action) → Good (view u) i k e → Run t (act u i k e)
 unfolding act with-pending
 act-run t u r s i k l Nothing g = r
@@ -138,6 +142,7 @@ pub deliver-sane : (t : Table) → Sane t → (i k : ℕ) → k < signals → (f
 unfolding deliver
 deliver-sane t s i k l from safe = act-sane t s i k l (action-on (view t) from i k) (action-good (view t) i k from (s .facts) safe)
 
+-- and so are deliveries
 pub deliver-run : (t u : Table) → Run t u → Sane u → (from k : ℕ) → k < signals → (is : List ℕ) → Safe from is → Run t (deliver-all u from is k)
 unfolding deliver deliver-all
 deliver-run t u r s from k l [] h = r
@@ -178,6 +183,7 @@ module _ (t : Table) (c : ℕ) (h : SoundTable t) (r : So (runs (view t) c)) whe
   handled s x y n m true = let (a, b, k) = sets t (sane t h) c lives in signalled c lives _ _ (on-ok _ _ _ x n m k) (with-signal-lt signals _ s a y) b
   handled s x y n m false = let (a, b, k) = sets t (sane t h) c lives in signalled c lives (without-signal (v .handled c) s) (without-signal (v .pending c) s) (off-ok _ _ _ k) (omega (arith, without-signal-le (v .handled c) s, a)) (omega (arith, without-signal-le (v .pending c) s, b))
 
+  -- each call makes one of these of the table
   pub call-made : (call : Call) → Made t (make t c call .table)
   unfolding make clone clone-new unshare setns set-children kill exit wait getpid getppid handle poll answers granted refused
   call-made Clone =
@@ -240,6 +246,7 @@ unshare-sane t h c r deep room =
 pub make-sound : (t : Table) (c : ℕ) (call : Call) → SoundTable t → So (runs (view t) c) → SoundTable (make t c call .table)
 make-sound t c call h r = made-sound t _ h (call-made t c h r call)
 
+-- each call leaves a sound table sound
 pub keeps-sound : KeepsSound
 unfolding KeepsSound
 keeps-sound t c call h = made-or-refused SoundTable t c call h h (make-sound t c call h)

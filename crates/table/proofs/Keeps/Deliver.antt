@@ -25,7 +25,7 @@ unfolding is-init
 root-init v f i z = eq-eqb _ i (ap (init v) (ap (v .own) z ∙ f .root-own) ∙ f .root-init ∙ sym z)
 
 module _ (v : View) (i s : ℕ) where
-  -- what an effect needs
+  -- what an action needs
   abbrev pub Good : Action → Type 0
   Good Nothing = Unit {0}
   Good Resume = Lives v i
@@ -37,6 +37,7 @@ module _ (v : View) (i s : ℕ) where
   unfolding default-action
   default-good l o h = choose Good (eqb s 17 or eqb s 23 or eqb s 28) (λ a. tt) (λ a. choose Good (eqb s sigcont) (λ b. l) (λ b. choose Good (eqb s sigstop or eqb s 20 or eqb s 21 or eqb s 22) (λ c. l) (λ c. (l, o, h))))
 
+  -- what a signal does may be done: 9 and 19 spare the root init, and only a handled signal becomes pending
   pub action-good : (from : ℕ) → Facts v → (i ≡ 0 → from ≡ 0) → Good (action-on v from i s)
   unfolding action-on
   action-good from f safe =
@@ -48,6 +49,7 @@ module _ (v : View) (i s : ℕ) where
       (λ c. choose Good (is-init v i and eqb (v .own i) from) (λ d. tt) (λ d. default-good l (λ z. no-so d (both _ _ (root-init v f i z) (eq-eqb _ from (ap (v .own) z ∙ f .root-own ∙ sym (safe z))))) h))
       (λ c. choose Good (has (v .handled i) s) (λ d. (l, d)) (λ d. choose Good (is-init v i) (λ e. tt) (λ e. default-good l (λ z. no-so e (root-init v f i z)) h)))))
 
+-- a handled signal may be pending
 pub pend-ok : (h q s : ℕ) → SignalsOk h q → So (has h s) → SignalsOk h (with-signal q s)
 pend-ok h q s k x = (k .0, λ b l y. go b l y (ℕ-discrete b s))
   where

@@ -107,6 +107,7 @@ module _ (t : Table) (s : Sane t) (p : ℕ) (e : End) (here : Taken (view t) p) 
   unfolding child-of
   no-child i l = false-and (taken v i) _ (λ k. omega (arith, f .in-range i k))
 
+  -- what is read then
   pub member-view : view after-member ≡ member-gone v p q e
   unfolding member-ends
   member-view =
@@ -166,6 +167,7 @@ module _ (t : Table) (s : Sane t) (p : ℕ) (e : End) (here : Taken (view t) p) 
   bare : (i : ℕ) → So (seen v n i) → So (v .ended i) → (((v .children i ≡ no-slot) × (v .handled i ≡ 0)) × (v .pending i ≡ 0)) × (So (v .unshared i) → ⊥)
   bare i s d = f .ended-bare i (seen-taken v n i s) d
 
+  -- what is read then
   pub subtree-view : view after-init ≡ subtree-gone v n p e
   unfolding init-ends namespace-dies gone
   subtree-view =
@@ -192,6 +194,7 @@ module _ (t : Table) (s : Sane t) (p : ℕ) (e : End) (here : Taken (view t) p) 
 
   -- ---- either
 
+  -- what is read of the table of an end
   pub end-view : view (end t p e) ≡ ended-view v p e
   unfolding end
   end-view = pick view (is-init v p) after-init after-member ∙ ap₂ (λ (x y : View). if is-init v p then x else y) subtree-view member-view
@@ -206,6 +209,7 @@ end-tree t s p e here =
     subst (λ (u : View). (u .up ≡ view t .up) × (u .level ≡ view t .level)) (sym (end-view t s p e here))
     (choose (λ (u : View). (u .up ≡ view t .up) × (u .level ≡ view t .level)) (is-init (view t) p) (λ i. (refl, refl)) (λ i. (refl, refl)))
 
+-- an end keeps the facts
 pub end-sane : (t : Table) → Sane t → (p : ℕ) (e : End) → Lives (view t) p → Other p → So (kept-end (Ended e)) → Sane (end t p e)
 end-sane t s p e lives other ok =
     let here = lives-taken (view t) p lives in

@@ -64,6 +64,7 @@ module _ (v : View) (f : Facts v) (c : ℕ) (here : Taken v c) where
   meant-named zero i h e = absurd (counted i h e)
   meant-named (suc k) i h e = ap (find v (v .own c)) (sym e) ∙ finds v f (v .own c) i place h
 
+  -- exactly those that the kill means are among the found
   pub targets-meant : (n : ℤ) (i : ℕ) → So (some-of (eqb i) (targets v c n)) ↔ So (meant v c n i)
   unfolding targets meant others all-seen
   targets-meant (pos n) i = (λ h. there (eqb (named v c (pos n)) process-slots) refl (some-of-in i _ h), λ h. back h)
@@ -205,10 +206,12 @@ kill-leaves t c h n s i o =
     freed-leaves _ (deliver-all-sane t (sane t h) (view t .own c) (natural s) l (targets (view t) c n) safe .shape-of) i
     ∙ deliver-all-leaves t (view t .own c) t (sane t h) (record { shrinks = λ j y. (y, refl); ups = refl; levels = refl }) (λ j o. refl) (view t .own c) (natural s) l (targets (view t) c n) safe (each-of _ (targets (view t) c n) (targets-seen (view t) c n)) i o)))
 
+-- a kill changes no record of a process that the caller does not see
 pub spares : (t : Table) (c i : ℕ) (n s : ℤ) → SoundTable t → (Seen (view t) (view t .own c) i → ⊥) → process (step t c (Kill n s) .table) i ≡ process t i
 unfolding make
 spares t c i n s h o = made-or-refused (λ u. process u i ≡ process t i) t c (Kill n s) h refl (λ r. kill-leaves t c h n s i o)
 
+-- both
 pub signal-finds : SignalFinds
 unfolding runs
 signal-finds = record { finds = λ t c i n h r. targets-meant (view t) (facts t h) c (left _ _ r) n i; spares = spares }

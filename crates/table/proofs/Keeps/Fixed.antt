@@ -62,6 +62,7 @@ end-shrinks : (t : Table) (s : Sane t) (p : ℕ) (e : End) → Lives (view t) p 
 unfolding taken
 end-shrinks t s p e l o ok = subst (Shrinks (view t)) (sym (end-view t s p e (lives-taken (view t) p l))) (choose (Shrinks (view t)) (is-init (view t) p) (λ i. subtree-shrinks (view t) (view t .own p) p e) (λ i j x. (x, refl)))
 
+-- no change but a birth adds a process or moves one
 pub change-shrinks : (t u : Table) → Sane t → Change t u → Shrinks (view t) (view u)
 unfolding taken
 change-shrinks t u s (ends p e l o ok) = end-shrinks t s p e l o ok
@@ -100,6 +101,7 @@ made-fixed t u h (born-in-new c n k low m) i x y =
     let (z, e) = namespace-grows t (sane t h) c low i x in
     birth-grows (new-namespace t c) (change-sane t (new-namespace t c) (sane t h) k) c n m i z .1 ∙ e
 
+-- a process never changes namespace
 pub namespace-fixed : NamespaceFixed
 unfolding NamespaceFixed
 namespace-fixed t c i call h x y = made-or-refused (λ u. Taken (view u) i → view u .own i ≡ view t .own i) t c call h (λ y. refl) (λ r. made-fixed t _ h (call-made t c h r call) i x) y
@@ -214,10 +216,12 @@ module _ (v u : View) (f : Facts v) (g : Facts u) (n : ℕ) (onward : (m : ℕ) 
       g .below-dead m s other (subst (λ x. So (dead u x)) (sym up) above))
       (climb-cases (v .up) k m n h)
 
+  -- each namespace of the subtree is dead or freed
   pub namespaces-fall : (m : ℕ) → Below v m n → Stands u m → So (dead u m)
   unfolding below
   namespaces-fall m h s = all-dead (v .level m) m refl h s
 
+  -- each process of it is ended or removed
   pub processes-fall : (i : ℕ) → Seen v n i → Lives u i → ⊥
   processes-fall i h l =
       let t = lives-taken u i l in
@@ -225,6 +229,7 @@ module _ (v u : View) (f : Facts v) (g : Facts u) (n : ℕ) (onward : (m : ℕ) 
       let s = g .members i t .0 in
       not-ended u i l (s .1 (namespaces-fall (u .own i) (subst (λ x. Below v x n) (sym e) (seen-below v n i h)) (s .0)))
 
+-- a namespace's first process takes its subtree down
 pub subtree-falls : SubtreeFalls
 unfolding SubtreeFalls
 subtree-falls t c n call h a =

@@ -21,11 +21,10 @@ use Rattle.table.specs.declared.Life.the-variants.{Unborn}
 use Rattle.table.specs.declared.Namespace.{Namespace}
 use Rattle.table.specs.declared.Table.{Table}
 
--- ---- freeing namespaces restores soundness
-
 -- ---- who is kept
 
 module _ (v : View) (p : Facts v) where
+  -- what is kept: the root, and what somebody holds in the subtree
   pub kept-cases : (n : ℕ) → So (kept v n) → (n ≡ 0) ⊎ ((i : ℕ) × Taken v i × (Below v (v .own i) n ⊎ Below v (v .children i) n))
   unfolding kept
   kept-cases n h =
@@ -138,6 +137,7 @@ module _ (v : View) (p : Facts v) where
   zeroed n o true e = rw e (p .empty-namespace n (λ s. o (stays n e s)))
   zeroed n o false e = rw e (both _ _ (both _ _ (both _ _ refl refl) refl) refl)
 
+  -- freeing keeps the facts and restores that each namespace is held
   pub freed-facts : Facts w
   unfolding taken living zero-process pid-seen
   freed-facts =
@@ -213,8 +213,9 @@ module _ (v : View) (p : Facts v) where
             (kept-cases v p n k);
       }
 
--- ---- a table that is sound up to freeing is sound once freed
+-- ---- a table with the facts is sound once freed
 
+-- what is read then
 pub freed-view : (t : Table) → So (shaped t) → view (freed t) ≡ restrict (kept (view t)) (view t)
 unfolding freed
 freed-view t h =
@@ -243,6 +244,7 @@ freed-view t h =
     read g true s = refl
     read g false s = refl
 
+-- so the table is sound
 pub freed-keeps : (t : Table) → So (shaped t) → Facts (view t) → SoundTable (freed t)
 unfolding freed
 freed-keeps t h p =

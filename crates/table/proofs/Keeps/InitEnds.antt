@@ -175,6 +175,7 @@ module _ (v : View) (f : Facts v) (p : ℕ) (e : End) (lives : Lives v p) (its-i
   ended-as false true false i true h = sym h ∙ f .ended-is i
   ended-as false true false i false h = refl
 
+  -- the facts then
   pub subtree-facts : Facts w
   unfolding namespace-taken below pid-seen
   subtree-facts =

@@ -13,6 +13,7 @@ use Rattle.table.specs.Sound.{kept-end, zero-namespace, zero-process}
 use Rattle.table.specs.Tests.{if_then_else_}
 use Rattle.table.specs.declared.State.{State}
 
+-- the view with these of the process at c
 abbrev pub with-lights : View → ℕ → State → ℕ → ℕ → ℕ → Bool → View
 with-lights v c s h q m u =
     record {
@@ -59,6 +60,7 @@ module _ (v : View) (f : Facts v) (c : ℕ) (s : State) (h q m : ℕ) (mark : Bo
   unfolding zero-process
   empty-w i o = rw (ne-eqb i c (λ x. o (subst (Taken v) (sym x) (lives-taken v c c-lives)))) (f .empty-process i o)
 
+  -- the facts then
   pub lights-facts : Facts w
   unfolding taken living namespace-taken below seen pid-seen zero-namespace
   lights-facts =

@@ -164,6 +164,7 @@ module _ (v : View) (f : Facts v) (p : ℕ) (e : End) (lives : Lives v p) (no-in
   unfolding zero-process child-of
   empty i h = rw (ne-eqb i p (λ x. h (subst (Taken v) (sym x) p-taken)), false-and (taken v i) _ h) (f .empty-process i h)
 
+  -- the facts then
   pub member-facts : Facts w
   unfolding taken living namespace-taken below seen pid-seen zero-namespace
   member-facts =

@@ -17,6 +17,7 @@ use Rattle.table.specs.Sound.{zero-namespace, zero-process}
 use Rattle.table.specs.Tests.{if_then_else_}
 use Rattle.table.specs.declared.Life.the-variants.{Unborn}
 
+-- the view with an unborn namespace at j below a
 abbrev pub with-namespace : View → ℕ → ℕ → View
 with-namespace v a j =
     record {
@@ -106,6 +107,7 @@ module _ (v : View) (f : Facts v) (a j : ℕ) (a-namespace : Stands v a) (low : 
       ⊎-elim (λ x. rw (eq-eqb m j x, old a a-namespace) ((is-namespace a a-namespace, refl), low))
       (λ (y, z). let ((p, q), r) = f .tree m z o in rw (y, old _ p) ((is-namespace _ p, q), r)) (namespace-w m s)
 
+  -- the facts then
   pub namespace-facts : Facts w
   unfolding taken living zero-process
   namespace-facts =

@@ -29,6 +29,7 @@ use Rattle.table.specs.declared.Table.{Table}
 
 -- ---- free slots
 
+-- a slot that is found free is in range and empty
 pub free-slot-is : (v : View) → (free-slot v ≡ process-slots → ⊥) → (free-slot v < process-slots) × (Taken v (free-slot v) → ⊥)
 unfolding free-slot
 free-slot-is v o = let r = lowest-is (λ i. not (taken v i)) process-slots 0 in let l : lowest (λ i. not (taken v i)) process-slots 0 < process-slots = omega (arith, r .upto) in (l, λ t. no-so (ap not t) (r .holds (omega arith)))
@@ -42,6 +43,7 @@ free-namespace-is v o = let r = lowest-is (λ i. not (namespace-taken v i)) name
 safe-seen : (v : View) → Facts v → (n i : ℕ) → Seen v n i → i ≡ 0 → n ≡ 0
 safe-seen v f n i h z = sym (shallow-below v 0 n (f .root-level) (subst (λ m. Below v m n) (ap (v .own) z ∙ f .root-own) (seen-below v n i h)))
 
+-- the root init is found from the root alone
 pub targets-safe : (v : View) → Facts v → (c : ℕ) (n : ℤ) → Safe (v .own c) (targets v c n)
 targets-safe v f c n = each-of _ (targets v c n) (λ i m. safe-seen v f (v .own c) i (targets-seen v c n i m))
 
@@ -49,6 +51,7 @@ pub natural-low : (s : ℤ) → So (within 0 signals s) → natural s < signals
 natural-low (pos k) h = omega (arith, ltb-true k signals (right _ _ h))
 natural-low (negsuc k) h = absurd (false≢true h)
 
+-- a birth where it may be makes a sound table
 pub birth-sound : (t : Table) (g : So (shaped t)) (f : Facts (view t)) (c n : ℕ) → Lives (view t) c → Stands (view t) n → Below (view t) n (view t .own c) → (So (dead (view t) n) → ⊥) → free-slot (view t) < process-slots → (Taken (view t) (free-slot (view t)) → ⊥) → (So (unborn (view t) n) → view t .own c ≡ view t .up n)
     → ((m : ℕ) → Stands (view t) m → So (unborn (view t) m) → (m ≡ n → ⊥) → (i : ℕ) × Taken (view t) i × (view t .children i ≡ m)) → ((m : ℕ) → Stands (view t) m → (m ≡ n) ⊎ Holder (view t) m) → SoundTable (birth t c n)
 birth-sound t g f c n l s b d low free u x y =
@@ -109,5 +112,6 @@ module _ (t : Table) (c : ℕ) (h : SoundTable t) (r : So (runs (view t) c)) whe
     next : Table
     next = new-namespace t c
 
+    -- a new namespace is ready for a child or a holder
     pub ready-next : Ready (view (new-namespace t c)) c j (free-slot v)
     ready-next = subst (λ u. Ready u c j (free-slot v)) (sym (new-namespace-view t (h .shape) c j-low)) (ready v f a j a-namespace low not-dead (f .members c here .1) j-low j-free c lives refl (held-in t h))

@@ -39,6 +39,7 @@ module _ (t : Table) (sane : Sane t) (c : ℕ) (c-lives : Lives (view t) c) (s :
   low-c : c < process-slots
   low-c = sane .facts .in-range c (lives-taken (view t) c c-lives)
 
+  -- what is read then
   pub lights-view : view (put t c y) ≡ with-lights (view t) c s h q m mark
   lights-view =
       view-put t (sane .shape-of) c y low-c
@@ -94,6 +95,7 @@ module _ (t : Table) (sane : Sane t) (d : ℕ) (over : So (view t .ended d)) whe
   low-d : d < process-slots
   low-d = ended-low t (sane .shape-of) d over
 
+  -- what is read then
   pub reaped-view : view (put t d empty-process) ≡ without (view t) d
   reaped-view =
       view-put t (sane .shape-of) d empty-process low-d
@@ -125,6 +127,7 @@ module _ (t : Table) (g : So (shaped t)) (c : ℕ) (low : free-namespace-slot (v
   abbrev z : Namespace
   z = record { parent = record { 0 = view t .own c }; level = suc (view t .level (view t .own c)); last = to-pid 0; life = Unborn }
 
+  -- what is read then
   pub new-namespace-view : view (new-namespace t c) ≡ with-namespace (view t) (view t .own c) j
   unfolding new-namespace
   new-namespace-view =

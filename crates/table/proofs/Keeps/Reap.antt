@@ -15,6 +15,7 @@ use Rattle.table.specs.Sound.{reaches-root, zero-namespace, zero-process
 use Rattle.table.specs.Tests.{if_then_else_}
 use Rattle.table.specs.declared.State.the-variants.{Running}
 
+-- the view with the slot d emptied
 abbrev pub without : View → ℕ → View
 without v d =
     record {
@@ -83,6 +84,7 @@ module _ (v : View) (f : Facts v) (d : ℕ) (over : So (v .ended d)) where
   unfolding below
   above-w i t o = let (y, k) = stays i t in rw (y, parent-stays i k o) (f .parents i k o .0 .1)
 
+  -- the facts then
   pub reaped-facts : Facts w
   unfolding namespace-taken below zero-namespace
   reaped-facts =

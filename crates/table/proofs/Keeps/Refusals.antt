@@ -61,6 +61,7 @@ module _ (t : Table) (c : ℕ) where
   make-leaves (Handle s on) = choose (Leaves t) (not (within 1 signals s) or eqb (natural s) sigkill or eqb (natural s) sigstop) (λ a. refuses t Einval) (λ a. grants t _ refl)
   make-leaves Poll = choose (Leaves t) (eqb (lowest-signal (process t c .pending)) signals) (λ a. grants t _ refl) (λ a. grants t _ refl)
 
+-- a refusal of any call on any table
 pub refusal-leaves : RefusalLeaves
 unfolding RefusalLeaves step
 refusal-leaves t c call = choose (Leaves t) (sound t) (λ a. choose (Leaves t) (runs (view t) c) (λ a. make-leaves t c call) (λ a. refuses t NotRunning)) (λ a. refuses t Unsound)

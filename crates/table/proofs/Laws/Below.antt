@@ -20,6 +20,7 @@ pub deep-namespace : (v : View) (n k : ℕ) → v .level n ≡ suc k → Stands 
 unfolding namespace-taken _or_
 deep-namespace v n k e = rw (e, ne-eqb (suc k) 0 (λ q. omega arith)) (or-true (eqb n 0))
 
+-- a climb from level 0 goes nowhere
 pub shallow-below : (v : View) (a n : ℕ) → v .level a ≡ 0 → Below v a n → a ≡ n
 unfolding below climb
 shallow-below v a n e h = eqb-true a n (subst (λ k. So (climb (v .up) k a n)) e h)
@@ -28,6 +29,7 @@ module _ (v : View) (p : Facts v) where
   pub not-root : (n k : ℕ) → v .level n ≡ suc k → Other n
   not-root n k e z = omega (arith, sym (ap (v .level) z), p .root-level)
 
+  -- each parent is one level up
   pub up-level : Stepwise v
   up-level a k e = omega (arith, p .tree a (deep-namespace v a k e) (not-root a k e) .0 .1)
 
@@ -54,6 +56,7 @@ module _ (v : View) (p : Facts v) where
           (go k (v .up a) (up-level a k e) (p .tree a s (not-root a k e) .0 .0) r))
           (climb-cases (v .up) k a n h)
 
+  -- what is no namespace has no level
   pub no-level : (n : ℕ) → (Stands v n → ⊥) → v .level n ≡ 0
   unfolding namespace-taken _or_
   no-level n o = go (v .level n) refl
@@ -69,6 +72,7 @@ module _ (v : View) (p : Facts v) where
       (λ e. let q : v .children i ≡ no-slot = p .ended-bare i t e .0 .0 .0 in absurd (omega (arith, p .in-namespace n s, shallow-below v _ n (no-level (v .children i) (λ k. omega (arith, p .in-namespace (v .children i) k))) h)))
       (lives-or-ended v i t)
 
+  -- what lies below has the same level or a greater one
   pub below-level : (a n : ℕ) → Below v a n → v .level n ≤ v .level a
   unfolding below climb
   below-level a n h = go (v .level a) a refl h

@@ -29,6 +29,7 @@ pub record Sound (v : View) : Type 0 where
   pub ends-kept : So (S.ends-kept v)
   pub namespaces-held : So (S.namespaces-held v)
 
+-- together they are soundness
 pub sound-is : (v : View) → So (sound-view v) → Sound v
 unfolding sound-view
 sound-is v h =

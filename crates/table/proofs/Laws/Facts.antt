@@ -20,6 +20,7 @@ use Rattle.table.specs.declared.Namespace.{Namespace}
 use Rattle.table.specs.declared.Process.{Process}
 use Rattle.table.specs.declared.Table.{Table}
 
+-- short words for what tests say
 abbrev pub Taken : View → ℕ → Type 0
 Taken v i = So (taken v i)
 
@@ -45,6 +46,7 @@ pid-ok v i l = So (if leb l (v .level (v .own i)) then leb 1 (v .pid i l) and le
 abbrev pub SignalsOk : ℕ → ℕ → Type 0
 SignalsOk h q = (((So (has h 0) → ⊥) × (So (has h 9) → ⊥)) × (So (has h 19) → ⊥)) × ((s : ℕ) → s < signals → So (has q s) → So (has h s))
 
+-- what holds of a table, by its slots, at every point of a call
 pub record Facts (v : View) : Type 0 where
   pub ended-is : (i : ℕ) → v .ended i ≡ is-ended (v .state i)
   pub in-range : (i : ℕ) → Taken v i → i < process-slots
@@ -86,10 +88,12 @@ pub data Holder (v : View) (n : ℕ) : Type 0 where
   for-children : (i : ℕ) → Taken v i → v .children i ≡ n → Holder v n
   child : (m : ℕ) → Stands v m → Other m → v .up m ≡ n → Holder v n
 
+-- what freeing restores: each unborn namespace has a holder, and each taken one is held
 pub record Held (v : View) : Type 0 where
   pub holder : (n : ℕ) → Stands v n → So (unborn v n) → (i : ℕ) × Taken v i × (v .children i ≡ n)
   pub held-by : (n : ℕ) → Stands v n → Holder v n
 
+-- living, ended, seen
 pub lives-taken : (v : View) (i : ℕ) → Lives v i → Taken v i
 unfolding living
 lives-taken v i h = left _ _ h
@@ -118,6 +122,7 @@ pub seen-below : (v : View) (n i : ℕ) → Seen v n i → Below v (v .own i) n
 unfolding seen
 seen-below v n i h = right _ _ h
 
+-- seen: in the table, and its own namespace lies below
 pub is-seen : (v : View) (n i : ℕ) → Taken v i → Below v (v .own i) n → Seen v n i
 unfolding seen
 is-seen v n i t b = both _ _ t b
@@ -126,6 +131,7 @@ pub root-namespace : (v : View) (n : ℕ) → n ≡ 0 → Stands v n
 unfolding namespace-taken
 root-namespace v n e = or-left _ _ (eq-eqb n 0 e)
 
+-- the test "held" as a statement, and back
 pub holder-of : (v : View) (n : ℕ) → So (held v n) → Holder v n
 unfolding held holds
 holder-of v n h =
@@ -155,6 +161,7 @@ module _ (v : View) (p : Facts v) where
   held-namespace n l (for-children i t e) = subst (Stands v) e (child-namespace i t (omega arith))
   held-namespace n l (child m s o e) = subst (Stands v) e (p .tree m s o .0 .0)
 
+  -- the facts make a sound table
   pub is-sound-view : Held v → Sound v
   unfolding S.root-process S.have-parents S.root-namespace S.inits S.empty-slots S.namespace-tree S.below-dead S.holds S.unborn-namespace S.unborn-namespaces S.last-pids S.pid-range S.pids-differ S.first-pids S.dead-members S.unborn-members S.parents S.first-parents S.children-namespaces S.handled-signals S.pending-signals S.ended-bare S.ends-kept S.namespaces-held one
   is-sound-view h =
@@ -236,6 +243,7 @@ module _ (v : View) (r : Past v) (s : Sound v) where
   namespace-range : (n : ℕ) → Stands v n → n < namespace-slots
   namespace-range = in-namespace v r
 
+  -- and a sound table has them
   pub facts-of : Facts v
   unfolding S.root-process S.have-parents S.root-namespace S.inits S.empty-slots S.namespace-tree S.below-dead S.holds S.unborn-namespace S.unborn-namespaces S.last-pids S.pid-range S.pids-differ S.first-pids S.dead-members S.unborn-members S.parents S.first-parents S.children-namespaces S.handled-signals S.pending-signals S.ended-bare S.ends-kept S.namespaces-held one
   facts-of =
@@ -305,12 +313,14 @@ module _ (v : View) (r : Past v) (s : Sound v) where
         held-by = λ n t. holder-of v n ((simp tests at (s .namespaces-held)) n (namespace-range n t) .0 t);
       }
 
+-- of a sound table
 pub facts : (t : Table) → SoundTable t → Facts (view t)
 facts t h = facts-of (view t) (past-of t (h .shape)) (sound-is (view t) (h .rules))
 
 pub held-in : (t : Table) → SoundTable t → Held (view t)
 held-in t h = held-of (view t) (past-of t (h .shape)) (sound-is (view t) (h .rules))
 
+-- a table of the declared type with the facts is sound
 pub sound-from : (t : Table) → So (shaped t) → Facts (view t) → Held (view t) → SoundTable t
 sound-from t g p h = record { shape = g; rules = is-sound (view t) (is-sound-view (view t) p h) }
 

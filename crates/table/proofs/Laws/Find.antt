@@ -23,6 +23,7 @@ pub record Lowest (f : ℕ → Bool) (n k r : ℕ) : Type 0 where
   pub holds : r < k + n → So (f r)
   pub none-before : (j : ℕ) → k ≤ j → j < r → f j ≡ false
 
+-- a search is as its definition says
 pub lowest-is : (f : ℕ → Bool) (n k : ℕ) → Lowest f n k (lowest f n k)
 unfolding lowest
 lowest-is f zero k = record { from = omega arith; upto = omega arith; holds = λ l. absurd (omega arith); none-before = λ j a b. absurd (omega arith) }

@@ -69,6 +69,7 @@ insert-old f i x (j ∷ js) h = go (ltb (f i) (f j)) (λ m. insert-old f i x js 
     go false r (inl e) = inl e
     go false r (inr m) = inr (r m)
 
+-- an insertion adds that one
 pub in-insert : (f : ℕ → ℕ) (i x : ℕ) (l : List ℕ) → In x (insert f i l) → (x ≡ i) ⊎ In x l
 unfolding insert
 in-insert f i x [] h = h
@@ -79,6 +80,7 @@ in-insert f i x (j ∷ js) h = go (ltb (f i) (f j)) (λ m. in-insert f i x js m)
     go false r (inl e) = inr (inl e)
     go false r (inr m) = ⊎-elim (λ e. inl e) (λ k. inr (inr k)) (r m)
 
+-- a sorted list has those of which the test holds
 pub in-ascending : (p : ℕ → Bool) (f : ℕ → ℕ) (n i : ℕ) → i < n → So (p i) → In i (ascending p f n)
 unfolding ascending
 in-ascending p f zero i l h = absurd (not-suc-le-zero l)
@@ -114,6 +116,7 @@ insert-sorted f i (j ∷ js) d s = go (ltb (f i) (f j)) refl (insert-sorted f i 
     go true e r = ((λ y. elim [ inl q ↦ omega (arith, ltb-true (f i) (f j) e, ap f q) | inr m ↦ omega (arith, ltb-true (f i) (f j) e, s .0 y m) ]), s)
     go false e r = ((λ y h. ⊎-elim (λ q. omega (arith, ltb-false (f i) (f j) e, ap f q, d j (inl refl))) (λ m. s .0 y m) (in-insert f i y js h)), r)
 
+-- and it is sorted
 pub ascending-sorted : (p : ℕ → Bool) (f : ℕ → ℕ) (n : ℕ) → ((i j : ℕ) → i < n → j < i → So (p i) → So (p j) → f i ≡ f j → ⊥) → Sorted f (ascending p f n)
 unfolding ascending
 ascending-sorted p f zero d = tt

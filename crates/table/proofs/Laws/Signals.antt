@@ -10,8 +10,7 @@ use lib.Dec.{eqb}
 use Rattle.table.proofs.Laws.Facts.{SignalsOk}
 use Rattle.table.specs.SignalSets.{has, with-signal, without-signal}
 
--- ---- laws of the sets of signals
-
+-- what is in a set with a signal more, or one less
 pub has-with-same : (m s : ℕ) → So (has (with-signal m s) s)
 unfolding has with-signal
 has-with-same m zero = eq-eqb ((m / 2 * 2 + 1) % 2) 1 (omega arith)
@@ -36,6 +35,7 @@ has-without-other m zero (suc k) n = ap (λ x. has x k) (omega arith)
 has-without-other m (suc s) zero n = let e : (without-signal (m / 2) s * 2 + m % 2) % 2 ≡ m % 2 = omega arith in ap (λ x. eqb x 1) e
 has-without-other m (suc s) (suc k) n = ap (λ x. has x k) (omega arith) ∙ has-without-other (m / 2) s k (λ q. n (ap suc q))
 
+-- no bit past the last signal
 pub with-signal-lt : (w m s : ℕ) → m < 2 ^ w → s < w → with-signal m s < 2 ^ w
 unfolding with-signal
 with-signal-lt zero m s h l = absurd (not-suc-le-zero l)
@@ -64,6 +64,7 @@ has-less q s b y = go (ℕ-discrete b s)
     go (yes e) = absurd (false≢true (sym (has-without-same q s) ∙ subst (λ n. So (has (without-signal q s) n)) e y))
     go (no o) = (o, sym (has-without-other q s b o) ∙ y)
 
+-- what poll and handle make of the two sets is fit
 pub poll-ok : (h q s : ℕ) → SignalsOk h q → SignalsOk h (without-signal q s)
 poll-ok h q s k = (k .0, λ b l y. k .1 b l (has-less q s b y .1))
 

@@ -42,6 +42,7 @@ module _ (v : View) (f : Facts v) where
 
   -- ---- namespaces
 
+  -- a living namespace is one
   pub alive-taken : (n : ℕ) → So (alive v n) → So (namespace-taken v n)
   unfolding zero-namespace
   alive-taken n a = go (namespace-taken v n) refl
@@ -63,6 +64,7 @@ module _ (v : View) (f : Facts v) where
 
   -- ---- parents of namespaces, many at once
 
+  -- what is some parents up is a namespace, at its level
   pub up-by-taken : (m n : ℕ) → So (namespace-taken v n) → m ≤ v .level n → So (namespace-taken v (up-by (v .up) m n))
   unfolding up-by
   up-by-taken zero n h l = h
@@ -97,6 +99,7 @@ module _ (v : View) (f : Facts v) where
       go true h = refl
       go false h = h
 
+  -- the upper of two is so many parents up, and back
   pub below-up-by : (a b : ℕ) → So (below v a b) → up-by (v .up) (v .level a - v .level b) a ≡ b
   unfolding below
   below-up-by a b h =
@@ -128,6 +131,7 @@ module _ (v : View) (f : Facts v) where
 
   -- ---- living namespaces and their inits
 
+  -- above a living namespace all live
   pub alive-up : (n k : ℕ) → So (alive v n) → v .level n ≡ suc k → So (alive v (v .up n))
   alive-up n k a e = alive-otherwise (v .life (v .up n)) (not-dead (dead v (v .up n)) refl) (not-unborn (unborn v (v .up n)) refl)
     where
@@ -150,6 +154,7 @@ module _ (v : View) (f : Facts v) where
   pub alive-above : (a b : ℕ) → So (alive v a) → So (below v a b) → So (alive v b)
   alive-above a b h k = subst (λ n. So (alive v n)) (below-up-by a b k) (alive-up-by (v .level a - v .level b) a h (omega arith))
 
+  -- the init of a living namespace lives and belongs to it
   pub init-living : (n : ℕ) → So (alive v n) → So (living v (init v n))
   init-living n a = f .inits n (alive-taken n a) a .0
 
@@ -185,6 +190,7 @@ module _ (v : View) (f : Facts v) where
 
   -- ---- a process's own namespace and its numbers
 
+  -- an own namespace is taken, was born, and has living members only if it lives
   pub own-taken : (i : ℕ) → So (taken v i) → So (namespace-taken v (v .own i))
   own-taken i h = f .members i h .0 .0
 
@@ -202,6 +208,7 @@ module _ (v : View) (f : Facts v) where
       go true e = absurd (false≢true (sym (isnt _ (right _ _ h)) ∙ own-dead-ended i (left _ _ h) e))
       go false e = refl
 
+  -- a number is from 1 up to the own level, and 0 beyond
   pub pid-pos : (i l : ℕ) → So (taken v i) → l ≤ v .level (v .own i) → 1 ≤ v .pid i l
   pid-pos i l h k = leb-true 1 (v .pid i l) (left _ _ (rw (le-leb l (v .level (v .own i)) k) at (f .pid-range i h l (omega (arith, level-deepest v f _ (own-taken i h))))))
 

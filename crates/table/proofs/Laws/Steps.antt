@@ -23,6 +23,7 @@ use Rattle.table.specs.declared.State.the-variants.{Running, Stopped, En
 use Rattle.table.specs.declared.State.{State}
 use Rattle.table.specs.declared.Table.{Table}
 
+-- made, or refused
 pub step-made : (t : Table) (c : ℕ) (call : Call) → SoundTable t → So (runs (view t) c) → step t c call ≡ make t c call
 unfolding step
 step-made t c call h k = rw (h .rules, k)

@@ -13,8 +13,6 @@ use Rattle.table.specs.Tests.{_and_, _implies_, _or_, agree, all, any, i
 use Rattle.table.specs.declared.Life.the-variants.{Unborn, Alive, Dead}
 use Rattle.table.specs.declared.Life.{Life}
 
--- ---- laws of the tests. A test holds where it is `true`: `So b` is `b ≡ true`
-
 pub left : (a b : Bool) → So (a and b) → So a
 unfolding _and_
 left true b h = refl

@@ -15,6 +15,7 @@ use Rattle.table.specs.Sheet.{Name, by-init, dead-at, name, name-by, nea
 use Rattle.table.specs.declared.Life.the-variants.{Unborn, Alive, Dead}
 use Rattle.table.specs.declared.Life.{Life}
 
+-- the nearest living namespace, n or above it
 abbrev pub anchor : View → ℕ → ℕ
 anchor v n = nearest-alive v (v .level n) n
 
@@ -87,6 +88,7 @@ module _ (v : View) (f : Facts v) where
   pub anchor-self : (n : ℕ) → So (alive v n) → anchor v n ≡ n
   anchor-self n a = near-self (v .level n) n a
 
+  -- it lives, n lies below it, and each living one above n is above it
   pub anchor-alive : (n : ℕ) → So (namespace-taken v n) → So (alive v (anchor v n))
   anchor-alive n h = near-alive (v .level n) n refl h
 
@@ -98,6 +100,7 @@ module _ (v : View) (f : Facts v) where
 
   -- ---- names
 
+  -- the name of a namespace, by its life
   pub name-taken : (s n : ℕ) → So (namespace-taken v n) → name v s n ≡ name-by v s n (v .life n)
   unfolding name
   name-taken s n h = rw (ne-eqb n no-slot (λ e. omega (arith, f .in-namespace n h)))
@@ -120,6 +123,7 @@ module _ (v : View) (f : Facts v) where
   pub name-anchor : (s n : ℕ) → So (namespace-taken v n) → unborn v n ≡ false → name-pid (name v s n) ≡ pid-in v s (init v (anchor v n))
   name-anchor s n h k = ap name-pid (name-taken s n h) ∙ by-pid s n (v .life n) refl k
 
+-- no slot has no name
 pub name-no-slot : (v : View) (s n : ℕ) → n ≡ no-slot → name v s n ≡ no-name
 unfolding name
 name-no-slot v s n e = rw (eq-eqb n no-slot e)

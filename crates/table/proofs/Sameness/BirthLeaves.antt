@@ -1,28 +1,24 @@
 -- clone, clone new and unshare by an outsider: the child is born outside S.
-use Prim.Native.Nat.{ℕ, _<_, _≤_}
+use Prim.Native.Nat.{ℕ}
 use native.Mathlib.Decide.{ℕ-discrete}
-use native.Mathlib.Omega.{arith}
-use mathlib.Core.Bool.{Bool, true, false, not, So, false≢true}
-use mathlib.Core.Logic.{inl, inr, ⊎-elim}
+use mathlib.Core.Bool.{Bool, true, false, So, false≢true}
+use mathlib.Core.Logic.{⊎-elim}
 use mathlib.Core.Path.{_≡_, refl, sym, _∙_, ap, subst}
 use borrow.Author.Tests.{eqb-false, ne-eqb, eq-eqb}
 use lib.Dec.{eqb}
-use lib.Seq.{getD-set-other}
 use Rattle.table.proofs.Keeps.Birth.{with-born, birth-view}
 use Rattle.table.proofs.Keeps.Changes.{namespace-sane, unshare-sane}
 use Rattle.table.proofs.Keeps.Premises.{free-slot-is}
-use Rattle.table.proofs.Laws.Below.{below-level, below-trans}
+use Rattle.table.proofs.Laws.Below.{below-trans}
 use Rattle.table.proofs.Laws.Facts.{Facts, facts, Sane, sane, seen-taken, seen-below, lives-taken}
-use Rattle.table.proofs.Laws.Slots.{children-of, own-taken, below-same, below-parent}
 use Rattle.table.proofs.Laws.Steps.{runs-lives}
-use Rattle.table.proofs.Laws.Tests.{no-so, isnt-so, left, right, both, cases, or-false-left, or-false-right}
+use Rattle.table.proofs.Laws.Tests.{no-so, isnt-so, left, right, cases, or-false-left, or-false-right}
 use Rattle.table.proofs.Laws.Tree.{below-refl}
 use Rattle.table.proofs.Sameness.Born.{below-grown, seen-grown, life-born, life-other, bottom, old}
 use Rattle.table.proofs.Sameness.Freeing.{freed-leaves}
-use Rattle.table.proofs.Sameness.NewNamespaceSame.{namespace-remain, the-namespace, taken-other, x-taken, K}
+use Rattle.table.proofs.Sameness.NewNamespaceSame.{x-taken, same-free, new-stands, new-outside, new-seen, new-same}
 use Rattle.table.proofs.Sameness.Outside.{MadeLeaves, as-it-was, outsider, stands-leaves, untouched-made}
 use Rattle.table.proofs.Sameness.Readers.{children-taken}
-use Rattle.table.proofs.Sameness.Remain.{Remain, seen-remain, below-remain, everyone}
 use Rattle.table.proofs.Sameness.Same.{Same, same-trans}
 use Rattle.table.proofs.Sameness.Still.{Still, same-still, stands-still, near, near-here, near-up, near-own, near-children, put-still}
 use Rattle.table.proofs.Sameness.Twins.{bool-ext}
@@ -32,7 +28,7 @@ use Rattle.table.specs.Calls.{born, clone, clone-new, new-namespace, own
 use Rattle.table.specs.Events.{at, follow, namespace-inside, sheet-of}
 use Rattle.table.specs.Limits.{deepest, namespace-slots, process-slots}
 use Rattle.table.specs.Pids.{free-namespace-slot, free-slot, next-pid}
-use Rattle.table.specs.Read.{View, below, dead, living, namespace-taken, no-namespace, seen, taken, unborn, view, process}
+use Rattle.table.specs.Read.{View, below, dead, living, namespace-taken, seen, taken, unborn, view, process}
 use Rattle.table.specs.Records.{with-children}
 use Rattle.table.specs.Sheet.{sheet}
 use Rattle.table.specs.Sound.{SoundTable}
@@ -41,8 +37,6 @@ use Rattle.table.specs.Tests.{_or_, if_then_else_}
 use Rattle.table.specs.Touches.{touched, clones-into}
 use Rattle.table.specs.declared.Call.the-variants.{Clone, CloneNew, Unshare}
 use Rattle.table.specs.declared.Table.{Table}
-
--- ---- clone and clone new by an outsider, the child being born outside S
 
 -- a birth in a namespace that is not of S
 module _ (v : View) (f : Facts v) (c n k : ℕ) (new : taken v k ≡ false) (tn : So (namespace-taken v n)) (s : ℕ) (o : below v n s ≡ false) where
@@ -64,6 +58,7 @@ module _ (v : View) (f : Facts v) (c n k : ℕ) (new : taken v k ≡ false) (tn 
       not-here : So (below v n s) → ⊥
       not-here b = false≢true (sym o ∙ b)
 
+  -- it leaves all that the sheet of S rests on
   pub birth-still : Still v v′ s (near v s)
   birth-still =
       record {
@@ -101,6 +96,7 @@ module _ (t : Table) (w : Sane t) (c n : ℕ) (tn : So (namespace-taken (view t)
   pub birth-stands : So (namespace-taken (view t) s) → So (namespace-taken (view (birth t c n)) s)
   birth-stands h = stands-still (view t) (view (birth t c n)) s (near (view t) s) (w .facts) still h
 
+-- plain clone
 pub clone-leaves : MadeLeaves Clone
 unfolding MadeLeaves make clone refused is-refused touched clones-into namespace-inside
 clone-leaves t s i h hs k a g = go (dead (view t) (view t .children i)) refl (eqb (free-slot (view t)) process-slots) refl g
@@ -123,74 +119,7 @@ clone-leaves t s i h hs k a g = go (dead (view t) (view t .children i)) refl (eq
 
 -- ---- a fresh namespace
 
-module _ (t : Table) (h : SoundTable t) (c : ℕ) (room : free-namespace-slot (view t) ≡ namespace-slots → ⊥) (s : ℕ) (hs : So (namespace-taken (view t) s)) where
-  ft : Sane t
-  ft = sane t h
-
-  abbrev x : ℕ
-  x = free-namespace-slot (view t)
-
-  abbrev t₁ : Table
-  t₁ = new-namespace t c
-
-  R : Remain (view t) (view t₁) (K t ft c room) everyone
-  R = namespace-remain t ft c room
-
-  stays : (n : ℕ) → So (namespace-taken (view t) n) → So (K t ft c room n)
-  stays n k = ap not (ne-eqb n x (taken-other t ft c room n k))
-
-  new-still : Still (view t) (view t₁) s (K t ft c room)
-  unfolding new-namespace
-  new-still =
-      record {
-        here = stays s hs;
-        up-kept = R .up-kept;
-        own-kept = λ i k. stays (view t .own i) (own-taken (view t) (ft .facts) i (seen-taken (view t) s i k));
-        children-kept = λ i k. ⊎-elim (λ y. inl (stays (view t .children i) y)) (λ e. inr e) (children-of (view t) (ft .facts) i (seen-taken (view t) s i k));
-        ups = R .ups;
-        levels = R .levels;
-        lives = R .lives;
-        seens = λ i. seen-remain (view t) (view t₁) (K t ft c room) everyone (ft .facts) R s i refl;
-        owns = λ i k. refl;
-        pids = λ i l k. refl;
-        states = λ i k. refl;
-        handleds = λ i k. refl;
-        pendings = λ i k. refl;
-        marks = λ i k. refl;
-        childrens = λ i k. refl;
-        parents = λ i k. refl;
-        lasts = λ i k. ap (λ z. z .last .0) (getD-set-other (t .namespaces) x (view t .own i) _ no-namespace (taken-other t ft c room _ (own-taken (view t) (ft .facts) i (seen-taken (view t) s i k))));
-      }
-
-  pub new-same : Same (view t₁) (view t) s s
-  new-same = same-still (view t) (view t₁) s (K t ft c room) (ft .facts) new-still
-
-  pub new-stands : So (namespace-taken (view t₁) s)
-  new-stands = stands-still (view t) (view t₁) s (K t ft c room) (ft .facts) new-still hs
-
-  pub new-seen : (i : ℕ) → seen (view t₁) s i ≡ seen (view t) s i
-  new-seen i = new-still .seens i
-
-  -- it is not of S if the caller is not
-  pub new-outside : So (taken (view t) c) → Sane t₁ → seen (view t) s c ≡ false → below (view t₁) x s ≡ false
-  unfolding seen
-  new-outside tc f₁ o = bool-ext _ _ (λ b. absurd (go b (ℕ-discrete (view t₁ .level x) (view t₁ .level s)))) (λ b. absurd (false≢true b))
-    where
-      go : So (below (view t₁) x s) → Dec (view t₁ .level x ≡ view t₁ .level s) → ⊥
-      go b (yes e) = taken-other t ft c room s hs (sym (below-same (view t₁) (f₁ .facts) x s b e))
-      go b (no e) =
-          false≢true
-          (sym o ∙ both _ _ tc
-          (sym (below-remain (view t) (view t₁) (K t ft c room) everyone (ft .facts) R (view t .own c) s (stays _ (own-taken (view t) (ft .facts) c tc)))
-          ∙ subst (λ n. So (below (view t₁) n s)) (ap (λ z. z .parent .0) (the-namespace t ft c room)) (below-parent (view t₁) (f₁ .facts) x s b (strict (below-level (view t₁) (f₁ .facts) x s b) e))))
-        where
-          strict : view t₁ .level s ≤ view t₁ .level x → (view t₁ .level x ≡ view t₁ .level s → ⊥) → view t₁ .level s < view t₁ .level x
-          strict l n = omega arith
-
-same-free : (t : Table) (c : ℕ) → free-slot (view (new-namespace t c)) ≡ free-slot (view t)
-unfolding free-slot taken new-namespace
-same-free t c = refl
-
+-- clone new
 pub clone-new-leaves : MadeLeaves CloneNew
 unfolding MadeLeaves make clone-new refused
 clone-new-leaves t s i h hs k a g = go (eqb (own-level (view t) i) deepest) refl (eqb (free-slot (view t)) process-slots or eqb (free-namespace-slot (view t)) namespace-slots) refl g
@@ -200,8 +129,8 @@ clone-new-leaves t s i h hs k a g = go (eqb (own-level (view t) i) deepest) refl
     go false ea true eb g = rw (ea, eb, clone-new) (as-it-was t s hs)
     go false ea false eb g =
         rw (ea, eb, clone-new)
-        (stands-leaves t (birth t₁ i x) s h (rw (ea, eb, clone-new) at g) hs (birth-stands t₁ f₁ i x tx room₁ s o (new-stands t h i room s hs))
-        (same-trans (view (birth t₁ i x)) (view t₁) (view t) s s s (birth-same t₁ f₁ i x tx room₁ s o) (new-same t h i room s hs)))
+        (stands-leaves t (birth t₁ i x) s h (rw (ea, eb, clone-new) at g) hs (birth-stands t₁ f₁ i x tx room₁ s o (new-stands t (sane t h) i room s hs))
+        (same-trans (view (birth t₁ i x)) (view t₁) (view t) s s s (birth-same t₁ f₁ i x tx room₁ s o) (new-same t (sane t h) i room s hs)))
       where
         x : ℕ
         x = free-namespace-slot (view t)
@@ -225,10 +154,11 @@ clone-new-leaves t s i h hs k a g = go (eqb (own-level (view t) i) deepest) refl
         room₁ e = eqb-false _ _ (or-false-left _ _ eb) (sym (same-free t i) ∙ e)
 
         o : below (view t₁) x s ≡ false
-        o = new-outside t h i room s hs (lives-taken (view t) i li) f₁ (outsider t s i CloneNew a)
+        o = new-outside t (sane t h) i room s hs (lives-taken (view t) i li) f₁ (outsider t s i CloneNew a)
 
 -- ---- unshare by an outsider
 
+-- unshare
 pub unshare-leaves : MadeLeaves Unshare
 unfolding MadeLeaves make unshare set-children answers granted refused namespace-taken
 unshare-leaves t s i h hs k a g = go (process t i .unshared) refl (eqb (own-level (view t) i) deepest) refl (eqb (free-namespace-slot (view t)) namespace-slots) refl
@@ -239,10 +169,10 @@ unshare-leaves t s i h hs k a g = go (process t i .unshared) refl (eqb (own-leve
     go false em false ea true eb = rw (em, ea, eb, unshare) (as-it-was t s hs)
     go false em false ea false eb =
         rw (em, ea, eb, unshare)
-        (freed-leaves t _ s h (unshare-sane t h i k (eqb-false _ _ ea) room) hs (new-stands t h i room s hs)
+        (freed-leaves t _ s h (unshare-sane t h i k (eqb-false _ _ ea) room) hs (new-stands t (sane t h) i room s hs)
         (same-trans _ (view t₁) (view t) s s s
-        (same-still (view t₁) _ s (near (view t₁) s) f₁ (put-still t₁ f₁ i (with-children (process t₁ i) (free-namespace-slot (view t)) true) (record { owns = refl; parents = refl; pids = refl }) s (new-seen t h i room s hs i ∙ outsider t s i Unshare a)))
-        (new-same t h i room s hs)))
+        (same-still (view t₁) _ s (near (view t₁) s) f₁ (put-still t₁ f₁ i (with-children (process t₁ i) (free-namespace-slot (view t)) true) (record { owns = refl; parents = refl; pids = refl }) s (new-seen t (sane t h) i room s hs i ∙ outsider t s i Unshare a)))
+        (new-same t (sane t h) i room s hs)))
       where
         room : free-namespace-slot (view t) ≡ namespace-slots → ⊥
         room = eqb-false _ _ eb

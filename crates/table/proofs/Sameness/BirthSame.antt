@@ -227,6 +227,7 @@ module _ (v u : View) (s r : ℕ) (w : Pair v u s r) (c d n m k l : ℕ) (tc : T
       (rw (ek, el) (pid-in-grown v (w .facts-v) c n k nv tn s c (old v (w .facts-v) c n k nv tn c (seen-taken v s c (tc .seen-v))) ∙ pid-in-seen v s c (tc .seen-v) ∙ tc .pids ∙ sym (pid-in-grown u (w .facts-u) d m l nu tm r d (old u (w .facts-u) d m l nu tm d (seen-taken u r d (tc .seen-u))) ∙ pid-in-seen u r d (tc .seen-u))))
       (rw (ek, el) cradle-name) (rw (ek, el) cradle-name) new-last
 
+  -- each row stands as it stood, and the children's rows are the same
   pub birth-same : Same v′ u′ s r
   birth-same =
       record {

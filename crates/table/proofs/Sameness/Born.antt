@@ -48,6 +48,7 @@ module _ (v u : View) (s r : ℕ) (w : Pair v u s r) (n m : ℕ) (l : Twins v u 
           ap (λ (y : ℕ). if eqb (init x y) (init x a) then x .last y else 0) (init-own x f a h)
           ∙ ap (λ (b : Bool). if b then x .last a else 0) (eq-eqb (init x a) (init x a) refl)
 
+  -- the next number is the same
   pub next-twins : next-pid v n ≡ next-pid u m
   unfolding next-pid
   next-twins =
@@ -80,6 +81,7 @@ module _ (v : View) (f : Facts v) (c n k : ℕ) (new : taken v k ≡ false) (tn 
   pub old : (i : ℕ) → So (taken v i) → i ≡ k → ⊥
   old i h e = no-so new (subst (λ j. So (taken v j)) e h)
 
+  -- the others are seen as before, with the same numbers
   pub seen-grown : (m i : ℕ) → (i ≡ k → ⊥) → seen v′ m i ≡ seen v m i
   unfolding seen taken below
   seen-grown m i o = rw (ne-eqb i k o)
@@ -135,6 +137,7 @@ module _ (v : View) (f : Facts v) (c n k : ℕ) (new : taken v k ≡ false) (tn 
   stays-born : Stays v v′ born
   stays-born = record { ups = λ m h. refl; levels = λ m h. refl; lives = λ m h. life-born m (isnt (unborn v m) h); up-kept = λ m j h e. ap not (up-born m j e) }
 
+  -- a namespace that was born keeps its name, an unborn one keeps it or is born
   pub name-born : (s m : ℕ) → So (namespace-taken v m) → unborn v m ≡ false → name v′ s m ≡ name v s m
   name-born s m ht h = name-stays v v′ born f stays-born s (λ a k l. pid-in-grown s (init v a) (old _ (init-taken v f a l))) m (ap not h) ht
 
@@ -183,6 +186,7 @@ pub record Unborns (v u : View) (s r n m : ℕ) : Type 0 where
 abbrev pub Cradles : View → View → ℕ → ℕ → ℕ → ℕ → Type 0
 Cradles v u s r n m = Twins v u s r n m ⊎ Unborns v u s r n m
 
+-- the numbers that two newborns get from S's level down are the same
 pub cradle-next : (v u : View) (s r : ℕ) (w : Pair v u s r) (n m l : ℕ) → Cradles v u s r n m → v .level s ≤ l → l ≤ v .level n → next-pid v (above-at v n l) ≡ next-pid u (above-at u m l)
 unfolding above-at up-by
 cradle-next v u s r w n m l (inl k) a b =

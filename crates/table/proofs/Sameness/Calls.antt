@@ -63,6 +63,7 @@ module _ (t u : Table) (s r i j : ℕ) (w : Ready t u s r i j) where
   pub own-lives : So (alive (view t) (view t .own i))
   own-lives = living-own-alive (view t) (facts t (w .sound-t)) i (runs-lives t i (w .runs-t))
 
+  -- the callers' own namespaces correspond
   pub owns-twins : Twins (view t) (view u) s r (view t .own i) (view u .own j)
   owns-twins = owns (view t) (view u) s r (w .pair) i j (w .twin) own-lives
 
@@ -118,6 +119,7 @@ module _ (t u : Table) (s r c d : ℕ) (w : Pair (view t) (view u) s r) (k : Twi
       go (no e) (no f) =
           subst (λ (y : Process). Shown t u s r y (process (put u d q) j)) (sym (put-other t c p a i e)) (subst (λ (y : Process). Shown t u s r (process t i) y) (sym (put-other u d q b j f)) (shown t u s r w i j l))
 
+  -- the tables stay the same to S
   pub same-put : Same (view (put t c p)) (view (put u d q)) s r
   same-put =
       same-light (view t) (view u) (view (put t c p)) (view (put u d q)) s r w (put-light t c p a) (put-light u d q b)
@@ -142,6 +144,7 @@ module _ (t u : Table) (s r i j : ℕ) (w : Ready t u s r i j) where
       z : Shown t u s r (process t i) (process u j)
       z = shown t u s r (w .pair) i j (w .twin)
 
+-- handle, and poll
 pub handle-same : (z : ℤ) (on : Bool) → MadeSame (Handle z on)
 unfolding MadeSame make handle handle-on handle-off answers granted
 handle-same z on t u s r i j w h g = go (not (within 1 signals z) or eqb (natural z) sigkill or eqb (natural z) sigstop) refl on refl

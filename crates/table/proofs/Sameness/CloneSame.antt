@@ -146,6 +146,7 @@ module _ (t u : Table) (s r c d : ℕ) (w : Ready t u s r c d) where
             (subst₂ (λ (a b : View). Same a b s r) (sym ev) (sym ew) (birth-same (view t) (view u) s r (w .pair) c d (view t .children c) (view u .children d) (free-slot (view t)) (free-slot (view u)) (w .twin) (cradles nd) hn hm bn bm (isnt-so et) (isnt-so eu) lt lu holders)),
       )
 
+-- no room on one of the tables
 pub no-room-left : (t u : Table) (s r : ℕ) (y : Outcome) → Kept t u s r (refused t Eagain) y
 unfolding refused is-no-room number-of refusal-number _or_
 no-room-left t u s r y = inl refl
@@ -154,6 +155,7 @@ pub no-room-right : (t u : Table) (s r : ℕ) (x : Outcome) → Kept t u s r x (
 unfolding refused is-no-room number-of refusal-number
 no-room-right t u s r x = inl (or-true (is-no-room (x .reply .answer)))
 
+-- plain clone
 pub clone-same : MadeSame Clone
 unfolding MadeSame make clone
 clone-same t u s r c d w h g = go (dead (view t) (view t .children c)) refl (eqb (free-slot (view t)) process-slots) refl (eqb (free-slot (view u)) process-slots) refl

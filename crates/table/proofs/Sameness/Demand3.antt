@@ -71,6 +71,7 @@ all-outside Getppid = getppid-leaves
 all-outside (Handle s on) = handle-leaves s on
 all-outside Poll = poll-leaves
 
+-- an outside call that makes no touch leaves the sheet
 pub outside-leaves : OutsideLeaves
 unfolding OutsideLeaves MadeLeaves happens table-after refused
 outside-leaves t s i c h hs a = go (runs (view t) i) refl
@@ -282,6 +283,7 @@ both-lists (inside k c ∷ es) fs t u p q = first k c es (λ t′ u′ p′ q′
 both-lists (outside i c ∷ es) fs t u p q =
     outside-first t u p q i c es fs (both-lists es fs (next-table t p (outside i c)) u (next-place t p (outside i c)) q)
 
+-- demand 3
 pub sameness : Sameness
 unfolding Sameness sheet-of
 sameness t u s r h g a b e es fs i x y =

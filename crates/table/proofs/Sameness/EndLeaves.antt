@@ -50,6 +50,7 @@ comparable v f (suc l) a b c e x y m = go (ℕ-discrete (v .level a) (v .level b
     go (yes q) r = subst (λ n. So (below v n c)) (below-same v f a b x q) y
     go (no q) r = let z = below-level v f a b x in r (below-parent v f a b x (omega arith)) (below-parent v f a c y (omega arith))
 
+-- of two namespaces above one, one lies below the other
 pub either-below : (v : View) (f : Facts v) (a b c : ℕ) → So (below v a b) → So (below v a c) → So (below v b c) ⊎ So (below v c b)
 either-below v f a b c x y = go (decLt (v .level b) (v .level c))
   where
@@ -142,6 +143,7 @@ module _ (v : View) (f : Facts v) (x : ℕ) (e : End) (tx : So (taken v x)) (s :
 
 -- ---- either
 
+-- an end leaves all that the sheet of S rests on
 pub end-still : (t : Table) (w : Sane t) (x : ℕ) (e : End) → So (living (view t) x) → (s : ℕ) → seen (view t) s x ≡ false → (So (is-init (view t) x) → below (view t) s (view t .own x) ≡ false) → Still (view t) (view (end t x e)) s (near (view t) s)
 end-still t w x e l s o n =
     let tx = lives-taken (view t) x l in
@@ -174,6 +176,7 @@ pub lives-on : (t u : Table) (s : ℕ) → ends-above t u (at s) ≡ false → (
 unfolding ends-above
 lives-on t u s h n l o b a k = false≢true (sym h ∙ any-intro _ _ n l (both _ _ (both _ _ (both _ _ (ap not (ne-eqb n s o)) b) a) (ap not k)))
 
+-- exit by an outsider
 pub exit-leaves : (z : ℤ) → MadeLeaves (Exit z)
 unfolding MadeLeaves make exit answers granted refused is-refused touched
 exit-leaves z t s i h hs k a g = go (eqb i 0) refl g

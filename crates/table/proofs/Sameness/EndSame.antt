@@ -54,6 +54,7 @@ After v u s r f g v′ u′ = (So (alive v′ s) × So (alive u′ r)) × (Same 
 
 -- ---- one table: who does not live does not live then
 
+-- who does not live does not live after an end
 pub ended-end : (v : View) (x : ℕ) (e : End) (i : ℕ) → living v i ≡ false → living (ended-view v x e) i ≡ false
 unfolding living taken
 ended-end v x e i h =
@@ -166,6 +167,7 @@ module _ (v u : View) (s r f g x y : ℕ) (e : End) (p : Pair v u s r) (from : T
 
   -- ---- either
 
+  -- of inits or not
   pub end-after : (So (is-init v x) → v .own x ≡ f → ⊥) → After v u s r f g (ended-view v x e) (ended-view u y e)
   end-after other = subst (λ (b : Bool). After v u s r f g (ended-view v x e) (if b then subtree-gone u (u .own y) y e else member-of u y e)) both-init (go (is-init v x) refl)
     where

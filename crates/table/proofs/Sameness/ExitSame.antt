@@ -156,6 +156,7 @@ module _ (t u : Table) (s r c d : ℕ) (w : Ready t u s r c d) (e : End) (ok : S
           positive : 0 < view t .level (view t .own c)
           positive = omega (arith, positive-s, ap (view t .level) oc)
 
+-- exit by twin callers
 pub exit-same : (z : ℤ) → MadeSame (Exit z)
 unfolding MadeSame make exit answers granted
 exit-same z t u s r c d w h g = go (eqb c 0) refl

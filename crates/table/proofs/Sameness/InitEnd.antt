@@ -42,6 +42,7 @@ not-seen-stays v x i e = ap not (false-and _ _ (no-so e))
 here : (v : View) (x i : ℕ) → So (stays v x i) → gone v (v .own x) i ≡ false
 here v x i s = isnt (gone v (v .own x) i) s
 
+-- the tree of namespaces stays, and who stays keeps his place
 pub fallen-shape : (v : View) (x : ℕ) (e : End) → Shape v (subtree-gone v (v .own x) x e) (stays v x)
 unfolding taken
 fallen-shape v x e =
@@ -90,6 +91,7 @@ module _ (v u : View) (s r : ℕ) (p : Pair v u s r) (x y : ℕ) (e : End) (k : 
   sees : (i j : ℕ) → Twin v u s r i j → seen v (v .own x) i ≡ seen u (u .own y) j
   sees i j m = seen-twins v u s r p i j _ _ m tops
 
+  -- of two twins both stay or none
   pub both-stay : (i j : ℕ) → Twin v u s r i j → stays v x i ≡ stays u y j
   unfolding gone
   both-stay i j m = ap₂ (λ (a b : Bool). not (a and b)) (sees i j m) (parent-in-twins v u s r p i j _ _ m tops)
@@ -211,5 +213,6 @@ module _ (v u : View) (s r : ℕ) (p : Pair v u s r) (x y : ℕ) (e : End) (k : 
         (λ z. if conditions z then false else (if sees i j m z then false else rows z .unshared))
         parent-pids own-names child-names lasts
 
+  -- each row that stays is the same on both
   pub init-same : Same v′ u′ s r
   init-same = same-shape v u v′ u′ s r p (stays v x) (stays u y) (fallen-shape v x e) (fallen-shape u y e) both-stay fallen-rows

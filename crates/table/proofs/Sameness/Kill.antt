@@ -111,6 +111,7 @@ module _ (v u : View) (s r : ℕ) (w : Pair v u s r) where
       (λ i j a b e. twin-of-pid n m i j l (listed-seen v n i a) (listed-seen u m j b) e)
       (sorted-unique (λ k. k) _ _ (pids-sorted v (w .facts-v) n (l .lives-v)) (pids-sorted u (w .facts-u) m (l .lives-u)) (pids-in v u s r w n m l) (pids-in u v r s (flip-pair v u s r w) m n (flip-twins v u s r n m l)))
 
+-- the targets are pairs of twins
 pub targets-twins : (t u : Table) (s r i j : ℕ) → Ready t u s r i j → (z : ℤ) → Along (Twin (view t) (view u) s r) (targets (view t) i z) (targets (view u) j z)
 unfolding targets others
 targets-twins t u s r i j w (negsuc k) =
@@ -131,9 +132,7 @@ along-with R S [] (y ∷ ys) h k = k
 along-with R S (x ∷ xs) [] h k = k
 along-with R S (x ∷ xs) (y ∷ ys) h k = (h x y (inl refl) (k .0), along-with R S xs ys (λ a b m r. h a b (inr m) r) (k .1))
 
--- ---- signals delivered to pairs of twins, one pair after the other
-
--- ---- effects
+-- ---- what a signal does
 
 twins-eqb : (v u : View) (s r : ℕ) (w : Pair v u s r) (a b n m : ℕ) → Twins v u s r a b → Twins v u s r n m → eqb a n ≡ eqb b m
 twins-eqb v u s r w a b n m j k =
@@ -147,6 +146,7 @@ action-none v f x n e = go (eqb n 0)
     go : (b : Bool) → (if b or not (living v x) then Nothing else (if eqb n 18 then Resume else (if eqb n 9 or eqb n 19 then (if is-init v x and eqb (v .own x) f then Nothing else default-action n) else (if has (v .handled x) n then Pend else (if is-init v x then Nothing else default-action n))))) ≡ Nothing
     go b = rw (e, or-true b)
 
+-- a signal does the same to two twins
 pub action-twins : (t u : Table) (s r f g : ℕ) → Midway t u s r f g → (x y n : ℕ) → Twin (view t) (view u) s r x y → action-on (view t) f x n ≡ action-on (view u) g y n
 unfolding action-on
 action-twins t u s r f g w x y n k = go (living (view t) x) refl
@@ -190,6 +190,7 @@ module _ (t u : Table) (s r f g : ℕ) (w : Midway t u s r f g) (x y : ℕ) (k :
   ly : So (living (view u) y)
   ly = sym (living-twins (view t) (view u) s r (pair-of t u s r f g w) x y k) ∙ lx
 
+  -- a change of two twins in their lights
   pub light-onward : (p q : Process) → Placed p (process t x) → Placed q (process u y) → Shown t u s r p q → Sane (put t x p) → Sane (put u y q) → Onward t u s r f g (put t x p) (put u y q)
   light-onward p q a b h ft fu = (
     record {
@@ -327,6 +328,7 @@ module _ (n : ℕ) (low : n < signals) where
   along-map R S (x ∷ xs) [] h k = k
   along-map R S (x ∷ xs) (y ∷ ys) h k = (h x y (k .0), along-map R S xs ys h (k .1))
 
+  -- all deliveries
   pub deliver-all-held : (xs ys : List ℕ) (t u : Table) (s r f g : ℕ) → Midway t u s r f g → Along (Target (view t) (view u) s r f) xs ys → Midway (deliver-all t f xs n) (deliver-all u g ys n) s r f g
   unfolding deliver-all
   deliver-all-held [] [] t u s r f g w h = w
@@ -354,6 +356,7 @@ module _ (t u : Table) (s r i j : ℕ) (w : Ready t u s r i j) where
   kill-after z n low = deliver-all-held n low _ _ t u s r (view t .own i) (view u .own j) held
       (along-with (Twin (view t) (view u) s r) (Target (view t) (view u) s r (view t .own i)) (targets (view t) i z) (targets (view u) j z) (λ x y m k. inl (k, targets-seen (view t) i z x m)) (targets-twins t u s r i j w z))
 
+-- kill by twin callers
 pub kill-same : (z n : ℤ) → MadeSame (Kill z n)
 unfolding MadeSame make kill answers granted
 kill-same z n t u s r i j w h g = go (within 0 signals n) refl (names-group z) refl (eqb (length (targets (view t) i z)) 0) refl

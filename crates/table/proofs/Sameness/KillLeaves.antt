@@ -170,6 +170,7 @@ unfolding _and_
 sent true b e h = absurd (false≢true (sym e))
 sent false b e h = h
 
+-- kill by an outsider
 pub kill-leaves : (z n : ℤ) → MadeLeaves (Kill z n)
 unfolding MadeLeaves make kill answers granted refused is-refused touched signals-into
 kill-leaves z n t s i h hs k a g = go (within 0 signals n) refl (names-group z) refl (eqb (length (targets (view t) i z)) 0) refl g

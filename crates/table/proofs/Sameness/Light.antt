@@ -61,6 +61,7 @@ pub record Lights (v u v′ u′ : View) (s r i j : ℕ) : Type 0 where
   pub marks : v′ .unshared i ≡ u′ .unshared j
   pub childrens : name v s (v′ .children i) ≡ name u r (u′ .children j)
 
+-- the tables stay the same to S if each twin pair shows the same
 pub same-light : (v u v′ u′ : View) (s r : ℕ) → Pair v u s r → v′ ≡ relight v v′ → u′ ≡ relight u u′ → ((i j : ℕ) → Twin v u s r i j → Lights v u v′ u′ s r i j) → Same v′ u′ s r
 unfolding row
 same-light v u v′ u′ s r w pv pu h =
@@ -97,12 +98,14 @@ read-set g d (y ∷ l) (suc c) x e (suc i) = read-set g d l c x e i
 
 -- ---- a process put at its slot, with its place kept
 
+-- the same place: own namespace, parent and numbers
 pub record Placed (p q : Process) : Type 0 where
   pub owns : p .own ≡ q .own
   pub parents : p .parent ≡ q .parent
   pub pids : p .pids ≡ q .pids
 
 module _ (t : Table) (c : ℕ) (p : Process) (k : Placed p (process t c)) where
+  -- what is read of the table with it
   pub put-light : view (put t c p) ≡ relight (view t) (view (put t c p))
   put-light =
       λ i. record {

@@ -25,6 +25,7 @@ use Rattle.table.specs.declared.State.the-variants.{Ended}
 abbrev pub member-of : View → ℕ → End → View
 member-of v x e = member-gone v x (init v (v .own x)) e
 
+-- all processes and namespaces stand
 pub member-remain : (v : View) (x : ℕ) (e : End) → Remain v (member-of v x e) everyone everyone
 unfolding taken
 member-remain v x e =
@@ -72,5 +73,6 @@ module _ (v u : View) (s r : ℕ) (p : Pair v u s r) (x y : ℕ) (e : End) (k : 
         lasts = λ z. rows z .last;
       }
 
+  -- each row is the same on both
   pub member-same : Same (member-of v x e) (member-of u y e) s r
   member-same = same-remain v u (member-of v x e) (member-of u y e) s r p everyone everyone everyone everyone (member-remain v x e) (member-remain u y e) refl refl (λ i j m. refl) (λ i j m q. member-lit i j m)

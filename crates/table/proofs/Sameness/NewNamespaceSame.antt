@@ -1,8 +1,9 @@
 -- A fresh namespace below the callers' own: unshare, and clone with a new one.
-use Prim.Native.Nat.{ℕ, suc}
+use Prim.Native.Nat.{ℕ, suc, _≤_, _<_}
+use native.Mathlib.Decide.{ℕ-discrete}
 use native.Mathlib.Omega.{arith}
 use mathlib.Core.Bool.{Bool, true, false, not, So, false≢true}
-use mathlib.Core.Logic.{inr, ⊎-elim}
+use mathlib.Core.Logic.{inr, ⊎-elim, inl}
 use mathlib.Core.Path.{_≡_, refl, sym, _∙_, ap, subst, subst₂}
 use borrow.Author.Tests.{eqb-false, ne-eqb}
 use lib.Dec.{eqb}
@@ -11,32 +12,33 @@ use Rattle.table.proofs.Keeps.Birth.{birth-view}
 use Rattle.table.proofs.Keeps.Changed.{process-count, namespace-count}
 use Rattle.table.proofs.Keeps.Changes.{namespace-sane, unshare-sane}
 use Rattle.table.proofs.Keeps.Premises.{free-slot-is, free-namespace-is}
-use Rattle.table.proofs.Laws.Below.{below-trans}
+use Rattle.table.proofs.Laws.Below.{below-trans, below-level}
 use Rattle.table.proofs.Laws.Facts.{Facts, facts, Sane, sane, seen-taken}
-use Rattle.table.proofs.Laws.Slots.{own-taken, up-taken, alive-taken, children-of}
+use Rattle.table.proofs.Laws.Slots.{own-taken, up-taken, alive-taken, children-of, below-same, below-parent}
 use Rattle.table.proofs.Laws.Steps.{runs-lives}
-use Rattle.table.proofs.Laws.Tests.{isnt-so, isnt, or-right, or-false-left, or-false-right}
-use Rattle.table.proofs.Sameness.Anchor.{up-below, name-no-slot}
+use Rattle.table.proofs.Laws.Tests.{isnt-so, isnt, or-right, or-false-left, or-false-right, both}
+use Rattle.table.proofs.Sameness.Anchor.{up-below}
 use Rattle.table.proofs.Sameness.BirthSame.{birth-same}
 use Rattle.table.proofs.Sameness.Born.{Cradles, next-twins}
-use Rattle.table.proofs.Sameness.Calls.{shown, both-refuse, owns-twins, own-lives, same-put}
+use Rattle.table.proofs.Sameness.Calls.{shown, both-refuse, owns-twins, own-lives, same-put, taken-s, taken-r}
 use Rattle.table.proofs.Sameness.CloneSame.{no-room-left, no-room-right, one-up}
 use Rattle.table.proofs.Sameness.Freeing.{freed-alike}
 use Rattle.table.proofs.Sameness.Inside.{Kept, Ready, MadeSame, stands-same}
-use Rattle.table.proofs.Sameness.Remain.{Remain, Lit, same-remain, standing, pid-in-remain, name-remain, seen-remain, pid-remain, everyone}
-use Rattle.table.proofs.Sameness.Same.{Same}
-use Rattle.table.proofs.Sameness.Twins.{Pair, Twin, Twins, twin-rows, twins-level, owns}
+use Rattle.table.proofs.Sameness.Remain.{Remain, standing, seen-remain, pid-remain, everyone, below-remain}
+use Rattle.table.proofs.Sameness.Same.{Same, same-trans}
+use Rattle.table.proofs.Sameness.Still.{Still, same-still, stands-still}
+use Rattle.table.proofs.Sameness.Twins.{Pair, Twin, Twins, twins-level, owns, flip-same, bool-ext}
 use Rattle.table.specs.Answers.{answers, granted}
 use Rattle.table.specs.Births.{birth}
 use Rattle.table.specs.Calls.{born, clone-new, new-namespace, own-level, set-children, unshare}
 use Rattle.table.specs.Limits.{deepest, namespace-slots, no-slot, process-slots}
 use Rattle.table.specs.Pids.{free-namespace-slot, free-slot}
-use Rattle.table.specs.Read.{View, alive, below, is-alive, is-init, is-unborn, namespace, namespace-taken, no-namespace, pid-in, process, taken, unborn, view}
+use Rattle.table.specs.Read.{View, alive, below, is-alive, is-unborn, namespace, namespace-taken, no-namespace, process, taken, unborn, view, seen}
 use Rattle.table.specs.Records.{to-pid}
-use Rattle.table.specs.Sheet.{Row, name, name-by, row, unborn-name}
+use Rattle.table.specs.Sheet.{name, name-by, unborn-name}
 use Rattle.table.specs.Sound.{SoundTable}
 use Rattle.table.specs.Step.{make}
-use Rattle.table.specs.Tests.{_or_, if_then_else_}
+use Rattle.table.specs.Tests.{_or_}
 use Rattle.table.specs.declared.Answer.the-variants.{Number}
 use Rattle.table.specs.declared.Call.the-variants.{CloneNew, Unshare}
 use Rattle.table.specs.declared.Life.the-variants.{Unborn}
@@ -49,10 +51,6 @@ module _ (t : Table) (f : Sane t) (c : ℕ) (room : free-namespace-slot (view t)
 
   abbrev pub t₁ : Table
   t₁ = new-namespace t c
-
-  pub same-process : (i : ℕ) → process t₁ i ≡ process t i
-  unfolding new-namespace
-  same-process i = refl
 
   other-namespace : (n : ℕ) → (n ≡ x → ⊥) → namespace t₁ n ≡ namespace t n
   unfolding new-namespace
@@ -74,6 +72,7 @@ module _ (t : Table) (f : Sane t) (c : ℕ) (room : free-namespace-slot (view t)
   apart : (n : ℕ) → So (K n) → n ≡ x → ⊥
   apart n h = eqb-false n x (isnt _ h)
 
+  -- all that was there stands
   pub namespace-remain : Remain (view t) (view t₁) K everyone
   unfolding new-namespace
   namespace-remain =
@@ -92,16 +91,9 @@ module _ (t : Table) (f : Sane t) (c : ℕ) (room : free-namespace-slot (view t)
   pub alive-kept-there : (s : ℕ) → So (alive (view t) s) → So (K s)
   alive-kept-there s a = kept s (alive-taken (view t) (f .facts) s a)
 
-  pub children-name : (s i : ℕ) → So (alive (view t) s) → So (taken (view t) i) → name (view t₁) s (view t₁ .children i) ≡ name (view t) s (view t .children i)
-  children-name s i a h =
-      ap (λ p. name (view t₁) s (p .children .0)) (same-process i)
-      ∙ ⊎-elim (λ y. name-remain (view t) (view t₁) K everyone (f .facts) namespace-remain s (view t .children i) (alive-kept-there s a) (kept _ y) y) (λ e. name-no-slot (view t₁) s _ e ∙ sym (name-no-slot (view t) s _ e)) (children-of (view t) (f .facts) i h)
-
-  pub last-there : (i : ℕ) → So (taken (view t) i) → (if is-init (view t) i then view t₁ .last (view t .own i) else 0) ≡ (if is-init (view t) i then view t .last (view t .own i) else 0)
-  last-there i h = ap (λ (n : ℕ). if is-init (view t) i then n else 0) (ap (λ s. s .last .0) (other-namespace (view t .own i) (taken-other _ (own-taken (view t) (f .facts) i h))))
-
   pub not-held : (i : ℕ) → So (taken (view t) i) → eqb (view t₁ .children i) x ≡ false
-  not-held i h = ne-eqb (view t₁ .children i) x (λ e. ⊎-elim (λ y. taken-other _ y (ap (λ p. p .children .0) (sym (same-process i)) ∙ e)) (λ y. omega (arith, free-namespace-is (view t) room .0, sym (ap (λ p. p .children .0) (sym (same-process i)) ∙ e) ∙ y)) (children-of (view t) (f .facts) i h))
+  unfolding new-namespace
+  not-held i h = ne-eqb (view t₁ .children i) x (λ e. ⊎-elim (λ y. taken-other _ y e) (λ y. omega (arith, free-namespace-is (view t) room .0, sym e ∙ y)) (children-of (view t) (f .facts) i h))
 
   pub unborn-there : So (unborn (view t₁) x)
   unborn-there = ap (λ s. is-unborn (s .life)) the-namespace
@@ -114,8 +106,64 @@ module _ (t : Table) (f : Sane t) (c : ℕ) (room : free-namespace-slot (view t)
   unfolding name name-by
   x-name s = rw (ne-eqb x no-slot (λ e. omega (arith, free-namespace-is (view t) room .0)), ap (λ q. q .life) the-namespace) refl
 
+module _ (t : Table) (ft : Sane t) (c : ℕ) (room : free-namespace-slot (view t) ≡ namespace-slots → ⊥) (s : ℕ) (hs : So (namespace-taken (view t) s)) where
+  R : Remain (view t) (view (new-namespace t c)) (K t ft c room) everyone
+  R = namespace-remain t ft c room
+
+  stays : (n : ℕ) → So (namespace-taken (view t) n) → So (K t ft c room n)
+  stays n k = ap not (ne-eqb n (free-namespace-slot (view t)) (taken-other t ft c room n k))
+
+  new-still : Still (view t) (view (new-namespace t c)) s (K t ft c room)
+  unfolding new-namespace
+  new-still =
+      record {
+        here = stays s hs;
+        up-kept = R .up-kept;
+        own-kept = λ i k. stays (view t .own i) (own-taken (view t) (ft .facts) i (seen-taken (view t) s i k));
+        children-kept = λ i k. ⊎-elim (λ y. inl (stays (view t .children i) y)) (λ e. inr e) (children-of (view t) (ft .facts) i (seen-taken (view t) s i k));
+        ups = R .ups;
+        levels = R .levels;
+        lives = R .lives;
+        seens = λ i. seen-remain (view t) (view (new-namespace t c)) (K t ft c room) everyone (ft .facts) R s i refl;
+        owns = λ i k. refl;
+        pids = λ i l k. refl;
+        states = λ i k. refl;
+        handleds = λ i k. refl;
+        pendings = λ i k. refl;
+        marks = λ i k. refl;
+        childrens = λ i k. refl;
+        parents = λ i k. refl;
+        lasts = λ i k. ap (λ z. z .last .0) (getD-set-other (t .namespaces) (free-namespace-slot (view t)) (view t .own i) _ no-namespace (taken-other t ft c room _ (own-taken (view t) (ft .facts) i (seen-taken (view t) s i k))));
+      }
+
+  -- a fresh namespace changes nothing for S
+  pub new-same : Same (view (new-namespace t c)) (view t) s s
+  new-same = same-still (view t) (view (new-namespace t c)) s (K t ft c room) (ft .facts) new-still
+
+  pub new-stands : So (namespace-taken (view (new-namespace t c)) s)
+  new-stands = stands-still (view t) (view (new-namespace t c)) s (K t ft c room) (ft .facts) new-still hs
+
+  pub new-seen : (i : ℕ) → seen (view (new-namespace t c)) s i ≡ seen (view t) s i
+  new-seen i = new-still .seens i
+
+  -- it is not of S if the caller is not
+  pub new-outside : So (taken (view t) c) → Sane (new-namespace t c) → seen (view t) s c ≡ false → below (view (new-namespace t c)) (free-namespace-slot (view t)) s ≡ false
+  unfolding seen
+  new-outside tc f₁ o = bool-ext _ _ (λ b. absurd (go b (ℕ-discrete (view (new-namespace t c) .level (free-namespace-slot (view t))) (view (new-namespace t c) .level s)))) (λ b. absurd (false≢true b))
+    where
+      go : So (below (view (new-namespace t c)) (free-namespace-slot (view t)) s) → Dec (view (new-namespace t c) .level (free-namespace-slot (view t)) ≡ view (new-namespace t c) .level s) → ⊥
+      go b (yes e) = taken-other t ft c room s hs (sym (below-same (view (new-namespace t c)) (f₁ .facts) (free-namespace-slot (view t)) s b e))
+      go b (no e) =
+          false≢true
+          (sym o ∙ both _ _ tc
+          (sym (below-remain (view t) (view (new-namespace t c)) (K t ft c room) everyone (ft .facts) R (view t .own c) s (stays _ (own-taken (view t) (ft .facts) c tc)))
+          ∙ subst (λ n. So (below (view (new-namespace t c)) n s)) (ap (λ z. z .parent .0) (the-namespace t ft c room)) (below-parent (view (new-namespace t c)) (f₁ .facts) (free-namespace-slot (view t)) s b (strict (below-level (view (new-namespace t c)) (f₁ .facts) (free-namespace-slot (view t)) s b) e))))
+        where
+          strict : view (new-namespace t c) .level s ≤ view (new-namespace t c) .level (free-namespace-slot (view t)) → (view (new-namespace t c) .level (free-namespace-slot (view t)) ≡ view (new-namespace t c) .level s → ⊥) → view (new-namespace t c) .level s < view (new-namespace t c) .level (free-namespace-slot (view t))
+          strict l n = omega arith
+
 -- the processes are the same
-same-free : (t : Table) (c : ℕ) → free-slot (view (new-namespace t c)) ≡ free-slot (view t)
+pub same-free : (t : Table) (c : ℕ) → free-slot (view (new-namespace t c)) ≡ free-slot (view t)
 unfolding free-slot taken new-namespace
 same-free t c = refl
 
@@ -144,28 +192,6 @@ module _ (t u : Table) (s r c d : ℕ) (w : Ready t u s r c d) (ot : own-level (
   gu : Sane un
   gu = namespace-sane u fu d (runs-lives u d (w .runs-u)) ou ru
 
-  new-lit : (i j : ℕ) → Twin (view t) (view u) s r i j → Lit (view t) (view u) (view tn) (view un) s r i j
-  unfolding row
-  new-lit i j m =
-      let z = shown t u s r (w .pair) i j m in
-      let ti = seen-taken (view t) s i (m .seen-v) in
-      let tj = seen-taken (view u) r j (m .seen-u) in
-      let rows = twin-rows (view t) (view u) s r (w .pair) i j m in
-      record {
-        states = ap (λ p. p .state) (same-process t ft c rt i) ∙ z .states ∙ sym (ap (λ p. p .state) (same-process u fu d ru j));
-        handleds = ap (λ p. p .handled) (same-process t ft c rt i) ∙ z .handleds ∙ sym (ap (λ p. p .handled) (same-process u fu d ru j));
-        pendings = ap (λ p. p .pending) (same-process t ft c rt i) ∙ z .pendings ∙ sym (ap (λ p. p .pending) (same-process u fu d ru j));
-        marks = ap (λ p. p .unshared) (same-process t ft c rt i) ∙ z .marks ∙ sym (ap (λ p. p .unshared) (same-process u fu d ru j));
-        parents = parent-there t ft c rt s i (w .pair .alive-v) ∙ ap (λ (o : Row). o .parent) rows ∙ sym (parent-there u fu d ru r j (w .pair .alive-u));
-        childrens = children-name t ft c rt s i (w .pair .alive-v) ti ∙ ap (λ (o : Row). o .children) rows ∙ sym (children-name u fu d ru r j (w .pair .alive-u) tj);
-        lasts = last-there t ft c rt i ti ∙ ap (λ (o : Row). o .last) rows ∙ sym (last-there u fu d ru j tj);
-      }
-    where
-      parent-there : (z : Table) (f : Sane z) (e : ℕ) (room : free-namespace-slot (view z) ≡ namespace-slots → ⊥) (q i : ℕ) → So (alive (view z) q) → pid-in (view (new-namespace z e)) q (view (new-namespace z e) .parent i) ≡ pid-in (view z) q (view z .parent i)
-      parent-there z f e room q i a =
-          ap (λ p. pid-in (view (new-namespace z e)) q (p .parent .0)) (same-process z f e room i)
-          ∙ pid-in-remain (view z) (view (new-namespace z e)) (K z f e room) everyone (f .facts) (namespace-remain z f e room) q (view z .parent i) (alive-kept-there z f e room q a) refl
-
   new-pair : Pair (view tn) (view un) s r
   new-pair =
       let kt = alive-kept-there t ft c rt s (w .pair .alive-v) in
@@ -175,7 +201,9 @@ module _ (t u : Table) (s r c d : ℕ) (w : Ready t u s r c d) (ot : own-level (
         facts-u = gu .facts;
         alive-v = ap is-alive (namespace-remain t ft c rt .lives s kt) ∙ w .pair .alive-v;
         alive-u = ap is-alive (namespace-remain u fu d ru .lives r ku) ∙ w .pair .alive-u;
-        same = same-remain (view t) (view u) (view tn) (view un) s r (w .pair) (K t ft c rt) everyone (K u fu d ru) everyone (namespace-remain t ft c rt) (namespace-remain u fu d ru) kt ku (λ i j m. refl) (λ i j m q. new-lit i j m);
+        same =
+            same-trans (view tn) (view t) (view un) s s r (new-same t ft c rt s (taken-s t u s r c d w))
+            (same-trans (view t) (view u) (view un) s r r (w .pair .same) (flip-same (view un) (view u) r r (new-same u fu d ru r (taken-r t u s r c d w))));
       }
 
   new-twin : (i j : ℕ) → Twin (view t) (view u) s r i j → Twin (view tn) (view un) s r i j
@@ -259,6 +287,7 @@ module _ (t u : Table) (s r c d : ℕ) (w : Ready t u s r c d) (ot : own-level (
 levels-alike : (t u : Table) (s r c d : ℕ) → Ready t u s r c d → own-level (view t) c ≡ own-level (view u) d
 levels-alike t u s r c d w = twins-level (view t) (view u) s r (w .pair) _ _ (owns-twins t u s r c d w)
 
+-- unshare by twin callers
 pub unshare-same : MadeSame Unshare
 unfolding MadeSame make unshare answers granted
 unshare-same t u s r c d w h g = go (process t c .unshared) refl (eqb (own-level (view t) c) deepest) refl (eqb (free-namespace-slot (view t)) namespace-slots) refl (eqb (free-namespace-slot (view u)) namespace-slots) refl
@@ -278,6 +307,7 @@ unshare-same t u s r c d w h g = go (process t c .unshared) refl (eqb (own-level
         rw (em, sym mark ∙ em, ea, sym deep ∙ ea, eb, eb′, unshare)
         (unshared-kept t u s r c d w (eqb-false _ _ ea) (eqb-false _ _ (sym deep ∙ ea)) (eqb-false _ _ eb) (eqb-false _ _ eb′))
 
+-- clone new by twin callers
 pub clone-new-same : MadeSame CloneNew
 unfolding MadeSame make clone-new
 clone-new-same t u s r c d w h g = go (eqb (own-level (view t) c) deepest) refl (eqb (free-slot (view t)) process-slots or eqb (free-namespace-slot (view t)) namespace-slots) refl (eqb (free-slot (view u)) process-slots or eqb (free-namespace-slot (view u)) namespace-slots) refl

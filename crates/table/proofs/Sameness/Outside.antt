@@ -49,6 +49,7 @@ unfolding _and_
 granted-not true b e h = absurd (false≢true (sym e))
 granted-not false b e h = isnt b h
 
+-- a granted call that is allowed makes no touch
 pub untouched-made : (t : Table) (s i : ℕ) (c : Call) → SoundTable t → So (runs (view t) i) → So (allowed t (at s) (outside i c)) → (o : Outcome) → make t i c ≡ o → is-refused (o .reply .answer) ≡ false → touched t (o .table) (at s) i c ≡ false
 unfolding allowed touches
 untouched-made t s i c h k a o q e =
@@ -72,6 +73,7 @@ pub getppid-leaves : MadeLeaves Getppid
 unfolding MadeLeaves make getppid answers granted
 getppid-leaves t s i h hs k a g = as-it-was t s hs
 
+-- handle, and poll
 pub handle-leaves : (z : ℤ) (on : Bool) → MadeLeaves (Handle z on)
 unfolding MadeLeaves make handle handle-on handle-off answers granted refused
 handle-leaves z on t s i h hs k a g = go (not (within 1 signals z) or eqb (natural z) sigkill or eqb (natural z) sigstop) refl on refl

@@ -21,8 +21,6 @@ use Rattle.table.specs.Tests.{_and_, if_then_else_}
 use Rattle.table.specs.declared.Life.the-variants.{Unborn, Alive, Dead}
 use Rattle.table.specs.declared.Life.{Life}
 
--- ---- more that reads the same on two tables that are the same to a living namespace
-
 module _ (v : View) (f : Facts v) where
   -- seen from one is seen from all above
   pub seen-above : (n m i : ℕ) → So (below v n m) → So (seen v n i) → So (seen v m i)
@@ -52,6 +50,7 @@ parent-there v u s r w i j k h =
     (omega (arith, seen-pid v (w .facts-v) s (v .parent i) h, pid-in-seen v s (v .parent i) h, ap (λ (q : Row). q .parent) (twin-rows v u s r w i j k)))
 
 module _ (v u : View) (s r : ℕ) (w : Pair v u s r) where
+  -- parents, and whether one has ended
   pub parent-seen : (i j : ℕ) → Twin v u s r i j → seen v s (v .parent i) ≡ seen u r (u .parent j)
   parent-seen i j k = bool-ext _ _ (parent-there v u s r w i j k) (parent-there u v r s (flip-pair v u s r w) j i (flip-twin v u s r i j k))
 
@@ -137,6 +136,7 @@ name-level unborn-name = 0
 name-level no-name = 0
 
 module _ (v : View) (f : Facts v) where
+  -- a living process's children's namespace
   pub children-taken : (i : ℕ) → So (living v i) → So (namespace-taken v (v .children i))
   unfolding S.children-namespaces
   children-taken i h = f .children i (lives-taken v i h) h .0

@@ -8,7 +8,7 @@ use Rattle.table.proofs.Laws.Slots.{own-taken}
 use Rattle.table.proofs.Laws.Tests.{and-false}
 use Rattle.table.proofs.Sameness.Same.{Same}
 use Rattle.table.proofs.Sameness.Stays.{Stays, below-stays, name-stays}
-use Rattle.table.proofs.Sameness.Twins.{Pair, Twin, twin-rows, twin-there, flip-pair, flip-twin}
+use Rattle.table.proofs.Sameness.Twins.{Pair, Twin, twin-rows, same-rows}
 use Rattle.table.specs.Limits.{levels}
 use Rattle.table.specs.Read.{View, alive, below, init, init-of, is-init, namespace-taken, pid-in, pid-seen, seen, taken}
 use Rattle.table.specs.Sheet.{Name, Row, name, row}
@@ -16,6 +16,7 @@ use Rattle.table.specs.Tests.{_and_, _or_, if_then_else_, values}
 use Rattle.table.specs.declared.Life.{Life}
 use Rattle.table.specs.declared.State.{State}
 
+-- the processes of Q keep own namespace and numbers, the others are gone; the namespaces of K stay
 pub record Remain (v v′ : View) (K Q : ℕ → Bool) : Type 0 where
   pub owns : (i : ℕ) → So (Q i) → v′ .own i ≡ v .own i
   pub pids : (i l : ℕ) → So (Q i) → v′ .pid i l ≡ v .pid i l
@@ -45,6 +46,7 @@ module _ (v v′ : View) (K Q : ℕ → Bool) (f : Facts v) (w : Remain v v′ K
   unfolding taken
   taken-remain i h = ap (λ x. not (eqb x 0)) (w .pids i 0 h)
 
+  -- who remains is seen as before
   pub seen-remain : (n i : ℕ) → So (Q i) → seen v′ n i ≡ seen v n i
   unfolding seen
   seen-remain n i h = go (taken v i) refl
@@ -116,23 +118,13 @@ module _ (v u v′ u′ : View) (s r : ℕ) (w : Pair v u s r) (K Q K′ Q′ : 
       ∙ lit-same v u s r i j (twin-rows v u s r w i j k) (h i j k q .states) (h i j k q .handleds) (h i j k q .pendings) (h i j k q .marks) (h i j k q .parents) (h i j k q .childrens) (h i j k q .lasts)
       ∙ sym (row-remain u u′ K′ Q′ (w .facts-u) b r j hr (sym (both-remain i j k) ∙ q) (seen-taken u r j (k .seen-u)))
 
+  -- two tables that were the same to S still are, if what may change is the same
   pub same-remain : Same v′ u′ s r
   same-remain =
-      record {
-        levels = a .levels s hs ∙ w .same .levels ∙ sym (b .levels r hr);
-        there =
-            λ i k.
-            let q = remains v v′ K Q (w .facts-v) a s i k in
-            let (j, p) = twin-there v u s r w i (sym (seen-remain v v′ K Q (w .facts-v) a s i q) ∙ k) in
-            (j, seen-remain u u′ K′ Q′ (w .facts-u) b r j (sym (both-remain i j p) ∙ q) ∙ p .seen-u, remain-rows i j p q);
-        back =
-            λ j k.
-            let q = remains u u′ K′ Q′ (w .facts-u) b r j k in
-            let (i, p) = twin-there u v r s (flip-pair v u s r w) j (sym (seen-remain u u′ K′ Q′ (w .facts-u) b r j q) ∙ k) in
-            let p′ = flip-twin u v r s j i p in
-            (i, seen-remain v v′ K Q (w .facts-v) a s i (both-remain i j p′ ∙ q) ∙ p .seen-u, remain-rows i j p′ (both-remain i j p′ ∙ q));
-      }
+      same-rows v u v′ u′ s r w Q Q′ (a .levels s hs) (b .levels r hr) (seen-remain v v′ K Q (w .facts-v) a s) (remains v v′ K Q (w .facts-v) a s)
+      (seen-remain u u′ K′ Q′ (w .facts-u) b r) (remains u u′ K′ Q′ (w .facts-u) b r) both-remain remain-rows
 
+-- a namespace of K stands
 pub standing : (v v′ : View) (K Q : ℕ → Bool) → Remain v v′ K Q → (n : ℕ) → So (K n) → So (namespace-taken v n) → So (namespace-taken v′ n)
 unfolding namespace-taken
 standing v v′ K Q w n h k = ap (λ x. eqb n 0 or not (eqb x 0)) (w .levels n h) ∙ k

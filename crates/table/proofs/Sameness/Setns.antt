@@ -36,6 +36,7 @@ use Rattle.table.specs.declared.Table.{Table}
 abbrev pub Named : Table → Table → ℕ → ℕ → ℕ → ℕ → Type 0
 Named t u s r x y = ((x ≡ process-slots) × (y ≡ process-slots)) ⊎ (Twin (view t) (view u) s r x y × (x < process-slots) × (y < process-slots))
 
+-- a number names twins, or nobody
 pub named-twins : (t u : Table) (s r i j : ℕ) → Ready t u s r i j → (z : ℤ) → Named t u s r (named (view t) i z) (named (view u) j z)
 unfolding named
 named-twins t u s r i j w (pos zero) = inl (refl, refl)
@@ -64,6 +65,7 @@ module _ (t u : Table) (s r i j : ℕ) (w : Ready t u s r i j) where
             }),
       )
 
+-- setns by twin callers
 pub setns-same : (z : ℤ) → MadeSame (Setns z)
 unfolding MadeSame make setns _or_ answers granted
 setns-same z t u s r i j w h g = go (named-twins t u s r i j w z)

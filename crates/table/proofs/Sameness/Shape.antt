@@ -13,13 +13,14 @@ use Rattle.table.proofs.Laws.Tests.{and-false, isnt}
 use Rattle.table.proofs.Sameness.Anchor.{up-below}
 use Rattle.table.proofs.Sameness.Same.{Same}
 use Rattle.table.proofs.Sameness.Stays.{Stays, name-stays}
-use Rattle.table.proofs.Sameness.Twins.{Pair, Twin, twin-there, flip-pair, flip-twin, bool-ext}
+use Rattle.table.proofs.Sameness.Twins.{Pair, Twin, bool-ext, same-rows}
 use Rattle.table.specs.Limits.{levels, no-slot}
 use Rattle.table.specs.Read.{View, alive, below, climb, init, init-of, is-alive, namespace-taken, pid-in, pid-seen, seen, taken}
 use Rattle.table.specs.Sheet.{dead-at, name, name-by, nearest, row}
 use Rattle.table.specs.Tests.{_and_, if_then_else_}
 use Rattle.table.specs.declared.Life.the-variants.{Dead}
 
+-- the processes of Q keep own namespace and numbers, the others are gone; the tree stays
 pub record Shape (v v′ : View) (Q : ℕ → Bool) : Type 0 where
   pub owns : (i : ℕ) → So (Q i) → v′ .own i ≡ v .own i
   pub pids : (i l : ℕ) → So (Q i) → v′ .pid i l ≡ v .pid i l
@@ -61,22 +62,9 @@ module _ (v v′ : View) (Q : ℕ → Bool) (w : Shape v v′ Q) where
 
 -- two tables, the rows of who remains given
 module _ (v u v′ u′ : View) (s r : ℕ) (w : Pair v u s r) (Q Q′ : ℕ → Bool) (a : Shape v v′ Q) (b : Shape u u′ Q′) (both-remain : (i j : ℕ) → Twin v u s r i j → Q i ≡ Q′ j) where
+  -- two tables that were the same to S still are, if the rows of who remains are
   pub same-shape : ((i j : ℕ) → Twin v u s r i j → So (Q i) → row v′ s i ≡ row u′ r j) → Same v′ u′ s r
-  same-shape h =
-      record {
-        levels = ap (λ (level : ℕ → ℕ). level s) (a .levels) ∙ w .same .levels ∙ sym (ap (λ (level : ℕ → ℕ). level r) (b .levels));
-        there =
-            λ i k.
-            let q = remains v v′ Q a s i k in
-            let (j, p) = twin-there v u s r w i (sym (seen-shape v v′ Q a s i q) ∙ k) in
-            (j, seen-shape u u′ Q′ b r j (sym (both-remain i j p) ∙ q) ∙ p .seen-u, h i j p q);
-        back =
-            λ j k.
-            let q = remains u u′ Q′ b r j k in
-            let (i, p) = twin-there u v r s (flip-pair v u s r w) j (sym (seen-shape u u′ Q′ b r j q) ∙ k) in
-            let p′ = flip-twin u v r s j i p in
-            (i, seen-shape v v′ Q a s i (both-remain i j p′ ∙ q) ∙ p .seen-u, h i j p′ (both-remain i j p′ ∙ q));
-      }
+  same-shape = same-rows v u v′ u′ s r w Q Q′ (ap (λ (l : ℕ → ℕ). l s) (a .levels)) (ap (λ (l : ℕ → ℕ). l r) (b .levels)) (seen-shape v v′ Q a s) (remains v v′ Q a s) (seen-shape u u′ Q′ b r) (remains u u′ Q′ b r) both-remain
 
   pub twin-shape : (i j : ℕ) → Twin v u s r i j → So (Q i) → Twin v′ u′ s r i j
   twin-shape i j k q =
@@ -127,6 +115,7 @@ module _ (v v′ : View) (f : Facts v) (Q : ℕ → Bool) (w : Shape v v′ Q) (
 
   -- the init of a namespace that lives on remains
   module _ (stays : (n : ℕ) → So (alive v n) → below v n top ≡ false → So (Q (init v n))) where
+    -- outside the subtree names stay; in it they name the init above
     pub name-out : (s n : ℕ) → below v n top ≡ false → So (namespace-taken v n) → name v′ s n ≡ name v s n
     name-out s n h = name-stays v v′ out f stays-out s (λ m k a. pid-in-shape v v′ Q w s (init v m) (stays m a (isnt (below v m top) k))) n (ap not h)
 

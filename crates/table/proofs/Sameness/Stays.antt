@@ -14,6 +14,7 @@ use Rattle.table.specs.Tests.{if_then_else_}
 use Rattle.table.specs.declared.Life.the-variants.{Unborn, Alive, Dead}
 use Rattle.table.specs.declared.Life.{Life}
 
+-- the namespaces of K, which with each has its parent
 pub record Stays (v v′ : View) (K : ℕ → Bool) : Type 0 where
   pub ups : (n : ℕ) → So (K n) → v′ .up n ≡ v .up n
   pub levels : (n : ℕ) → So (K n) → v′ .level n ≡ v .level n
@@ -28,6 +29,7 @@ module _ (v v′ : View) (K : ℕ → Bool) (f : Facts v) (w : Stays v v′ K) w
       ap (λ (x : Bool). elim (eqb a b) [ true ↦ true | false ↦ x ])
       (ap (λ x. climb (v′ .up) k x b) (w .ups a h) ∙ climb-stays k (v .up a) b (w .up-kept a k h e) (up-level v f a k e))
 
+  -- "below" stays
   pub below-stays : (a b : ℕ) → So (K a) → below v′ a b ≡ below v a b
   unfolding below
   below-stays a b h = ap (λ k. climb (v′ .up) k a b) (w .levels a h) ∙ climb-stays (v .level a) a b h refl
@@ -55,6 +57,7 @@ module _ (v v′ : View) (K : ℕ → Bool) (f : Facts v) (w : Stays v v′ K) w
         let kept = near-kept (v .level n) n hn refl in
         ap₂ dead-at (w .levels n hn) (ap (pid-in v′ s) (ap init-of (ap (v′ .life) near ∙ w .lives (anchor v n) kept)) ∙ inits (anchor v n) kept (anchor-alive v f n ht))
 
+    -- so do their names
     pub name-stays : (n : ℕ) → So (K n) → So (namespace-taken v n) → name v′ s n ≡ name v s n
     unfolding name
     name-stays n hn ht = ap (λ y. if eqb n no-slot then no-name else y) (ap (name-by v′ s n) (w .lives n hn) ∙ by-stays n hn ht (v .life n) refl)

@@ -82,6 +82,7 @@ module _ (v v′ : View) (s : ℕ) (K : ℕ → Bool) (f : Facts v) (w : Still v
         last = (ap (λ (n : ℕ). if eqb (init v′ n) i then v′ .last n else 0) (w .owns i q) ∙ ap₂ (λ (x : Life) (z : ℕ). if eqb (init-of x) i then z else 0) (w .lives (v .own i) (w .own-kept i q)) (w .lasts i q)) k;
       }
 
+  -- so the sheet stays
   pub same-still : Same v′ v s s
   same-still =
       record {
@@ -106,6 +107,7 @@ module _ (v : View) (f : Facts v) (s : ℕ) where
   pub near-here : So (near v s s)
   near-here = or-left _ _ (below-refl v s)
 
+  -- with each its parent, with each process of S its namespaces
   pub near-up : (n k : ℕ) → So (near v s n) → v .level n ≡ suc k → So (near v s (v .up n))
   near-up n k h e = ⊎-elim (λ b. go (v .level s) refl b) (λ b. or-right _ _ (below-trans v f s n (v .up n) b (up-below v f n k e))) (cases _ _ h)
     where

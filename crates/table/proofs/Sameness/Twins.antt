@@ -37,6 +37,7 @@ pub record Twins (v u : View) (s r n m : ℕ) : Type 0 where
   pub below-u : So (below u m r)
   pub inits : pid-seen v s (init v n) ≡ pid-seen u r (init u m)
 
+-- the two tables change places
 pub flip-same : (v u : View) (s r : ℕ) → Same v u s r → Same u v r s
 flip-same v u s r w =
     record { levels = sym (w .levels); there = λ j k. let (i, m, q) = w .back j k in (i, m, sym q); back = λ i k. let (j, m, q) = w .there i k in (j, m, sym q) }
@@ -70,11 +71,13 @@ module _ (v u : View) (s r : ℕ) (w : Pair v u s r) where
 
   -- ---- rows
 
+  -- twins have equal rows
   pub twin-rows : (i j : ℕ) → Twin v u s r i j → row v s i ≡ row u r j
   twin-rows i j k =
       let (x, m, q) = w .same .there i (k .seen-v) in
       q ∙ ap (row u r) (pid-unique u (w .facts-u) r x j (alive-taken u (w .facts-u) r (w .alive-u)) m (k .seen-u) (sym (row-pid v u s r i x lv lu q) ∙ k .pids))
 
+  -- each seen process has a twin, and only one
   pub twin-there : (i : ℕ) → So (seen v s i) → (j : ℕ) × Twin v u s r i j
   twin-there i h = let (j, m, q) = w .same .there i h in (j, record { seen-v = h; seen-u = m; pids = row-pid v u s r i j lv lu q })
 
@@ -147,6 +150,7 @@ module _ (v u : View) (s r : ℕ) (w : Pair v u s r) where
       ∙ ap (λ (q : Row). is-by-init (q .own)) (twin-rows v u s r w i j k)
       ∙ name-alive u (w .facts-u) r (u .own j) (own-taken u (w .facts-u) j (seen-taken u r j (k .seen-u)))
 
+  -- the own namespaces of twins correspond
   pub owns : (i j : ℕ) → Twin v u s r i j → So (alive v (v .own i)) → Twins v u s r (v .own i) (u .own j)
   owns i j k a =
       subst₂ (λ n m. Twins v u s r n m) (anchor-self v (w .facts-v) (v .own i) a) (anchor-self u (w .facts-u) (u .own j) (sym (own-alive i j k) ∙ a)) (anchors i j k)
@@ -178,6 +182,7 @@ module _ (v : View) (f : Facts v) (s : ℕ) where
       (subst (λ y. So (below v y s)) (sym (init-parent v f n _ a e)) (below-parent v f n s h l))
 
 module _ (v u : View) (s r : ℕ) (w : Pair v u s r) where
+  -- and so do the namespaces above them
   pub twins-up : (n m : ℕ) → Twins v u s r n m → v .level s < v .level n → Twins v u s r (v .up n) (u .up m)
   twins-up n m k l =
       let e : v .level n ≡ suc (pred (v .level n)) = omega arith in
@@ -212,7 +217,28 @@ module _ (v u : View) (s r : ℕ) (w : Pair v u s r) where
       (λ h. both _ _ (seen-taken u r j (k .seen-u)) (below-trans u (w .facts-u) _ _ m (anchor-below u (w .facts-u) (u .own j)) (sym (below-twins _ _ n m (anchors v u s r w i j k) l) ∙ anchor-least v (w .facts-v) (v .own i) n (l .lives-v) (right _ _ h))))
       (λ h. both _ _ (seen-taken v s i (k .seen-v)) (below-trans v (w .facts-v) _ _ n (anchor-below v (w .facts-v) (v .own i)) (below-twins _ _ n m (anchors v u s r w i j k) l ∙ anchor-least u (w .facts-u) (u .own j) m (l .lives-u) (right _ _ h))))
 
+  -- twins have the same number in corresponding namespaces
   pub pid-twins : (i j n m : ℕ) → Twin v u s r i j → Twins v u s r n m → pid-seen v n i ≡ pid-seen u m j
   unfolding pid-seen
   pid-twins i j n m k l =
       twin-pid v u s r w i j (v .level n) k (below-level v (w .facts-v) n s (l .below-v)) (level-lt v (w .facts-v) n (alive-taken v (w .facts-v) n (l .lives-v))) ∙ ap (u .pid j) (twins-level v u s r w n m l)
+
+-- Two tables stay the same to S where the processes of Q are seen as before, no others are, and their rows are the same.
+pub same-rows : (v u v′ u′ : View) (s r : ℕ) → Pair v u s r → (Q Q′ : ℕ → Bool) → v′ .level s ≡ v .level s → u′ .level r ≡ u .level r
+    → ((i : ℕ) → So (Q i) → seen v′ s i ≡ seen v s i) → ((i : ℕ) → So (seen v′ s i) → So (Q i)) → ((j : ℕ) → So (Q′ j) → seen u′ r j ≡ seen u r j) → ((j : ℕ) → So (seen u′ r j) → So (Q′ j))
+    → ((i j : ℕ) → Twin v u s r i j → Q i ≡ Q′ j) → ((i j : ℕ) → Twin v u s r i j → So (Q i) → row v′ s i ≡ row u′ r j) → Same v′ u′ s r
+same-rows v u v′ u′ s r w Q Q′ lv lu av bv au bu both h =
+    record {
+      levels = lv ∙ w .same .levels ∙ sym lu;
+      there =
+          λ i k.
+          let q = bv i k in
+          let (j, p) = twin-there v u s r w i (sym (av i q) ∙ k) in
+          (j, au j (sym (both i j p) ∙ q) ∙ p .seen-u, h i j p q);
+      back =
+          λ j k.
+          let q = bu j k in
+          let (i, p) = twin-there u v r s (flip-pair v u s r w) j (sym (au j q) ∙ k) in
+          let p′ = flip-twin u v r s j i p in
+          (i, av i (both i j p′ ∙ q) ∙ p .seen-u, h i j p′ (both i j p′ ∙ q));
+    }

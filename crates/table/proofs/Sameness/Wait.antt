@@ -47,13 +47,12 @@ use Rattle.table.specs.declared.State.the-variants.{Running, Stopped, En
 use Rattle.table.specs.declared.State.{State}
 use Rattle.table.specs.declared.Table.{Table}
 
--- ---- the removal of two twins that have ended: the tables stay the same to S
-
 -- ---- the lowest
 
 abbrev pub Least : (ℕ → Bool) → (ℕ → ℕ) → ℕ → ℕ → ℕ → Type 0
 Least p f d n x = ((x ≡ d) × ((i : ℕ) → i < n → p i ≡ false)) ⊎ (So (p x) × (x < n) × ((i : ℕ) → i < n → So (p i) → f x ≤ f i))
 
+-- the number at which f is lowest, or none
 pub least-cases : (p : ℕ → Bool) (f : ℕ → ℕ) (d n : ℕ) → n ≤ d → Least p f d n (least p f d n)
 unfolding least
 least-cases p f d zero l = inl (refl, λ i k. absurd (omega arith))
@@ -150,6 +149,7 @@ module _ (v u : View) (s r : ℕ) (w : Pair v u s r) (x y : ℕ) (k : Twin v u s
         lasts = ap (λ (o : Row). o .last) rows;
       }
 
+  -- each row that is left is the same on both
   pub same-reap : Same (without v x) (without u y) s r
   same-reap = same-remain v u (without v x) (without u y) s r w everyone (others x) everyone (others y) (reap-remain v (w .facts-v) x tx ex) (reap-remain u (w .facts-u) y ty ey) refl refl both-stay reap-lit
 
@@ -199,6 +199,7 @@ module _ (t u : Table) (s r c d : ℕ) (w : Ready t u s r c d) where
   abbrev First : ℕ → ℕ → Type 0
   First x y = ((x ≡ process-slots) × (y ≡ process-slots)) ⊎ (Twin (view t) (view u) s r x y × So (view t .ended x) × So (view u .ended y))
 
+  -- the first that has ended is the same on both, or there is none
   pub first-twins : First (first-ended (view t) c) (first-ended (view u) d)
   unfolding first-ended
   first-twins = go (least-cases (ended-kid (view t) c) (pid-to (view t) c) process-slots process-slots (omega arith)) (least-cases (ended-kid (view u) d) (pid-to (view u) d) process-slots process-slots (omega arith))
@@ -250,6 +251,7 @@ reap-kept t u s r c d w x y k ex ey (Ended e) z =
           }),
     )
 
+-- wait by twin callers
 pub wait-same : MadeSame Wait
 unfolding MadeSame make wait reap
 wait-same t u s r c d w h g = go (any process-slots (child-of (view t) c)) refl
@@ -319,6 +321,7 @@ first-taken t h c e = go (least-cases (ended-kid (view t) c) (pid-to (view t) c)
     go (inl (a, b)) = absurd (false≢true (sym (ap (λ p. is-ended (p .state)) (List·getD-eq-default (t .processes) no-process (omega (arith, process-count t (h .shape), a)))) ∙ e))
     go (inr (a, b, m)) = left _ _ (left _ _ a)
 
+-- wait by an outsider that removes nobody of S
 pub wait-leaves : MadeLeaves Wait
 unfolding MadeLeaves make wait reap answers granted refused is-refused touched removes-from is-inside taken namespace-taken
 wait-leaves t s i h hs k a g = go (any process-slots (child-of (view t) i)) refl (view t .state x) refl g
