@@ -1,0 +1,4 @@
+-- Document 01, "The script, and one run whole", as definitions, in reading order.
+pub mod Texts
+pub mod Lines
+pub mod Reading
