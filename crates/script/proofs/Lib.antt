@@ -1,3 +1,5 @@
 -- What belongs to no one function.
 pub mod Scans
 pub mod Numbers
+pub mod Calls
+pub mod Parts

@@ -77,16 +77,21 @@ read-number l =
 
 -- ---- calls
 
+-- a question of the caller about itself
+unfoldable pub own-call : List ℕ → Request
+own-call w =
+    if same w (bytes "getpid") then Request.Is Getpid else
+    if same w (bytes "getppid") then Request.Is Getppid else
+    if same w (bytes "poll") then Request.Is Poll else
+    Request.Bad
+
 -- a call of one word
 unfoldable pub plain-call : List ℕ → Request
 plain-call w =
     if same w (bytes "clone") then Request.Is Clone else
     if same w (bytes "unshare") then Request.Is Unshare else
     if same w (bytes "wait") then Request.Is Wait else
-    if same w (bytes "getpid") then Request.Is Getpid else
-    if same w (bytes "getppid") then Request.Is Getppid else
-    if same w (bytes "poll") then Request.Is Poll else
-    Request.Bad
+    own-call w
 
 unfoldable pub with-number : List ℕ → Number → Request
 with-number w Number.Bad = Request.Bad

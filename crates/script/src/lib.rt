@@ -5,7 +5,7 @@ ghost use mathlib.Core.Path.{_≡_};
 ghost use Prim.Native.Nat.{_+_, _*_, _<_, _≤_};
 ghost use lib.IntN.{pos, negℤ};
 ghost use lib.ListN.{length};
-ghost use Rattle.script.specs.Reading.{word-length, same as same-text, natural-from, read-natural, from-zero as from-zero-to, below-zero as below-zero-to, read-number, plain-call, with-number, call-with, kill-call, handle-call, call-with-two, read-call, asked-by, after-slot, read-line};
+ghost use Rattle.script.specs.Reading.{word-length, same as same-text, natural-from, read-natural, from-zero as from-zero-to, below-zero as below-zero-to, read-number, own-call, plain-call, with-number, call-with, kill-call, handle-call, call-with-two, read-call, asked-by, after-slot, read-line};
 
 // The value of decimal digits.
 pub enum Natural {
@@ -145,6 +145,22 @@ fn read_number(s: &[u8]) -> Number
 
 // ---- calls
 
+// A question of the caller about itself.
+fn own_call(word: &[u8]) -> Request
+    ensures { λ r. ⌜ r ≡ own-call (now (word .entry)) ⌝ }
+{
+    if same(word, b"getpid") {
+        return Request::Is(Call::Getpid);
+    }
+    if same(word, b"getppid") {
+        return Request::Is(Call::Getppid);
+    }
+    if same(word, b"poll") {
+        return Request::Is(Call::Poll);
+    }
+    Request::Bad
+}
+
 // A call of one word.
 fn plain_call(word: &[u8]) -> Request
     ensures { λ r. ⌜ r ≡ plain-call (now (word .entry)) ⌝ }
@@ -158,16 +174,7 @@ fn plain_call(word: &[u8]) -> Request
     if same(word, b"wait") {
         return Request::Is(Call::Wait);
     }
-    if same(word, b"getpid") {
-        return Request::Is(Call::Getpid);
-    }
-    if same(word, b"getppid") {
-        return Request::Is(Call::Getppid);
-    }
-    if same(word, b"poll") {
-        return Request::Is(Call::Poll);
-    }
-    Request::Bad
+    own_call(word)
 }
 
 fn with_number(word: &[u8], number: Number) -> Request
@@ -256,6 +263,27 @@ fn read_call(s: &[u8]) -> Request
 
 // ---- lines
 
+fn asked_by(slot: ProcSlot, request: Request) -> Parsed
+    ensures { λ r. ⌜ r ≡ asked-by (slot .0) request ⌝ }
+{
+    match request {
+        Request::Bad => Parsed::Bad,
+        Request::Is(c) => Parsed::Good(slot, c),
+    }
+}
+
+fn after_slot(slot: Natural, rest: &[u8]) -> Parsed
+    ensures { λ r. ⌜ r ≡ after-slot slot (now (rest .entry)) ⌝ }
+{
+    let Natural::Is(n) = slot else {
+        return Parsed::Bad;
+    };
+    if n > 255 {
+        return Parsed::Bad;
+    }
+    asked_by(ProcSlot(n as u8), read_call(rest))
+}
+
 // A line of a script without its line feed.
 pub fn parse(line: &[u8]) -> Parsed
     ensures { λ r. ⌜ r ≡ read-line (now (line .entry)) ⌝ }
@@ -267,16 +295,5 @@ pub fn parse(line: &[u8]) -> Parsed
     if a >= line.len() {
         return Parsed::Bad;
     }
-    let slot = read_natural(&line[0..a]);
-    let Natural::Is(n) = slot else {
-        return Parsed::Bad;
-    };
-    if n > 255 {
-        return Parsed::Bad;
-    }
-    let request = read_call(&line[a + 1..]);
-    let Request::Is(c) = request else {
-        return Parsed::Bad;
-    };
-    Parsed::Good(ProcSlot(n as u8), c)
+    after_slot(read_natural(&line[0..a]), &line[a + 1..])
 }
