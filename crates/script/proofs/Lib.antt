@@ -3,3 +3,4 @@ pub mod Scans
 pub mod Numbers
 pub mod Calls
 pub mod Parts
+pub mod Decimals

@@ -122,7 +122,7 @@ pub ruleset alike-loop = (same-other-length, alike-starts, alike-next, alike-sto
 
 -- ---- digits
 
-digit-is : (b : ℕ) → 48 ≤ b → b ≤ 57 → is-digit b ≡ true
+pub digit-is : (b : ℕ) → 48 ≤ b → b ≤ 57 → is-digit b ≡ true
 unfolding is-digit
 digit-is b l h = and-true (leb 48 b) (leb b 57) (le-leb 48 b l) (le-leb b 57 h)
 
