@@ -11,7 +11,7 @@ use native.Mathlib.Nat.{pow-suc, pow-le-pow-right}
 use native.Mathlib.Omega.{arith}
 use Rattle.script.proofs.Scans.{digit-is, digit-goes-on, digit-stops, digits-none}
 use Rattle.script.specs.Reading.{word-length, is-digit, natural-from, read-natural}
-use Rattle.script.specs.Texts.{digit-0, decimal-in, decimal}
+use Rattle.script.specs.Texts.{minus-sign, digit-0, decimal-in, decimal}
 use Rattle.script.specs.declared.Natural.{Natural}
 use Rattle.table.proofs.Chains.{by-bool, pick-yes, pick-no}
 use Rattle.table.specs.Tests.{_and_}
@@ -295,3 +295,16 @@ digits-one-word (b ∷ bs) m n e =
 pub decimal-one-word : (n : ℕ) → n < 10 ^ 10 → word-length (decimal n) ≡ length (decimal n)
 unfolding decimal
 decimal-one-word n h = digits-one-word (decimal-in 10 n) 0 n (read-decimal-in 9 n h)
+
+-- ---- nor is one of them a minus sign
+
+digits-unsigned : (l : List ℕ) (m n : ℕ) → natural-from m l ≡ Natural.Is n → getD l 0 0 ≡ minus-sign → ⊥
+digits-unsigned [] m n e s = omega arith
+digits-unsigned (b ∷ bs) m n e s =
+    by-bool (is-digit b)
+    (λ q. let l = digit-low-end b q in omega arith)
+    (λ q. bad-is n (sym (digit-stops m b bs q) ∙ e))
+
+pub decimal-unsigned : (n : ℕ) → n < 10 ^ 10 → getD (decimal n) 0 0 ≡ minus-sign → ⊥
+unfolding decimal
+decimal-unsigned n h = digits-unsigned (decimal-in 10 n) 0 n (read-decimal-in 9 n h)

@@ -2,5 +2,7 @@
 pub mod Scans
 pub mod Numbers
 pub mod Calls
+pub mod Steps
 pub mod Parts
 pub mod Decimals
+pub mod Words

@@ -18,15 +18,15 @@ use Rattle.table.specs.Tests.{_and_}
 
 -- ---- the end of a word
 
-word-ends : (b : ℕ) (bs : List ℕ) → b ≡ 32 → word-length (b ∷ bs) ≡ 0
+pub word-ends : (b : ℕ) (bs : List ℕ) → b ≡ 32 → word-length (b ∷ bs) ≡ 0
 unfolding word-length
 word-ends b bs e = pick-yes (eqb b 32) 0 (suc (word-length bs)) (eq-eqb b 32 e)
 
-word-goes-on : (b : ℕ) (bs : List ℕ) → (b ≡ 32 → ⊥) → word-length (b ∷ bs) ≡ suc (word-length bs)
+pub word-goes-on : (b : ℕ) (bs : List ℕ) → (b ≡ 32 → ⊥) → word-length (b ∷ bs) ≡ suc (word-length bs)
 unfolding word-length
 word-goes-on b bs e = pick-no (eqb b 32) 0 (suc (word-length bs)) (ne-eqb b 32 e)
 
-word-none : word-length [] ≡ 0
+pub word-none : word-length [] ≡ 0
 unfolding word-length
 word-none = refl
 
