@@ -6,3 +6,4 @@ pub mod Steps
 pub mod Parts
 pub mod Decimals
 pub mod Words
+pub mod Arguments

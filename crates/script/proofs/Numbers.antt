@@ -17,15 +17,15 @@ use Rattle.table.proofs.Chains.{pick-yes, pick-no}
 
 -- ---- from 0
 
-from-zero-fits : (n : ℕ) → n < past-32-bit → from-zero (Natural.Is n) ≡ Number.Is (pos n)
+pub from-zero-fits : (n : ℕ) → n < past-32-bit → from-zero (Natural.Is n) ≡ Number.Is (pos n)
 unfolding from-zero
 from-zero-fits n h = pick-yes (ltb n past-32-bit) (Number.Is (pos n)) Number.Bad (lt-ltb n past-32-bit h)
 
-from-zero-past : (n : ℕ) → past-32-bit ≤ n → from-zero (Natural.Is n) ≡ Number.Bad
+pub from-zero-past : (n : ℕ) → past-32-bit ≤ n → from-zero (Natural.Is n) ≡ Number.Bad
 unfolding from-zero
 from-zero-past n h = pick-no (ltb n past-32-bit) (Number.Is (pos n)) Number.Bad (le-ltb n past-32-bit h)
 
-from-zero-none : from-zero Natural.Bad ≡ Number.Bad
+pub from-zero-none : from-zero Natural.Bad ≡ Number.Bad
 unfolding from-zero
 from-zero-none = refl
 
@@ -42,21 +42,21 @@ pub ruleset from-zero-laws = (natural-none, natural-fits, natural-past)
 
 -- ---- below 0
 
-below-zero-fits : (n : ℕ) → (n ≡ 0 → ⊥) → n ≤ past-32-bit → below-zero (Natural.Is n) ≡ Number.Is (negℤ (pos n))
+pub below-zero-fits : (n : ℕ) → (n ≡ 0 → ⊥) → n ≤ past-32-bit → below-zero (Natural.Is n) ≡ Number.Is (negℤ (pos n))
 unfolding below-zero
 below-zero-fits n z h =
     pick-no (eqb n 0) Number.Bad _ (ne-eqb n 0 z) ∙ pick-no (ltb past-32-bit n) Number.Bad (Number.Is (negℤ (pos n))) (le-ltb past-32-bit n h)
 
-below-zero-zero : (n : ℕ) → n ≡ 0 → below-zero (Natural.Is n) ≡ Number.Bad
+pub below-zero-zero : (n : ℕ) → n ≡ 0 → below-zero (Natural.Is n) ≡ Number.Bad
 unfolding below-zero
 below-zero-zero n z = pick-yes (eqb n 0) Number.Bad _ (eq-eqb n 0 z)
 
-below-zero-past : (n : ℕ) → past-32-bit < n → below-zero (Natural.Is n) ≡ Number.Bad
+pub below-zero-past : (n : ℕ) → past-32-bit < n → below-zero (Natural.Is n) ≡ Number.Bad
 unfolding below-zero
 below-zero-past n h =
     pick-no (eqb n 0) Number.Bad _ (ne-eqb n 0 (λ e. omega arith)) ∙ pick-yes (ltb past-32-bit n) Number.Bad (Number.Is (negℤ (pos n))) (lt-ltb past-32-bit n h)
 
-below-zero-none : below-zero Natural.Bad ≡ Number.Bad
+pub below-zero-none : below-zero Natural.Bad ≡ Number.Bad
 unfolding below-zero
 below-zero-none = refl
 

@@ -2,3 +2,4 @@
 pub mod Texts
 pub mod Lines
 pub mod Reading
+pub mod Claims
