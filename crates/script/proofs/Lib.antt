@@ -7,3 +7,4 @@ pub mod Parts
 pub mod Decimals
 pub mod Words
 pub mod Arguments
+pub mod CallTexts
