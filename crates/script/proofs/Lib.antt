@@ -8,3 +8,4 @@ pub mod Decimals
 pub mod Words
 pub mod Arguments
 pub mod CallTexts
+pub mod LineTexts
