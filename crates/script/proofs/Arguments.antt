@@ -70,8 +70,8 @@ above Natural.Bad z e = absurd (number-bad z (sym from-zero-none ∙ e))
 above (Natural.Is n) z e =
     by-bool (ltb n past-32-bit)
     (λ q.
-      let h = ltb-true n past-32-bit q in
-      record { value = n; read = refl; is = number-inj z (pos n) (sym e ∙ from-zero-fits n h); fits = h })
+    let h = ltb-true n past-32-bit q in
+    record { value = n; read = refl; is = number-inj z (pos n) (sym e ∙ from-zero-fits n h); fits = h })
     (λ q. absurd (number-bad z (sym (from-zero-past n (ltb-false n past-32-bit q)) ∙ e)))
 
 below : (m : Natural) (z : ℤ) → below-zero m ≡ Number.Is z → Below m z
@@ -81,13 +81,13 @@ below (Natural.Is (suc n)) z e =
     by-bool (ltb past-32-bit (suc n))
     (λ q. absurd (number-bad z (sym (below-zero-past (suc n) (ltb-true past-32-bit (suc n) q)) ∙ e)))
     (λ q.
-      let h = ltb-false past-32-bit (suc n) q in
-      record {
-        value = n;
-        read = refl;
-        is = number-inj z (negsuc n) (sym e ∙ below-zero-fits (suc n) (λ o. omega arith) h);
-        fits = omega arith;
-      })
+    let h = ltb-false past-32-bit (suc n) q in
+    record {
+      value = n;
+      read = refl;
+      is = number-inj z (negsuc n) (sym e ∙ below-zero-fits (suc n) (λ o. omega arith) h);
+      fits = omega arith;
+    })
 
 above-text : (l : List ℕ) (z : ℤ) → Above (read-natural l) z → (l ≡ number z) × Is-32-bit z
 unfolding number
@@ -104,8 +104,8 @@ number-written [] z e = absurd (number-bad z (sym (empty-number [] refl) ∙ e))
 number-written (b ∷ bs) z e =
     by-bool (eqb b minus-sign)
     (λ q.
-      let s = eqb-true b minus-sign q in
-      below-text b bs z s (below (read-natural bs) z (sym (signed-number (b ∷ bs) some s) ∙ e)))
+    let s = eqb-true b minus-sign q in
+    below-text b bs z s (below (read-natural bs) z (sym (signed-number (b ∷ bs) some s) ∙ e)))
     (λ q. above-text (b ∷ bs) z (above (read-natural (b ∷ bs)) z (sym (unsigned-number (b ∷ bs) some (eqb-false b minus-sign q)) ∙ e)))
   where
     some : length (b ∷ bs) ≡ 0 → ⊥

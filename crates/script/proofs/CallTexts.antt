@@ -143,9 +143,9 @@ unfolding call-with call-text
 one-written w a c =
     try-word w (bytes "clone") c _ (with-number w (read-number a))
     (λ s.
-      try-word a (bytes "new") c (Request.Is CloneNew) Request.Bad
-      (λ t. found (w ++ space ∷ a) c CloneNew ((λ j. s j ++ space ∷ t j), tt))
-      (λ e. absurd (request-bad c e)))
+    try-word a (bytes "new") c (Request.Is CloneNew) Request.Bad
+    (λ t. found (w ++ space ∷ a) c CloneNew ((λ j. s j ++ space ∷ t j), tt))
+    (λ e. absurd (request-bad c e)))
     (number-call w a c (read-number a) refl)
 
 -- a word, a space, the argument a, a space and the argument b
@@ -183,13 +183,13 @@ call-written l c e =
     by-bool (leb (length l) (word-length l))
     (λ t. plain-written l c (sym (of-one-word l (leb-true (length l) (word-length l) t)) ∙ e))
     (λ t.
-      let h = leb-false (length l) (word-length l) t in
-      let r : List ℕ = later-words l in
-      by-bool (leb (length r) (word-length r))
-      (λ u.
-        subst (λ s. Text-of s c) (sym (joined l h))
-        (one-written (first-word l) r c (sym (of-two-words l h (leb-true (length r) (word-length r) u)) ∙ e)))
-      (λ u.
-        let k = leb-false (length r) (word-length r) u in
-        subst (λ s. Text-of s c) (sym (joined l h ∙ ap (λ s. first-word l ++ space ∷ s) (joined r k)))
-        (two-written (first-word l) (first-word r) (later-words r) c (sym (of-more-words l h k) ∙ e))))
+    let h = leb-false (length l) (word-length l) t in
+    let r : List ℕ = later-words l in
+    by-bool (leb (length r) (word-length r))
+    (λ u.
+    subst (λ s. Text-of s c) (sym (joined l h))
+    (one-written (first-word l) r c (sym (of-two-words l h (leb-true (length r) (word-length r) u)) ∙ e)))
+    (λ u.
+    let k = leb-false (length r) (word-length r) u in
+    subst (λ s. Text-of s c) (sym (joined l h ∙ ap (λ s. first-word l ++ space ∷ s) (joined r k)))
+    (two-written (first-word l) (first-word r) (later-words r) c (sym (of-more-words l h k) ∙ e))))

@@ -63,9 +63,9 @@ decimal-enough (suc k) n h =
     by-size n
     (λ l. decimal-small (suc (suc k)) n l ∙ sym (decimal-small (suc k) n l))
     (λ l.
-      decimal-large (suc (suc k)) n l
-      ∙ ap (λ ds. ds ++ (digit-0 + n % 10) ∷ []) (decimal-enough k (n / 10) (tenth k n h))
-      ∙ sym (decimal-large (suc k) n l))
+    decimal-large (suc (suc k)) n l
+    ∙ ap (λ ds. ds ++ (digit-0 + n % 10) ∷ []) (decimal-enough k (n / 10) (tenth k n h))
+    ∙ sym (decimal-large (suc k) n l))
 
 pub decimal-one : (n : ℕ) → n < 10 → decimal n ≡ (digit-0 + n) ∷ []
 unfolding decimal
@@ -86,19 +86,19 @@ at-most (suc k) n =
     by-size n
     (λ l. let e = ap length (decimal-small k n l) in omega arith)
     (λ l.
-      let e = ap length (decimal-large k n l) in
-      let f = length-append (decimal-in k (n / 10)) ((digit-0 + n % 10) ∷ []) in
-      let h = at-most k (n / 10) in
-      omega arith)
+    let e = ap length (decimal-large k n l) in
+    let f = length-append (decimal-in k (n / 10)) ((digit-0 + n % 10) ∷ []) in
+    let h = at-most k (n / 10) in
+    omega arith)
 
 at-least : (k n : ℕ) → 1 ≤ length (decimal-in (suc k) n)
 at-least k n =
     by-size n
     (λ l. let e = ap length (decimal-small k n l) in omega arith)
     (λ l.
-      let e = ap length (decimal-large k n l) in
-      let f = length-append (decimal-in k (n / 10)) ((digit-0 + n % 10) ∷ []) in
-      omega arith)
+    let e = ap length (decimal-large k n l) in
+    let f = length-append (decimal-in k (n / 10)) ((digit-0 + n % 10) ∷ []) in
+    omega arith)
 
 pub decimal-length : (n : ℕ) → length (decimal n) ≤ 10
 unfolding decimal
@@ -118,13 +118,13 @@ first-digit zero n h b e =
 first-digit (suc k) n h b e =
     by-size n
     (λ l.
-      let f : digit-0 + n ≡ digit-0 = sym (ap (λ ds. getD ds 0 0) (decimal-small (suc k) n l)) ∙ e in
-      omega arith)
+    let f : digit-0 + n ≡ digit-0 = sym (ap (λ ds. getD ds 0 0) (decimal-small (suc k) n l)) ∙ e in
+    omega arith)
     (λ l.
-      let f = ap (λ ds. getD ds 0 0) (decimal-large (suc k) n l) in
-      let g = List·getD-append (decimal-in (suc k) (n / 10)) ((digit-0 + n % 10) ∷ []) 0 0 (at-least k (n / 10)) in
-      let p : 0 < n / 10 = omega arith in
-      first-digit k (n / 10) p (tenth k n b) (sym (f ∙ g) ∙ e))
+    let f = ap (λ ds. getD ds 0 0) (decimal-large (suc k) n l) in
+    let g = List·getD-append (decimal-in (suc k) (n / 10)) ((digit-0 + n % 10) ∷ []) 0 0 (at-least k (n / 10)) in
+    let p : 0 < n / 10 = omega arith in
+    first-digit k (n / 10) p (tenth k n b) (sym (f ∙ g) ∙ e))
 
 -- ---- what is written is read back
 
@@ -137,8 +137,8 @@ read-snoc [] m v d h e =
 read-snoc (b ∷ bs) m v d h e =
     by-bool (is-digit b)
     (λ q.
-      digit-goes-on m b (bs ++ (digit-0 + d) ∷ []) q
-      ∙ read-snoc bs (m * 10 + (b - digit-0)) v d h (sym (digit-goes-on m b bs q) ∙ e))
+    digit-goes-on m b (bs ++ (digit-0 + d) ∷ []) q
+    ∙ read-snoc bs (m * 10 + (b - digit-0)) v d h (sym (digit-goes-on m b bs q) ∙ e))
     (λ q. absurd (bad-is v (sym (digit-stops m b bs q) ∙ e)))
 
 read-small : (k n : ℕ) → n < 10 → natural-from 0 (decimal-in (suc k) n) ≡ Natural.Is n
@@ -155,10 +155,10 @@ read-decimal-in (suc k) n h =
     by-size n
     (λ l. read-small (suc k) n l)
     (λ l.
-      let f : n / 10 * 10 + n % 10 ≡ n = omega arith in
-      ap (natural-from 0) (decimal-large (suc k) n l)
-      ∙ read-snoc (decimal-in (suc k) (n / 10)) 0 (n / 10) (n % 10) (omega arith) (read-decimal-in k (n / 10) (tenth k n h))
-      ∙ ap Natural.Is f)
+    let f : n / 10 * 10 + n % 10 ≡ n = omega arith in
+    ap (natural-from 0) (decimal-large (suc k) n l)
+    ∙ read-snoc (decimal-in (suc k) (n / 10)) 0 (n / 10) (n % 10) (omega arith) (read-decimal-in k (n / 10) (tenth k n h))
+    ∙ ap Natural.Is f)
 
 -- the four tests of `read-natural`
 natural-plain : (l : List ℕ) → (length l ≡ 0 → ⊥) → length l ≤ 10 → (getD l 0 0 ≡ digit-0 → ⊥) → read-natural l ≡ natural-from 0 l
@@ -177,12 +177,12 @@ unfolding decimal
 decimal-read n h =
     by-bool (eqb n 0)
     (λ e.
-      let z = eqb-true n 0 e in
-      ap read-natural (decimal-one n (omega arith)) ∙ ap (λ m. read-natural ((digit-0 + m) ∷ [])) z ∙ natural-zero ∙ ap Natural.Is (sym z))
+    let z = eqb-true n 0 e in
+    ap read-natural (decimal-one n (omega arith)) ∙ ap (λ m. read-natural ((digit-0 + m) ∷ [])) z ∙ natural-zero ∙ ap Natural.Is (sym z))
     (λ e.
-      let z = eqb-false n 0 e in
-      let s = decimal-some n in
-      natural-plain (decimal-in 10 n) (λ q. omega arith) (decimal-length n) (first-digit 9 n (omega arith) h) ∙ read-decimal-in 9 n h)
+    let z = eqb-false n 0 e in
+    let s = decimal-some n in
+    natural-plain (decimal-in 10 n) (λ q. omega arith) (decimal-length n) (first-digit 9 n (omega arith) h) ∙ read-decimal-in 9 n h)
 
 -- ---- nothing else is read
 
@@ -202,17 +202,17 @@ written [] p m k n z s h d e =
 written (b ∷ bs) p m k n z s h d e =
     by-bool (is-digit b)
     (λ q.
-      let l = digit-low-end b q in
-      let u = digit-high-end b q in
-      let w = pow-suc 10 k in
-      let t : 10 ^ suc k ≤ 10 ^ 10 = pow-le-pow-right {n = 10} (omega arith) {i = suc k} {j = 10} (omega arith) in
-      let m′ : ℕ = m * 10 + (b - digit-0) in
-      let x : m′ / 10 ≡ m = omega arith in
-      let y : digit-0 + m′ % 10 ≡ b = omega arith in
-      let f : decimal m′ ≡ p ++ b ∷ [] =
-        decimal-more m′ (omega arith) (omega arith) ∙ (λ j. decimal (x j) ++ y j ∷ []) ∙ ap (λ ds. ds ++ b ∷ []) d in
-      written bs (p ++ b ∷ []) m′ (suc k) n (omega arith) (omega arith) (omega arith) f (sym (digit-goes-on m b bs q) ∙ e)
-      ∙ append-snoc p b bs)
+    let l = digit-low-end b q in
+    let u = digit-high-end b q in
+    let w = pow-suc 10 k in
+    let t : 10 ^ suc k ≤ 10 ^ 10 = pow-le-pow-right {n = 10} (omega arith) {i = suc k} {j = 10} (omega arith) in
+    let m′ : ℕ = m * 10 + (b - digit-0) in
+    let x : m′ / 10 ≡ m = omega arith in
+    let y : digit-0 + m′ % 10 ≡ b = omega arith in
+    let f : decimal m′ ≡ p ++ b ∷ [] =
+    decimal-more m′ (omega arith) (omega arith) ∙ (λ j. decimal (x j) ++ y j ∷ []) ∙ ap (λ ds. ds ++ b ∷ []) d in
+    written bs (p ++ b ∷ []) m′ (suc k) n (omega arith) (omega arith) (omega arith) f (sym (digit-goes-on m b bs q) ∙ e)
+    ∙ append-snoc p b bs)
     (λ q. absurd (bad-is n (sym (digit-stops m b bs q) ∙ e)))
 
 natural-long : (l : List ℕ) → (length l ≡ 0 → ⊥) → 10 < length l → read-natural l ≡ Natural.Bad
@@ -248,13 +248,13 @@ plain-digits : (b : ℕ) (bs : List ℕ) (n : ℕ) → (b ≡ digit-0 → ⊥) �
 plain-digits b bs n f h e =
     by-bool (is-digit b)
     (λ q.
-      let l = digit-low-end b q in
-      let u = digit-high-end b q in
-      let m : ℕ = 0 * 10 + (b - digit-0) in
-      let z : 0 < m = omega (arith, f) in
-      let y : digit-0 + m ≡ b = omega arith in
-      let d : decimal m ≡ b ∷ [] = decimal-one m (omega arith) ∙ ap (λ c. c ∷ []) y in
-      sym (written bs (b ∷ []) m 1 n z (omega arith) (omega arith) d (sym (digit-goes-on 0 b bs q) ∙ e)))
+    let l = digit-low-end b q in
+    let u = digit-high-end b q in
+    let m : ℕ = 0 * 10 + (b - digit-0) in
+    let z : 0 < m = omega (arith, f) in
+    let y : digit-0 + m ≡ b = omega arith in
+    let d : decimal m ≡ b ∷ [] = decimal-one m (omega arith) ∙ ap (λ c. c ∷ []) y in
+    sym (written bs (b ∷ []) m 1 n z (omega arith) (omega arith) d (sym (digit-goes-on 0 b bs q) ∙ e)))
     (λ q. absurd (bad-is n (sym (digit-stops 0 b bs q) ∙ e)))
 
 pub natural-written : (l : List ℕ) (n : ℕ) → read-natural l ≡ Natural.Is n → l ≡ decimal n
@@ -263,17 +263,17 @@ natural-written (b ∷ bs) n e =
     by-bool (ltb 10 (length (b ∷ bs)))
     (λ t. absurd (bad-is n (sym (natural-long (b ∷ bs) z (ltb-true 10 (length (b ∷ bs)) t)) ∙ e)))
     (λ t.
-      let h = ltb-false 10 (length (b ∷ bs)) t in
-      by-bool (eqb b digit-0)
-      (λ f.
-        by-bool (eqb (length bs) 0)
-        (λ o. lone-zero b bs n (eqb-true b digit-0 f) (eqb-true (length bs) 0 o) e)
-        (λ o.
-          let o′ = eqb-false (length bs) 0 o in
-          absurd (bad-is n (sym (natural-padded (b ∷ bs) z h (eqb-true b digit-0 f) (λ q. o′ (omega arith))) ∙ e))))
-      (λ f.
-        let f′ = eqb-false b digit-0 f in
-        plain-digits b bs n f′ (omega arith) (sym (natural-plain (b ∷ bs) z h f′) ∙ e)))
+    let h = ltb-false 10 (length (b ∷ bs)) t in
+    by-bool (eqb b digit-0)
+    (λ f.
+    by-bool (eqb (length bs) 0)
+    (λ o. lone-zero b bs n (eqb-true b digit-0 f) (eqb-true (length bs) 0 o) e)
+    (λ o.
+    let o′ = eqb-false (length bs) 0 o in
+    absurd (bad-is n (sym (natural-padded (b ∷ bs) z h (eqb-true b digit-0 f) (λ q. o′ (omega arith))) ∙ e))))
+    (λ f.
+    let f′ = eqb-false b digit-0 f in
+    plain-digits b bs n f′ (omega arith) (sym (natural-plain (b ∷ bs) z h f′) ∙ e)))
   where
     z : length (b ∷ bs) ≡ 0 → ⊥
     z q = omega arith
@@ -286,10 +286,10 @@ digits-one-word [] m n e = refl
 digits-one-word (b ∷ bs) m n e =
     by-bool (is-digit b)
     (λ q.
-      let l = digit-low-end b q in
-      let s : b ≡ 32 → ⊥ = λ x. omega arith in
-      pick-no (eqb b 32) 0 (suc (word-length bs)) (ne-eqb b 32 s)
-      ∙ ap suc (digits-one-word bs (m * 10 + (b - digit-0)) n (sym (digit-goes-on m b bs q) ∙ e)))
+    let l = digit-low-end b q in
+    let s : b ≡ 32 → ⊥ = λ x. omega arith in
+    pick-no (eqb b 32) 0 (suc (word-length bs)) (ne-eqb b 32 s)
+    ∙ ap suc (digits-one-word bs (m * 10 + (b - digit-0)) n (sym (digit-goes-on m b bs q) ∙ e)))
     (λ q. absurd (bad-is n (sym (digit-stops m b bs q) ∙ e)))
 
 pub decimal-one-word : (n : ℕ) → n < 10 ^ 10 → word-length (decimal n) ≡ length (decimal n)

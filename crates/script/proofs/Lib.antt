@@ -9,3 +9,5 @@ pub mod Words
 pub mod Arguments
 pub mod CallTexts
 pub mod LineTexts
+pub mod Writes
+pub mod Examples

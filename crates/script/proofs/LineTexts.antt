@@ -74,10 +74,10 @@ slot-found (Natural.Is n) l slot c e =
     by-bool (ltb greatest-slot n)
     (λ t. absurd (parsed-bad slot c (sym (pick-yes (ltb greatest-slot n) Parsed.Bad (asked-by n (read-call l)) t) ∙ e)))
     (λ t.
-      let h = ltb-false greatest-slot n t in
-      let a = asked n (read-call l) slot c (sym (pick-no (ltb greatest-slot n) Parsed.Bad (asked-by n (read-call l)) t) ∙ e) in
-      let s = a .0 in
-      record { read = ap Natural.Is s; fits = omega arith; asks = a .1 })
+    let h = ltb-false greatest-slot n t in
+    let a = asked n (read-call l) slot c (sym (pick-no (ltb greatest-slot n) Parsed.Bad (asked-by n (read-call l)) t) ∙ e) in
+    let s = a .0 in
+    record { read = ap Natural.Is s; fits = omega arith; asks = a .1 })
 
 line-found : (l : List ℕ) (slot : ProcSlot) (c : Call) → word-length l < length l → Found (read-natural (first-word l)) (later-words l) slot c → (l ≡ line-of (slot .0) c) × Fits-a-line (slot .0) c
 unfolding line-of
@@ -91,9 +91,9 @@ only-texts-are-read l slot c e =
     by-bool (ltb longest-line (length l))
     (λ t. absurd (parsed-bad slot c (sym (too-long l (ltb-true longest-line (length l) t)) ∙ e)))
     (λ t.
-      let s = ltb-false longest-line (length l) t in
-      by-bool (leb (length l) (word-length l))
-      (λ u. absurd (parsed-bad slot c (sym (no-call l s (leb-true (length l) (word-length l) u)) ∙ e)))
-      (λ u.
-        let h = leb-false (length l) (word-length l) u in
-        line-found l slot c h (slot-found (read-natural (first-word l)) (later-words l) slot c (sym (slot-and-call l s h) ∙ e))))
+    let s = ltb-false longest-line (length l) t in
+    by-bool (leb (length l) (word-length l))
+    (λ u. absurd (parsed-bad slot c (sym (no-call l s (leb-true (length l) (word-length l) u)) ∙ e)))
+    (λ u.
+    let h = leb-false (length l) (word-length l) u in
+    line-found l slot c h (slot-found (read-natural (first-word l)) (later-words l) slot c (sym (slot-and-call l s h) ∙ e))))

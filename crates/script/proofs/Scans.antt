@@ -81,9 +81,9 @@ same-true (x ∷ xs) [] e = absurd (false≢true e)
 same-true (x ∷ xs) (y ∷ ys) e =
     by-bool (eqb x y)
     (λ q.
-      let h = eqb-true x y q in
-      let t = same-true xs ys (sym (same-goes-on x y xs ys h) ∙ e) in
-      cc)
+    let h = eqb-true x y q in
+    let t = same-true xs ys (sym (same-goes-on x y xs ys h) ∙ e) in
+    cc)
     (λ q. absurd (false≢true (sym (pick-no (eqb x y) (same xs ys) false q) ∙ e)))
 
 pub same-refl : (a : List ℕ) → same a a ≡ true

@@ -26,13 +26,13 @@ word-before [] r e = word-ends space r refl
 word-before (b ∷ bs) r e =
     by-bool (eqb b space)
     (λ q.
-      let z = word-ends b bs (eqb-true b space q) in
-      absurd (omega arith))
+    let z = word-ends b bs (eqb-true b space q) in
+    absurd (omega arith))
     (λ q.
-      let f = eqb-false b space q in
-      let u = word-goes-on b bs f in
-      let h : Unbroken bs = omega arith in
-      word-goes-on b (bs ++ space ∷ r) f ∙ ap suc (word-before bs r h))
+    let f = eqb-false b space q in
+    let u = word-goes-on b bs f in
+    let h : Unbroken bs = omega arith in
+    word-goes-on b (bs ++ space ∷ r) f ∙ ap suc (word-before bs r h))
 
 pub first-of : (w r : List ℕ) → Unbroken w → first-word (w ++ space ∷ r) ≡ w
 first-of w r e = ap (λ n. take n (w ++ space ∷ r)) (word-before w r e) ∙ take-append-seam w (space ∷ r)
@@ -71,11 +71,11 @@ word-stops [] h = absurd (omega (arith, word-none))
 word-stops (b ∷ bs) h =
     by-bool (eqb b space)
     (λ q.
-      let s = eqb-true b space q in
-      ap (λ n. getD (b ∷ bs) n 0) (word-ends b bs s) ∙ s)
+    let s = eqb-true b space q in
+    ap (λ n. getD (b ∷ bs) n 0) (word-ends b bs s) ∙ s)
     (λ q.
-      let u = word-goes-on b bs (eqb-false b space q) in
-      ap (λ n. getD (b ∷ bs) n 0) u ∙ word-stops bs (omega arith))
+    let u = word-goes-on b bs (eqb-false b space q) in
+    ap (λ n. getD (b ∷ bs) n 0) u ∙ word-stops bs (omega arith))
 
 pub joined : (l : List ℕ) → word-length l < length l → l ≡ first-word l ++ space ∷ later-words l
 joined l h = split-at l (word-length l) 0 h ∙ ap (λ b. first-word l ++ b ∷ later-words l) (word-stops l h)

@@ -3,3 +3,4 @@ pub mod Texts
 pub mod Lines
 pub mod Reading
 pub mod Claims
+pub mod Outputs

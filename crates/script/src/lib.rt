@@ -1,10 +1,16 @@
 // The script: a line of text to a call, and an answer to a line of text.
+use table::Answer;
 use table::Call;
+use table::End;
 use table::ProcSlot;
+use table::Refusal;
 ghost use mathlib.Core.Path.{_≡_};
 ghost use Prim.Native.Nat.{_+_, _*_, _<_, _≤_};
-ghost use lib.IntN.{pos, negℤ};
+ghost use mathlib.Core.List.{List, [], _∷_};
 ghost use lib.ListN.{length};
+ghost use Rattle.table.specs.Answers.{refusal-number};
+ghost use Rattle.script.specs.Outputs.{end-text, answer-line, bad-line, Written, Appended};
+ghost use Rattle.script.specs.Texts.{minus-sign, decimal, number as number-text};
 ghost use Rattle.script.specs.Reading.{word-length, same as same-text, natural-from, read-natural, from-zero as from-zero-to, below-zero as below-zero-to, read-number, own-call, plain-call, with-number, call-with, kill-call, handle-call, call-with-two, read-call, asked-by, after-slot, read-line};
 
 // The value of decimal digits.
@@ -296,4 +302,101 @@ pub fn parse(line: &[u8]) -> Parsed
         return Parsed::Bad;
     }
     after_slot(read_natural(&line[0..a]), &line[a + 1..])
+}
+
+// ---- what is written
+
+// A short text by value: the first len bytes.
+pub struct Text {
+    pub bytes: [u8; 32],
+    pub len: usize,
+}
+
+fn empty() -> Text
+    ensures { λ r. ⌜ r .len ≡ 0 ⌝ }
+{
+    Text {
+        bytes: [0; 32],
+        len: 0,
+    }
+}
+
+fn push(text: Text, b: u8) -> Text
+    requires { ⌜ text .len < 32 ⌝ }
+    ensures { λ r. ⌜ Appended text (b ∷ []) r ⌝ }
+{
+    let mut t = text;
+    let at = t.len;
+    t.bytes[at] = b;
+    t.len = at + 1;
+    t
+}
+
+fn push_word(text: Text, word: &[u8]) -> Text
+    requires { ⌜ text .len + length (now word) ≤ 32 ⌝ }
+    ensures { λ r. ⌜ Appended text (now (word .entry)) r ⌝ }
+{
+    let mut t = text;
+    let mut i: usize = 0;
+    while i < word.len() {
+        t = push(t, word[i]);
+        i += 1;
+    }
+    t
+}
+
+fn push_decimal(text: Text, n: u32) -> Text
+    requires { ⌜ text .len + length (decimal n) ≤ 32 ⌝ }
+    ensures { λ r. ⌜ Appended text (decimal n) r ⌝ }
+{
+    if n < 10 {
+        return push(text, b'0' + n as u8);
+    }
+    push(push_decimal(text, n / 10), b'0' + (n % 10) as u8)
+}
+
+fn push_end(text: Text, how: End) -> Text
+    requires { ⌜ text .len ≤ 10 ⌝ }
+    ensures { λ r. ⌜ Appended text (end-text how) r ⌝ }
+{
+    match how {
+        End::Exited(s) => push_decimal(push_word(text, b" gave "), s as u32),
+        End::Signaled(s) => push_decimal(push_word(text, b" signal "), s as u32),
+    }
+}
+
+// How far below 0 the number of a refusal is.
+fn refusal_size(e: Refusal) -> u32
+    ensures { λ r. ⌜ number-text (refusal-number e) ≡ minus-sign ∷ decimal r ⌝ }
+{
+    match e {
+        Refusal::Unsound => 1000,
+        Refusal::NotRunning => 1001,
+        Refusal::Einval => 22,
+        Refusal::Enosys => 38,
+        Refusal::Esrch => 3,
+        Refusal::Ebusy => 16,
+        Refusal::Echild => 10,
+        Refusal::Enospc => 28,
+        Refusal::Enomem => 12,
+        Refusal::Eagain => 11,
+    }
+}
+
+// The output line of an answer.
+pub fn answer_text(answer: Answer) -> Text
+    ensures { λ r. ⌜ Written r (answer-line answer) ⌝ }
+{
+    match answer {
+        Answer::Number(n) => push(push_decimal(empty(), n as u32), b'\n'),
+        Answer::Reaped(pid, how) => push(push_end(push_decimal(empty(), pid.0 as u32), how), b'\n'),
+        Answer::Refused(e) => push(push_decimal(push(empty(), b'-'), refusal_size(e)), b'\n'),
+    }
+}
+
+// The output line of any line that is no call.
+pub fn bad_text() -> Text
+    ensures { λ r. ⌜ Written r bad-line ⌝ }
+{
+    push(push(empty(), b'?'), b'\n')
 }

@@ -25,7 +25,7 @@ returns-2 : tie.Need-returns-2 Inv-loop μ-loop
 returns-2 c = search value-loop
 
 mul-value : tie.Need-mul-value Inv-loop μ-loop
-mul-value c = 
+mul-value c =
     let k = value-small _ _ _ (c .before .before .before .before .loop .inv) (c .before .before .before .loop-test .taken) (c .before .before .before .before .before .pre) in
     omega arith
 
@@ -33,7 +33,7 @@ cast-value : tie.Need-cast-value Inv-loop μ-loop
 cast-value c = omega arith
 
 add-value : tie.Need-add-value Inv-loop μ-loop
-add-value c = 
+add-value c =
     let k = value-small _ _ _ (c .before .before .before .before .loop .inv) (c .before .before .before .loop-test .taken) (c .before .before .before .before .before .pre) in
     omega arith
 
