@@ -10,6 +10,7 @@ use lib.Seq.{append-snoc}
 use native.Mathlib.Nat.{pow-suc, pow-le-pow-right}
 use native.Mathlib.Omega.{arith}
 use Rattle.script.proofs.Scans.{digit-is, digit-goes-on, digit-stops, digits-none}
+use Rattle.script.proofs.Steps.{natural-long, natural-padded, natural-plain}
 use Rattle.script.specs.Reading.{word-length, is-digit, natural-from, read-natural}
 use Rattle.script.specs.Texts.{minus-sign, digit-0, decimal-in, decimal}
 use Rattle.script.specs.declared.Natural.{Natural}
@@ -160,14 +161,6 @@ read-decimal-in (suc k) n h =
     ∙ read-snoc (decimal-in (suc k) (n / 10)) 0 (n / 10) (n % 10) (omega arith) (read-decimal-in k (n / 10) (tenth k n h))
     ∙ ap Natural.Is f)
 
--- the four tests of `read-natural`
-natural-plain : (l : List ℕ) → (length l ≡ 0 → ⊥) → length l ≤ 10 → (getD l 0 0 ≡ digit-0 → ⊥) → read-natural l ≡ natural-from 0 l
-unfolding read-natural
-natural-plain l z h f =
-    pick-no (eqb (length l) 0) Natural.Bad _ (ne-eqb (length l) 0 z)
-    ∙ pick-no (ltb 10 (length l)) Natural.Bad _ (le-ltb 10 (length l) h)
-    ∙ pick-no (eqb (getD l 0 0) digit-0) _ (natural-from 0 l) (ne-eqb (getD l 0 0) digit-0 f)
-
 natural-zero : read-natural (digit-0 ∷ []) ≡ Natural.Is 0
 unfolding read-natural
 natural-zero = refl
@@ -214,19 +207,6 @@ written (b ∷ bs) p m k n z s h d e =
     written bs (p ++ b ∷ []) m′ (suc k) n (omega arith) (omega arith) (omega arith) f (sym (digit-goes-on m b bs q) ∙ e)
     ∙ append-snoc p b bs)
     (λ q. absurd (bad-is n (sym (digit-stops m b bs q) ∙ e)))
-
-natural-long : (l : List ℕ) → (length l ≡ 0 → ⊥) → 10 < length l → read-natural l ≡ Natural.Bad
-unfolding read-natural
-natural-long l z h =
-    pick-no (eqb (length l) 0) Natural.Bad _ (ne-eqb (length l) 0 z) ∙ pick-yes (ltb 10 (length l)) Natural.Bad _ (lt-ltb 10 (length l) h)
-
-natural-padded : (l : List ℕ) → (length l ≡ 0 → ⊥) → length l ≤ 10 → getD l 0 0 ≡ digit-0 → (length l ≡ 1 → ⊥) → read-natural l ≡ Natural.Bad
-unfolding read-natural
-natural-padded l z h f o =
-    pick-no (eqb (length l) 0) Natural.Bad _ (ne-eqb (length l) 0 z)
-    ∙ pick-no (ltb 10 (length l)) Natural.Bad _ (le-ltb 10 (length l) h)
-    ∙ pick-yes (eqb (getD l 0 0) digit-0) _ (natural-from 0 l) (eq-eqb (getD l 0 0) digit-0 f)
-    ∙ pick-no (eqb (length l) 1) (Natural.Is 0) Natural.Bad (ne-eqb (length l) 1 o)
 
 natural-empty : read-natural [] ≡ Natural.Bad
 unfolding read-natural

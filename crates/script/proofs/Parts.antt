@@ -9,10 +9,10 @@ use lib.ListN.{length, getD, take, drop, length-drop}
 use lib.Seq.{take-all}
 use native.Mathlib.Numerals.{add-one}
 use native.Mathlib.Omega.{arith}
-use Rattle.script.proofs.Steps.{empty-number, signed-number, unsigned-number, of-one-word, of-two-words, of-more-words, too-long, no-call, slot-and-call}
+use Rattle.script.proofs.Steps.{natural-none, natural-long, natural-lone, natural-padded, natural-plain, empty-number, signed-number, unsigned-number, of-one-word, of-two-words, of-more-words, too-long, no-call, slot-and-call}
 use Rattle.script.specs.Lines.{greatest-slot, longest-line}
-use Rattle.script.specs.Reading.{word-length, same, first-word, later-words, one-word, read-natural, from-zero, below-zero, read-number, plain-call, with-number, call-with, kill-call, handle-call, call-with-two, read-call, asked-by, after-slot, read-line}
-use Rattle.script.specs.Texts.{bytes, minus-sign}
+use Rattle.script.specs.Reading.{word-length, same, first-word, later-words, one-word, natural-from, read-natural, from-zero, below-zero, read-number, plain-call, with-number, call-with, kill-call, handle-call, call-with-two, read-call, asked-by, after-slot, read-line}
+use Rattle.script.specs.Texts.{minus-sign, digit-0}
 use Rattle.script.specs.declared.Natural.{Natural}
 use Rattle.script.specs.declared.Number.{Number}
 use Rattle.script.specs.declared.Parsed.{Parsed}
@@ -39,6 +39,25 @@ rest-is l a p = part-from l (a + 1) ∙ ap (λ n. drop n l) (add-one a ∙ ap su
 
 word-is : (l : List ℕ) (a : ℕ) → a ≡ word-length l → take (a - 0) (drop 0 l) ≡ first-word l
 word-is l a p = part-to l a ∙ ap (λ n. take n l) p
+
+-- ---- the value of digits
+
+pub value-none : (l : List ℕ) → length l ≡ 0 → Natural.Bad ≡ read-natural l
+value-none l z = sym (natural-none l z)
+
+pub value-long : (l : List ℕ) → (length l ≡ 0 → ⊥) → 10 < length l → Natural.Bad ≡ read-natural l
+value-long l z h = sym (natural-long l z h)
+
+pub value-lone : (l : List ℕ) → (length l ≡ 0 → ⊥) → length l ≤ 10 → getD l 0 0 ≡ digit-0 → length l ≡ 1 → Natural.Is 0 ≡ read-natural l
+value-lone l z h f o = sym (natural-lone l z h f o)
+
+pub value-padded : (l : List ℕ) → (length l ≡ 0 → ⊥) → length l ≤ 10 → getD l 0 0 ≡ digit-0 → (length l ≡ 1 → ⊥) → Natural.Bad ≡ read-natural l
+value-padded l z h f o = sym (natural-padded l z h f o)
+
+pub value-plain : (l : List ℕ) (r : Natural) → (length l ≡ 0 → ⊥) → length l ≤ 10 → (getD l 0 0 ≡ digit-0 → ⊥) → r ≡ natural-from 0 l → r ≡ read-natural l
+value-plain l r z h f e = e ∙ sym (natural-plain l z h f)
+
+pub ruleset read-natural-laws = (value-none, value-long, value-lone, value-padded, value-plain)
 
 -- ---- numbers
 

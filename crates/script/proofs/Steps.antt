@@ -6,12 +6,47 @@ use borrow.Author.Tests.{eq-eqb, ne-eqb, lt-ltb, le-ltb, le-leb, lt-leb}
 use lib.Dec.{eqb, ltb}
 use lib.ListN.{length, getD, drop}
 use Rattle.script.specs.Lines.{longest-line}
-use Rattle.script.specs.Reading.{word-length, first-word, later-words, one-word, read-natural, from-zero, below-zero, read-number, plain-call, call-with, call-with-two, read-call, after-slot, read-line}
-use Rattle.script.specs.Texts.{minus-sign}
+use Rattle.script.specs.Reading.{word-length, first-word, later-words, one-word, natural-from, read-natural, from-zero, below-zero, read-number, plain-call, call-with, call-with-two, read-call, after-slot, read-line}
+use Rattle.script.specs.Texts.{minus-sign, digit-0}
+use Rattle.script.specs.declared.Natural.{Natural}
 use Rattle.script.specs.declared.Number.{Number}
 use Rattle.script.specs.declared.Parsed.{Parsed}
 use Rattle.script.specs.declared.Request.{Request}
 use Rattle.table.proofs.Chains.{pick-yes, pick-no}
+
+-- ---- the value of digits
+
+pub natural-none : (l : List ℕ) → length l ≡ 0 → read-natural l ≡ Natural.Bad
+unfolding read-natural
+natural-none l z = pick-yes (eqb (length l) 0) Natural.Bad _ (eq-eqb (length l) 0 z)
+
+pub natural-long : (l : List ℕ) → (length l ≡ 0 → ⊥) → 10 < length l → read-natural l ≡ Natural.Bad
+unfolding read-natural
+natural-long l z h =
+    pick-no (eqb (length l) 0) Natural.Bad _ (ne-eqb (length l) 0 z) ∙ pick-yes (ltb 10 (length l)) Natural.Bad _ (lt-ltb 10 (length l) h)
+
+pub natural-padded : (l : List ℕ) → (length l ≡ 0 → ⊥) → length l ≤ 10 → getD l 0 0 ≡ digit-0 → (length l ≡ 1 → ⊥) → read-natural l ≡ Natural.Bad
+unfolding read-natural
+natural-padded l z h f o =
+    pick-no (eqb (length l) 0) Natural.Bad _ (ne-eqb (length l) 0 z)
+    ∙ pick-no (ltb 10 (length l)) Natural.Bad _ (le-ltb 10 (length l) h)
+    ∙ pick-yes (eqb (getD l 0 0) digit-0) _ (natural-from 0 l) (eq-eqb (getD l 0 0) digit-0 f)
+    ∙ pick-no (eqb (length l) 1) (Natural.Is 0) Natural.Bad (ne-eqb (length l) 1 o)
+
+pub natural-lone : (l : List ℕ) → (length l ≡ 0 → ⊥) → length l ≤ 10 → getD l 0 0 ≡ digit-0 → length l ≡ 1 → read-natural l ≡ Natural.Is 0
+unfolding read-natural
+natural-lone l z h f o =
+    pick-no (eqb (length l) 0) Natural.Bad _ (ne-eqb (length l) 0 z)
+    ∙ pick-no (ltb 10 (length l)) Natural.Bad _ (le-ltb 10 (length l) h)
+    ∙ pick-yes (eqb (getD l 0 0) digit-0) _ (natural-from 0 l) (eq-eqb (getD l 0 0) digit-0 f)
+    ∙ pick-yes (eqb (length l) 1) (Natural.Is 0) Natural.Bad (eq-eqb (length l) 1 o)
+
+pub natural-plain : (l : List ℕ) → (length l ≡ 0 → ⊥) → length l ≤ 10 → (getD l 0 0 ≡ digit-0 → ⊥) → read-natural l ≡ natural-from 0 l
+unfolding read-natural
+natural-plain l z h f =
+    pick-no (eqb (length l) 0) Natural.Bad _ (ne-eqb (length l) 0 z)
+    ∙ pick-no (ltb 10 (length l)) Natural.Bad _ (le-ltb 10 (length l) h)
+    ∙ pick-no (eqb (getD l 0 0) digit-0) _ (natural-from 0 l) (ne-eqb (getD l 0 0) digit-0 f)
 
 -- ---- a number
 

@@ -1,36 +1,30 @@
 -- `read_natural` reads one to ten digits with no needless zero.
-use Rattle.script.specs.Reading.{read-natural}
-use Rattle.table.proofs.Chains.{chains}
+use Rattle.script.proofs.Parts.{read-natural-laws}
 use borrow.Author.Needs.{needs}
 use Rattle.script.proofs.read_natural.Statement.{statement}
 use Rattle.script.proofs.read_natural.Tie as tie
 use Rattle.script.proofs.digits_value.Reads as digits-value-reads
 
 returns : tie.Need-returns
-unfolding read-natural
-returns c = search chains depth 12
+returns c = search read-natural-laws
 
 returns-2 : tie.Need-returns-2
-unfolding read-natural
-returns-2 c = search chains depth 12
+returns-2 c = search read-natural-laws
 
 shared-slice-read-if3 : tie.Need-shared-slice-read-if3
 shared-slice-read-if3 c = search needs
 
 returns-3 : tie.Need-returns-3
-unfolding read-natural
-returns-3 c = search chains depth 12
+returns-3 c = search read-natural-laws
 
 returns-4 : tie.Need-returns-4
-unfolding read-natural
-returns-4 c = search chains depth 12
+returns-4 c = search read-natural-laws
 
 digits-value-requires : tie.Need-digits-value-requires
 digits-value-requires c κs = search needs
 
 returns-5 : tie.Need-returns-5
-unfolding read-natural
-returns-5 c = search chains depth 12
+returns-5 c = search read-natural-laws
 
 pub read-natural-spec : {M : Type 1} → statement M
 read-natural-spec =
