@@ -10,4 +10,5 @@ pub mod Arguments
 pub mod CallTexts
 pub mod LineTexts
 pub mod Writes
+pub mod Open
 pub mod Examples
