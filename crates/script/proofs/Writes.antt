@@ -3,14 +3,14 @@ use Prim.Native.Nat.{ℕ, zero, suc, _<_, _≤_, _+_, _-_, _/_, _%_, _^_}
 use mathlib.Core.List.{List, [], _∷_, _++_, map, append-nil, append-assoc}
 use mathlib.Core.Option.{none, some}
 use mathlib.Core.Path.{_≡_, refl, sym, ap, ap₂, subst, _∙_}
-use lib.ListN.{length, getD, take, set, length-append, length-map}
-use lib.Seq.{take-suc, take-all, take-suc-set, length-take-le}
+use lib.ListN.{length, getD, take, drop, set, length-append, length-map, length-set}
+use lib.Seq.{paste, paste-zero, paste-suc, take-suc, take-all, take-suc-set, length-take-le}
 use mir.Syntax.{w32}
 use mir.Val.{Fits}
 use native.Mathlib.Numerals.{add-one}
 use native.Mathlib.Omega.{arith}
 use Rattle.script.proofs.Decimals.{decimal-one, decimal-more, decimal-some, decimal-length}
-use Rattle.script.specs.Outputs.{text, end-text, removed-text, answer-line, bad-line, Written, Appended}
+use Rattle.script.specs.Outputs.{text, end-text, removed-text, answer-line, bad-line, Written, Appended, Copied}
 use Rattle.script.specs.Texts.{bytes, line-feed, minus-sign, digit-0, decimal, number}
 use Rattle.script.specs.declared.Text.{Text}
 use Rattle.table.specs.Answers.{refusal-number, number-of, end-of}
@@ -219,3 +219,39 @@ pub ruleset answer-pushes = (empty-room, sign-room, end-room, number-feed-room, 
 pub bad-text-line : (t u v : Text) → t .len ≡ 0 → Appended t (bytes "?") u → Appended u (line-feed ∷ []) v → Written v bad-line
 unfolding bad-line
 bad-text-line t u v z a b = whole t v (bytes "?" ++ line-feed ∷ []) z (one-more t u v (bytes "?") (line-feed ∷ []) a b) (omega arith)
+
+-- ---- a copy
+
+pub record Copying (s d₀ d : List ℕ) (at n i o : ℕ) : Type 0 where
+  pub within : i ≤ n
+  pub place : o ≡ at + i
+  pub same-length : length d ≡ length d₀
+  pub holds : d ≡ paste d₀ at s i
+
+pub copy-starts : (s d : List ℕ) (at n : ℕ) → Copying s d d at n 0 at
+copy-starts s d at n = record { within = omega arith; place = omega arith; same-length = refl; holds = paste-zero d at s }
+
+pub copy-next : {Y : Type 0} (g : ℕ → Y) (s d₀ d : List ℕ) (at n i o : ℕ) → length (map g s) ≡ 32 → (n ≤ 32) × (at + n ≤ length d₀) → Copying s d₀ d at n i o → i < n → Copying s d₀ (set d o (getD s i 0)) at n (i + 1) (o + 1)
+copy-next g s d₀ d at n i o e r k h =
+    let m = length-map s g in
+    let a = r .0 in
+    let b = r .1 in
+    let p = k .place in
+    record {
+      within = omega arith;
+      place = omega arith;
+      same-length = length-set d o (getD s i 0) ∙ k .same-length;
+      holds = ap₂ (λ x y. set x y (getD s i 0)) (k .holds) p ∙ paste-suc d₀ at s i 0 (omega arith) (omega arith) ∙ ap (paste d₀ at s) (sym (add-one i));
+    }
+
+pub copy-done : (t : Text) (d₀ d : List ℕ) (at i o : ℕ) → Copying (t .bytes) d₀ d at (t .len) i o → t .len ≤ i → Copied t at d₀ d o
+copy-done t d₀ d at i o k h =
+    let w = k .within in
+    let e : i ≡ t .len = omega arith in
+    let p : o ≡ at + t .len = k .place ∙ ap (λ j. at + j) e in
+    record {
+      place = p;
+      holds = k .holds ∙ ap (paste d₀ at (t .bytes)) e ∙ ap (λ j. take at d₀ ++ text t ++ drop j d₀) (sym p);
+    }
+
+pub ruleset copy-loop = (copy-starts, copy-next, copy-done)

@@ -3,7 +3,7 @@ use Prim.Native.Nat.{ℕ, _+_, _≤_}
 use mathlib.Core.List.{List, [], _∷_, _++_}
 use mathlib.Core.Option.{Option, none, some}
 use mathlib.Core.Path.{_≡_}
-use lib.ListN.{length, take}
+use lib.ListN.{length, take, drop}
 use Rattle.script.specs.Texts.{bytes, line-feed, decimal, number}
 use Rattle.script.specs.declared.Text.{Text}
 use Rattle.table.specs.Answers.{number-of, end-of}
@@ -43,3 +43,8 @@ pub record Written (t : Text) (l : List ℕ) : Type 0 where
 pub record Appended (t : Text) (l : List ℕ) (u : Text) : Type 0 where
   pub size : u .len ≡ t .len + length l
   pub holds : text u ≡ text t ++ l
+
+-- What a lent buffer holds after t was copied into it from place `at` on, and the place after it: t there, and all else as before.
+pub record Copied (t : Text) (at : ℕ) (before after : List ℕ) (next : ℕ) : Type 0 where
+  pub place : next ≡ at + t .len
+  pub holds : after ≡ take at before ++ text t ++ drop next before

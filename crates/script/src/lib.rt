@@ -9,7 +9,7 @@ ghost use Prim.Native.Nat.{_+_, _*_, _<_, _≤_};
 ghost use mathlib.Core.List.{List, [], _∷_};
 ghost use lib.ListN.{length};
 ghost use Rattle.table.specs.Answers.{refusal-number};
-ghost use Rattle.script.specs.Outputs.{end-text, answer-line, bad-line, Written, Appended};
+ghost use Rattle.script.specs.Outputs.{end-text, answer-line, bad-line, Written, Appended, Copied};
 ghost use Rattle.script.specs.Texts.{minus-sign, decimal, number as number-text};
 ghost use Rattle.script.specs.Reading.{word-length, same as same-text, natural-from, read-natural, from-zero as from-zero-to, below-zero as below-zero-to, read-number, own-call, plain-call, with-number, call-with, kill-call, handle-call, call-with-two, read-call, asked-by, after-slot, read-line};
 
@@ -399,4 +399,21 @@ pub fn bad_text() -> Text
     ensures { λ r. ⌜ Written r bad-line ⌝ }
 {
     push(push(empty(), b'?'), b'\n')
+}
+
+// Copies a text into a lent buffer from a place on, and gives the place after it.
+pub fn put(text: Text, out: &mut [u8], at: usize) -> usize
+    requires { ⌜ (text .len ≤ 32) × (at + text .len ≤ length (now out)) ⌝ }
+    ensures { λ r. ⌜ Copied text at (now (out .entry)) (now (out .exit)) r ⌝ }
+{
+    let bytes = text.bytes;
+    let n = text.len;
+    let mut i: usize = 0;
+    let mut o = at;
+    while i < n {
+        out[o] = bytes[i];
+        o += 1;
+        i += 1;
+    }
+    o
 }
