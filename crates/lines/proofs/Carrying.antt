@@ -1,10 +1,10 @@
 -- The line that is carried, byte by byte and through a chunk.
-use Prim.Native.Nat.{ℕ, zero, suc, _<_, _≤_, _+_, min}
-use mathlib.Core.Bool.{Bool, true, false, true≢false, false≢true}
+use Prim.Native.Nat.{ℕ, _<_, _≤_, _+_}
+use mathlib.Core.Bool.{true, false, true≢false, false≢true}
 use mathlib.Core.List.{List, [], _∷_, _++_, map}
 use mathlib.Core.Path.{_≡_, refl, sym, ap, subst, _∙_}
 use borrow.Author.Tests.{eq-eqb, ne-eqb, ltb-true, ltb-false}
-use lib.Dec.{eqb, ltb}
+use lib.Dec.{ltb}
 use lib.ListN.{length, getD, take, drop, set, length-append, length-map, drop-of-length-le}
 use lib.Seq.{take-all, take-suc-set, take-append-le, length-take-le, drop-cons}
 use native.Mathlib.Numerals.{add-one}
@@ -13,7 +13,6 @@ use Rattle.lines.proofs.Cuts.{ended-here, ended-later, ended-none, left
 use Rattle.lines.specs.Carried.{carried, Carries, Line-ended, Still-open, Took}
 use Rattle.lines.specs.Splitting.{ended, left}
 use Rattle.lines.specs.declared.Line.{Line}
-use Rattle.lines.specs.declared.Taken.{Taken}
 use Rattle.script.proofs.Steps.{too-long}
 use Rattle.script.specs.Lines.{longest-line}
 use Rattle.script.specs.Reading.{read-line}

@@ -1,9 +1,8 @@
 -- However an input is cut into chunks, the lines are the same.
 use Prim.Native.Nat.{ℕ}
-use mathlib.Core.Bool.{Bool, true, false}
+use mathlib.Core.Bool.{true, false}
 use mathlib.Core.List.{List, [], _∷_, _++_, append-assoc}
 use mathlib.Core.Path.{_≡_, refl, sym, ap, ap₂, _∙_}
-use borrow.Author.Tests.{eq-eqb, ne-eqb}
 use lib.Dec.{eqb}
 use Rattle.lines.specs.Splitting.{ended, left, last-line, lines, whole, lines-by-chunks, Cuts-make-no-difference}
 use Rattle.script.specs.Texts.{line-feed}

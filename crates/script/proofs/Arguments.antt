@@ -1,12 +1,11 @@
 -- Signed arguments: what is written is read back, and nothing else is read.
 use Prim.Native.Nat.{ℕ, zero, suc, _<_, _≤_, _^_}
-use mathlib.Core.Bool.{Bool, true, false}
 use mathlib.Core.List.{List, [], _∷_}
 use mathlib.Core.Path.{_≡_, refl, sym, ap, subst, _∙_}
 use borrow.Author.Tests.{eqb-true, eqb-false, ltb-true, ltb-false}
 use lib.Dec.{eqb, ltb}
-use lib.IntN.{ℤ, pos, negsuc, negℤ}
-use lib.ListN.{length, getD}
+use lib.IntN.{ℤ, pos, negsuc}
+use lib.ListN.{length}
 use native.Mathlib.Omega.{arith}
 use Rattle.script.proofs.Decimals.{decimal-read, decimal-length, decimal-some, decimal-unsigned, decimal-one-word, natural-written}
 use Rattle.script.proofs.Numbers.{from-zero-none, from-zero-fits, from-zero-past, below-zero-none, below-zero-zero, below-zero-past, below-zero-fits}
@@ -15,7 +14,7 @@ use Rattle.script.proofs.Steps.{empty-number, signed-number, unsigned-n
 use Rattle.script.proofs.Words.{Unbroken}
 use Rattle.script.specs.Lines.{past-32-bit, Is-32-bit}
 use Rattle.script.specs.Reading.{read-natural, from-zero, below-zero, read-number}
-use Rattle.script.specs.Texts.{minus-sign, space, decimal, number}
+use Rattle.script.specs.Texts.{minus-sign, decimal, number}
 use Rattle.script.specs.declared.Natural.{Natural}
 use Rattle.script.specs.declared.Number.{Number}
 use Rattle.table.proofs.Chains.{by-bool}

@@ -1,7 +1,7 @@
 -- Calls: the text of a call is read as it, and nothing else is read.
-use Prim.Native.Nat.{ℕ, zero, suc, _<_, _≤_}
+use Prim.Native.Nat.{ℕ, _≤_}
 use mathlib.Core.Bool.{Bool, true, false}
-use mathlib.Core.List.{List, [], _∷_, _++_}
+use mathlib.Core.List.{List, _∷_, _++_}
 use mathlib.Core.Path.{_≡_, refl, sym, ap, ap₂, subst, _∙_}
 use borrow.Author.Tests.{leb-true, leb-false}
 use lib.Dec.{leb}
@@ -12,7 +12,7 @@ use Rattle.script.proofs.Arguments.{number-read, number-unbroken, numbe
 use Rattle.script.proofs.Scans.{same-true}
 use Rattle.script.proofs.Steps.{of-one-word, of-two-words, of-more-words}
 use Rattle.script.proofs.Words.{read-one, read-two, joined}
-use Rattle.script.specs.Lines.{switch, call-text, Is-32-bit, Arguments-fit}
+use Rattle.script.specs.Lines.{switch, call-text, Arguments-fit}
 use Rattle.script.specs.Reading.{word-length, first-word, later-words, same, read-number, own-call, plain-call, with-number, call-with, kill-call, handle-call, call-with-two, read-call}
 use Rattle.script.specs.Texts.{bytes, space, number}
 use Rattle.script.specs.declared.Number.{Number}

@@ -1,8 +1,7 @@
 -- The reader finds a slot and a call in their one text, and in no other line: specs/Claims.antt.
-use Prim.Native.Nat.{ℕ, zero, suc, _<_, _≤_, _^_}
-use mathlib.Core.Bool.{Bool, true, false}
-use mathlib.Core.List.{List, [], _∷_, _++_}
-use mathlib.Core.Path.{_≡_, refl, sym, ap, ap₂, subst, _∙_}
+use Prim.Native.Nat.{ℕ, _<_, _≤_}
+use mathlib.Core.List.{List, _∷_, _++_}
+use mathlib.Core.Path.{_≡_, sym, ap, ap₂, _∙_}
 use borrow.Author.Tests.{leb-true, leb-false, ltb-true, ltb-false, le-ltb}
 use lib.Dec.{leb, ltb}
 use lib.ListN.{length, length-append}
@@ -11,7 +10,7 @@ use Rattle.script.proofs.CallTexts.{call-read, call-length, call-writte
 use Rattle.script.proofs.Decimals.{decimal-read, decimal-length, decimal-one-word, natural-written}
 use Rattle.script.proofs.Steps.{too-long, no-call, slot-and-call}
 use Rattle.script.proofs.Words.{first-of, later-of, broken, joined}
-use Rattle.script.specs.Claims.{Decimals-are-read, Only-decimals-are-read, Texts-are-read, Only-texts-are-read}
+use Rattle.script.specs.Claims.{Decimals-are-read, Only-decimals-are-read, Texts-are-read, Only-texts-are-read, Exactly-texts-are-read}
 use Rattle.script.specs.Lines.{call-text, line-of, greatest-slot, longest-line, Fits-a-line}
 use Rattle.script.specs.Reading.{word-length, first-word, later-words, read-natural, read-call, asked-by, after-slot, read-line}
 use Rattle.script.specs.Texts.{space, decimal}
@@ -97,3 +96,6 @@ only-texts-are-read l slot c e =
     (λ u.
     let h = leb-false (length l) (word-length l) u in
     line-found l slot c h (slot-found (read-natural (first-word l)) (later-words l) slot c (sym (slot-and-call l s h) ∙ e))))
+
+pub exactly-texts-are-read : Exactly-texts-are-read
+exactly-texts-are-read l slot c = (only-texts-are-read l slot c, λ h. ap read-line (h .0) ∙ texts-are-read slot c (h .1))

@@ -1,8 +1,7 @@
 -- The returns of the functions that hand a part of a line on. A part is `take (e - a) (drop a l)` in the code.
-use Prim.Native.Nat.{ℕ, zero, suc, _<_, _≤_, _+_, _-_}
-use mathlib.Core.Bool.{Bool, true, false}
+use Prim.Native.Nat.{ℕ, suc, _<_, _≤_, _+_, _-_}
 use mathlib.Core.List.{List}
-use mathlib.Core.Path.{_≡_, refl, sym, ap, ap₂, subst, _∙_}
+use mathlib.Core.Path.{_≡_, sym, ap, ap₂, subst, _∙_}
 use borrow.Author.Tests.{lt-ltb, le-ltb}
 use lib.Dec.{ltb}
 use lib.ListN.{length, getD, take, drop, length-drop}
@@ -11,7 +10,7 @@ use native.Mathlib.Numerals.{add-one}
 use native.Mathlib.Omega.{arith}
 use Rattle.script.proofs.Steps.{natural-none, natural-long, natural-lone, natural-padded, natural-plain, empty-number, signed-number, unsigned-number, of-one-word, of-two-words, of-more-words, too-long, no-call, slot-and-call}
 use Rattle.script.specs.Lines.{greatest-slot, longest-line}
-use Rattle.script.specs.Reading.{word-length, same, first-word, later-words, one-word, natural-from, read-natural, from-zero, below-zero, read-number, plain-call, with-number, call-with, kill-call, handle-call, call-with-two, read-call, asked-by, after-slot, read-line}
+use Rattle.script.specs.Reading.{word-length, first-word, later-words, natural-from, read-natural, from-zero, below-zero, read-number, plain-call, with-number, call-with, kill-call, handle-call, call-with-two, read-call, asked-by, after-slot, read-line}
 use Rattle.script.specs.Texts.{minus-sign, digit-0}
 use Rattle.script.specs.declared.Natural.{Natural}
 use Rattle.script.specs.declared.Number.{Number}

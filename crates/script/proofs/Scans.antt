@@ -1,9 +1,9 @@
 -- The reader's three loops over bytes. Each has a record, its invariant, that says what is still to be read from place i on, and
 -- laws for its first turn, a next turn and each way out. The rulesets close the loops' needs.
-use Prim.Native.Nat.{ℕ, zero, suc, _<_, _≤_, _+_, _-_, _*_, _^_}
-use mathlib.Core.Bool.{Bool, true, false, true≢false, false≢true}
+use Prim.Native.Nat.{ℕ, suc, _<_, _≤_, _+_, _-_, _*_, _^_}
+use mathlib.Core.Bool.{true, false, false≢true}
 use mathlib.Core.List.{List, [], _∷_}
-use mathlib.Core.Path.{_≡_, refl, sym, ap, subst, _∙_}
+use mathlib.Core.Path.{_≡_, refl, sym, ap, _∙_}
 use borrow.Author.Tests.{eq-eqb, ne-eqb, le-leb, lt-leb, eqb-true}
 use lib.Dec.{eqb, leb}
 use lib.ListN.{length, getD, drop, drop-of-length-le}
@@ -14,7 +14,6 @@ use native.Mathlib.Omega.{arith}
 use Rattle.script.specs.Reading.{word-length, same, is-digit, natural-from}
 use Rattle.script.specs.declared.Natural.{Natural}
 use Rattle.table.proofs.Chains.{by-bool, pick-yes, pick-no, and-true, and-false, and-false-later}
-use Rattle.table.specs.Tests.{_and_}
 
 -- ---- the end of a word
 

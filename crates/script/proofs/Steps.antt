@@ -11,7 +11,6 @@ use Rattle.script.specs.Texts.{minus-sign, digit-0}
 use Rattle.script.specs.declared.Natural.{Natural}
 use Rattle.script.specs.declared.Number.{Number}
 use Rattle.script.specs.declared.Parsed.{Parsed}
-use Rattle.script.specs.declared.Request.{Request}
 use Rattle.table.proofs.Chains.{pick-yes, pick-no}
 
 -- ---- the value of digits

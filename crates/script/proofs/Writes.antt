@@ -1,7 +1,6 @@
 -- Writing a text piece by piece: laws for each function that appends, in the form of what is known at its needs.
-use Prim.Native.Nat.{ℕ, zero, suc, _<_, _≤_, _+_, _-_, _/_, _%_, _^_}
+use Prim.Native.Nat.{ℕ, _<_, _≤_, _+_, _/_, _%_, _^_}
 use mathlib.Core.List.{List, [], _∷_, _++_, map, append-nil, append-assoc}
-use mathlib.Core.Option.{none, some}
 use mathlib.Core.Path.{_≡_, refl, sym, ap, ap₂, subst, _∙_}
 use lib.ListN.{length, getD, take, drop, set, length-append, length-map, length-set}
 use lib.Seq.{paste, paste-zero, paste-suc, take-suc, take-all, take-suc-set, length-take-le}

@@ -1,6 +1,7 @@
 -- What is claimed of the reader, over its definition: it finds a slot and a call in their one text, and in no other line.
 use Prim.Native.Nat.{ℕ, _<_}
 use mathlib.Core.List.{List}
+use mathlib.Core.Logic.{_↔_}
 use mathlib.Core.Path.{_≡_}
 use Rattle.script.specs.Lines.{line-of, Fits-a-line}
 use Rattle.script.specs.Reading.{read-natural, read-line}
@@ -25,3 +26,9 @@ Texts-are-read = (slot : ProcSlot) (c : Call) → Fits-a-line (slot .0) c → re
 abbrev pub Only-texts-are-read : Type 0
 Only-texts-are-read =
     (l : List ℕ) (slot : ProcSlot) (c : Call) → read-line l ≡ Parsed.Good slot c → (l ≡ line-of (slot .0) c) × Fits-a-line (slot .0) c
+
+-- Both at once: a line is read as a slot and a call exactly if it is their text.
+abbrev pub Exactly-texts-are-read : Type 0
+Exactly-texts-are-read =
+    (l : List ℕ) (slot : ProcSlot) (c : Call)
+    → (read-line l ≡ Parsed.Good slot c) ↔ ((l ≡ line-of (slot .0) c) × Fits-a-line (slot .0) c)

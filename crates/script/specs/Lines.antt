@@ -1,8 +1,7 @@
 -- The one text of a slot and a call. A line of a script is good exactly if it is such a text.
 use Prim.Native.Nat.{ℕ, _<_, _≤_}
 use mathlib.Core.Bool.{Bool, true, false}
-use mathlib.Core.List.{List, [], _∷_, _++_}
-use lib.Dec.{ltb}
+use mathlib.Core.List.{List, _∷_, _++_}
 use lib.IntN.{ℤ, pos, negsuc}
 use Rattle.script.specs.Texts.{bytes, space, decimal, number}
 use Rattle.table.specs.declared.Call.{Call}

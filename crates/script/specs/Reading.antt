@@ -1,10 +1,10 @@
--- How a line is read, word by word. proofs/Sound.antt and proofs/Complete.antt show that it finds a slot and a call in their one text, and
--- in no other line.
-use Prim.Native.Nat.{ℕ, zero, suc, _+_, _-_, _*_}
+-- How a line is read, word by word. It finds a slot and a call in their one text, and in no other line: specs/Claims.antt says
+-- so, and proofs/LineTexts.antt shows it.
+use Prim.Native.Nat.{ℕ, suc, _+_, _-_, _*_}
 use mathlib.Core.Bool.{Bool, true, false}
 use mathlib.Core.List.{List, [], _∷_}
 use lib.Dec.{eqb, ltb, leb}
-use lib.IntN.{ℤ, pos, negsuc, negℤ}
+use lib.IntN.{pos, negℤ}
 use lib.ListN.{length, getD, take, drop}
 use Rattle.script.specs.Texts.{bytes, space, minus-sign, digit-0}
 use Rattle.script.specs.Lines.{greatest-slot, past-32-bit, longest-line}
@@ -12,8 +12,7 @@ use Rattle.script.specs.declared.Natural.{Natural}
 use Rattle.script.specs.declared.Number.{Number}
 use Rattle.script.specs.declared.Request.{Request}
 use Rattle.script.specs.declared.Parsed.{Parsed}
-use Rattle.table.specs.Tests.{_and_, _or_, if_then_else_}
-use Rattle.table.specs.declared.Call.{Call}
+use Rattle.table.specs.Tests.{_and_, if_then_else_}
 use Rattle.table.specs.declared.Call.the-variants.{Clone, CloneNew, Unshare, Setns, Kill, Exit, Wait, Getpid, Getppid, Handle, Poll}
 
 -- ---- words

@@ -6,7 +6,7 @@ use table::ProcSlot;
 use table::Refusal;
 ghost use mathlib.Core.Path.{_≡_};
 ghost use Prim.Native.Nat.{_+_, _*_, _<_, _≤_};
-ghost use mathlib.Core.List.{List, [], _∷_};
+ghost use mathlib.Core.List.{[], _∷_};
 ghost use lib.ListN.{length};
 ghost use Rattle.table.specs.Answers.{refusal-number};
 ghost use Rattle.script.specs.Outputs.{end-text, answer-line, bad-line, Written, Appended, Copied};

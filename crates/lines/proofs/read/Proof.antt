@@ -3,7 +3,6 @@ use Rattle.lines.proofs.Carrying.{read-laws}
 use borrow.Author.Needs.{needs}
 use Rattle.lines.proofs.read.Statement.{statement}
 use Rattle.lines.proofs.read.Tie as tie
-use Rattle.script.proofs.parse.Reads as parse-reads
 
 array-share-prefix-bytes : tie.Need-array-share-prefix-bytes
 array-share-prefix-bytes c = search read-laws

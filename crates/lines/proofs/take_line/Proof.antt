@@ -6,7 +6,6 @@ use native.Mathlib.Omega.{arith}
 use Rattle.lines.proofs.Carrying.{Taking, take-loop}
 use Rattle.lines.proofs.take_line.Statement.{statement}
 use Rattle.lines.proofs.take_line.Tie as tie
-use Rattle.lines.proofs.add.Reads as add-reads
 
 abbrev Inv-loop : tie.InvT-loop
 Inv-loop chunk from t₀ i₀ t i = Taking chunk t₀ t from i

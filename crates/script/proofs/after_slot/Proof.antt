@@ -3,8 +3,6 @@ use Rattle.script.proofs.Parts.{after-slot-laws}
 use borrow.Author.Needs.{needs}
 use Rattle.script.proofs.after_slot.Statement.{statement}
 use Rattle.script.proofs.after_slot.Tie as tie
-use Rattle.script.proofs.asked_by.Reads as asked-by-reads
-use Rattle.script.proofs.read_call.Reads as read-call-reads
 
 enum-known-slot : tie.Need-enum-known-slot
 enum-known-slot c = search needs

@@ -3,11 +3,6 @@ use Rattle.script.proofs.Writes.{answer-pushes}
 use borrow.Author.Needs.{needs}
 use Rattle.script.proofs.answer_text.Statement.{statement}
 use Rattle.script.proofs.answer_text.Tie as tie
-use Rattle.script.proofs.empty.Reads as empty-reads
-use Rattle.script.proofs.push.Reads as push-reads
-use Rattle.script.proofs.push_decimal.Reads as push-decimal-reads
-use Rattle.script.proofs.push_end.Reads as push-end-reads
-use Rattle.script.proofs.refusal_size.Reads as refusal-size-reads
 
 enum-known-answer : tie.Need-enum-known-answer
 enum-known-answer c = search needs

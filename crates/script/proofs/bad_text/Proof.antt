@@ -3,8 +3,6 @@ use Rattle.script.proofs.Writes.{bad-text-line}
 use borrow.Author.Needs.{needs}
 use Rattle.script.proofs.bad_text.Statement.{statement}
 use Rattle.script.proofs.bad_text.Tie as tie
-use Rattle.script.proofs.empty.Reads as empty-reads
-use Rattle.script.proofs.push.Reads as push-reads
 
 empty-requires : tie.Need-empty-requires
 empty-requires c κs = search needs

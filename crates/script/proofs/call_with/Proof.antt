@@ -5,9 +5,6 @@ use Rattle.table.proofs.Chains.{chains}
 use borrow.Author.Needs.{needs}
 use Rattle.script.proofs.call_with.Statement.{statement}
 use Rattle.script.proofs.call_with.Tie as tie
-use Rattle.script.proofs.read_number.Reads as read-number-reads
-use Rattle.script.proofs.same.Reads as same-reads
-use Rattle.script.proofs.with_number.Reads as with-number-reads
 
 slice-aggregate-same : tie.Need-slice-aggregate-same
 slice-aggregate-same c = search needs

@@ -5,10 +5,6 @@ use Rattle.table.proofs.Chains.{chains}
 use borrow.Author.Needs.{needs}
 use Rattle.script.proofs.call_with_two.Statement.{statement}
 use Rattle.script.proofs.call_with_two.Tie as tie
-use Rattle.script.proofs.handle_call.Reads as handle-call-reads
-use Rattle.script.proofs.kill_call.Reads as kill-call-reads
-use Rattle.script.proofs.read_number.Reads as read-number-reads
-use Rattle.script.proofs.same.Reads as same-reads
 
 slice-aggregate-same : tie.Need-slice-aggregate-same
 slice-aggregate-same c = search needs

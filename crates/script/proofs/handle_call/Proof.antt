@@ -3,7 +3,6 @@ use Rattle.script.proofs.Calls.{handle-laws}
 use borrow.Author.Needs.{needs}
 use Rattle.script.proofs.handle_call.Statement.{statement}
 use Rattle.script.proofs.handle_call.Tie as tie
-use Rattle.script.proofs.same.Reads as same-reads
 
 enum-known-signal : tie.Need-enum-known-signal
 enum-known-signal c = search needs

@@ -3,9 +3,6 @@ use Rattle.script.proofs.Parts.{read-line-laws}
 use borrow.Author.Needs.{needs}
 use Rattle.script.proofs.parse.Statement.{statement}
 use Rattle.script.proofs.parse.Tie as tie
-use Rattle.script.proofs.after_slot.Reads as after-slot-reads
-use Rattle.script.proofs.read_natural.Reads as read-natural-reads
-use Rattle.script.proofs.word_length.Reads as word-length-reads
 
 returns : tie.Need-returns
 returns c = search read-line-laws

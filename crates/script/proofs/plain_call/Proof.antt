@@ -4,8 +4,6 @@ use Rattle.table.proofs.Chains.{chains}
 use borrow.Author.Needs.{needs}
 use Rattle.script.proofs.plain_call.Statement.{statement}
 use Rattle.script.proofs.plain_call.Tie as tie
-use Rattle.script.proofs.own_call.Reads as own-call-reads
-use Rattle.script.proofs.same.Reads as same-reads
 
 slice-aggregate-same : tie.Need-slice-aggregate-same
 slice-aggregate-same c = search needs

@@ -3,8 +3,6 @@ use Rattle.script.proofs.Writes.{end-pushes}
 use borrow.Author.Needs.{needs}
 use Rattle.script.proofs.push_end.Statement.{statement}
 use Rattle.script.proofs.push_end.Tie as tie
-use Rattle.script.proofs.push_decimal.Reads as push-decimal-reads
-use Rattle.script.proofs.push_word.Reads as push-word-reads
 
 enum-known-how : tie.Need-enum-known-how
 enum-known-how c = search needs

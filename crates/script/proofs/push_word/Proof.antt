@@ -5,7 +5,6 @@ use native.Mathlib.Omega.{arith}
 use Rattle.script.proofs.Writes.{Pushing, pushing-loop}
 use Rattle.script.proofs.push_word.Statement.{statement}
 use Rattle.script.proofs.push_word.Tie as tie
-use Rattle.script.proofs.push.Reads as push-reads
 
 abbrev Inv-loop : tie.InvT-loop
 Inv-loop word t₀ i₀ t i = Pushing word t₀ t i

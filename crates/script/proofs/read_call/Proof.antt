@@ -3,10 +3,6 @@ use Rattle.script.proofs.Parts.{read-call-laws}
 use borrow.Author.Needs.{needs}
 use Rattle.script.proofs.read_call.Statement.{statement}
 use Rattle.script.proofs.read_call.Tie as tie
-use Rattle.script.proofs.call_with.Reads as call-with-reads
-use Rattle.script.proofs.call_with_two.Reads as call-with-two-reads
-use Rattle.script.proofs.plain_call.Reads as plain-call-reads
-use Rattle.script.proofs.word_length.Reads as word-length-reads
 
 word-length-requires : tie.Need-word-length-requires
 word-length-requires c κs = search needs

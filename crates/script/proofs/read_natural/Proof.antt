@@ -3,7 +3,6 @@ use Rattle.script.proofs.Parts.{read-natural-laws}
 use borrow.Author.Needs.{needs}
 use Rattle.script.proofs.read_natural.Statement.{statement}
 use Rattle.script.proofs.read_natural.Tie as tie
-use Rattle.script.proofs.digits_value.Reads as digits-value-reads
 
 returns : tie.Need-returns
 returns c = search read-natural-laws

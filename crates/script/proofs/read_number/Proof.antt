@@ -3,9 +3,6 @@ use Rattle.script.proofs.Parts.{read-number-laws}
 use borrow.Author.Needs.{needs}
 use Rattle.script.proofs.read_number.Statement.{statement}
 use Rattle.script.proofs.read_number.Tie as tie
-use Rattle.script.proofs.below_zero.Reads as below-zero-reads
-use Rattle.script.proofs.from_zero.Reads as from-zero-reads
-use Rattle.script.proofs.read_natural.Reads as read-natural-reads
 
 returns : tie.Need-returns
 returns c = search read-number-laws

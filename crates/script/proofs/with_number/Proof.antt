@@ -3,7 +3,6 @@ use Rattle.script.proofs.Calls.{number-laws}
 use borrow.Author.Needs.{needs}
 use Rattle.script.proofs.with_number.Statement.{statement}
 use Rattle.script.proofs.with_number.Tie as tie
-use Rattle.script.proofs.same.Reads as same-reads
 
 enum-known-number : tie.Need-enum-known-number
 enum-known-number c = search needs
