@@ -1,0 +1,4 @@
+-- What belongs to no one function.
+pub mod Cuts
+pub mod Carrying
+pub mod TenLines

@@ -1,0 +1,79 @@
+// An input that comes in chunks, cut into lines.
+use script::Parsed;
+use script::parse;
+ghost use mathlib.Core.Path.{_≡_};
+ghost use mathlib.Core.List.{List, [], _∷_, _++_};
+ghost use Prim.Native.Nat.{ℕ, _≤_};
+ghost use Rattle.lines.specs.Carried.{Carries, Took};
+ghost use Rattle.script.specs.Reading.{read-line};
+
+// The first bytes of a line: enough to see that it is too long.
+pub struct Line {
+    pub bytes: [u8; 65],
+    pub len: usize,
+}
+
+pub fn empty() -> Line
+    ensures { λ r. ⌜ Carries r [] ⌝ }
+{
+    Line {
+        bytes: [0; 65],
+        len: 0,
+    }
+}
+
+// The line with one byte more. What there is no room for is dropped.
+fn add(line: Line, b: u8) -> Line
+    ensures { λ r. ⌜ ((l : List ℕ) → Carries line l → Carries r (l ++ b ∷ [])) ⌝ }
+{
+    let at = line.len;
+    if at >= 65 {
+        return line;
+    }
+    let mut t = line;
+    t.bytes[at] = b;
+    t.len = at + 1;
+    t
+}
+
+// What a part of a chunk gave: the line, whether it ended, and the place after it.
+pub struct Taken {
+    pub line: Line,
+    pub ended: bool,
+    pub at: usize,
+}
+
+// Takes bytes of a chunk in, from a place on, up to the end of the line that is open.
+pub fn take_line(line: Line, chunk: &[u8], from: usize) -> Taken
+    ensures { λ r. ⌜ ((l : List ℕ) → Carries line l → Took l (now (chunk .entry)) from r) ⌝ }
+{
+    let mut t = line;
+    let mut i = from;
+    while i < chunk.len() {
+        let b = chunk[i];
+        if b == b'\n' {
+            return Taken {
+                line: t,
+                ended: true,
+                at: i + 1,
+            };
+        }
+        t = add(t, b);
+        i += 1;
+    }
+    Taken {
+        line: t,
+        ended: false,
+        at: i,
+    }
+}
+
+// Reads a line that is carried, as if it stood there whole.
+pub fn read(line: Line) -> Parsed
+    requires { ⌜ line .len ≤ 65 ⌝ }
+    ensures { λ r. ⌜ ((l : List ℕ) → Carries line l → r ≡ read-line l) ⌝ }
+{
+    let bytes = line.bytes;
+    let n = line.len;
+    parse(&bytes[..n])
+}

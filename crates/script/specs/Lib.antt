@@ -1,0 +1,6 @@
+-- Document 01, "The script, and one run whole", as definitions, in reading order.
+pub mod Texts
+pub mod Lines
+pub mod Reading
+pub mod Claims
+pub mod Outputs
