@@ -1,26 +1,25 @@
 -- The end of a process as the code brings it about is the end of the definitions, in a table of which the facts hold.
-use Prim.Native.Nat.{ℕ, zero, suc, _<_, _≤_}
-use mathlib.Core.Bool.{Bool, true, false, not, So}
-use mathlib.Core.List.{List, [], _∷_, map}
+use Prim.Native.Nat.{ℕ, _<_}
+use mathlib.Core.Bool.{Bool, false, not, So}
 use mathlib.Core.Logic.{⊎-elim}
 use mathlib.Core.Path.{_≡_, refl, sym, ap, ap₂, subst, fun-ext, _∙_}
 use native.Mathlib.Decide.{ℕ-discrete, decLt}
 use native.Mathlib.Omega.{arith}
 use borrow.Author.Tests.{eq-eqb, ne-eqb}
 use lib.Dec.{eqb}
-use lib.ListN.{length, getD, set, length-set, length-map, List·getD-eq-default}
+use lib.ListN.{length, getD, length-set, length-map, List·getD-eq-default}
 use lib.Seq.{getD-set-same, getD-set-other, ext-getD}
 use Rattle.table.proofs.Chains.{by-bool, pick-yes, pick-no, and-true, and-false, and-false-later}
 use Rattle.table.proofs.Laws.Tests.{no-so}
-use Rattle.table.proofs.Laws.Facts.{Facts, Taken, Stands, Lives, Below, Seen, lives-taken, is-seen}
+use Rattle.table.proofs.Laws.Facts.{Facts, Stands, Lives, Below, Seen, lives-taken, is-seen}
 use Rattle.table.proofs.Laws.Tree.{below-refl}
 use Rattle.table.proofs.MapLoops.{changed-length, changed-at}
-use Rattle.table.proofs.Slots.{length-mapped, field-within, read-at}
+use Rattle.table.proofs.Slots.{field-within, read-at}
 use Rattle.table.specs.Ends.{member-ends, init-ends, namespace-dies, end}
 use Rattle.table.specs.Fresh.{empty-process}
 use Rattle.table.specs.Limits.{deepest, namespace-slots, process-slots}
 use Rattle.table.specs.Read.{View, view, process, namespace, pid-at, no-process, no-namespace, is-ended, is-dead, init-of, init, is-init, taken, child-of, seen, below, climb}
-use Rattle.table.specs.Records.{as-ended, with-life, with-parent, put, changed}
+use Rattle.table.specs.Records.{as-ended, with-life, put, changed}
 use Rattle.table.specs.Tests.{_and_, if_then_else_, changed-to}
 use Rattle.table.specs.declared.End.{End}
 use Rattle.table.specs.declared.Life.the-variants.{Dead}

@@ -2,26 +2,26 @@
 -- the way is only that each process is as it was or ended, and each namespace as it was or dead: so an end that has been
 -- brought about stays, whatever else ends later.
 use Prim.Native.Nat.{ℕ, zero, suc, _<_, _≤_, _+_}
-use mathlib.Core.Bool.{Bool, true, false, not, So, false≢true}
+use mathlib.Core.Bool.{Bool, false, not, So, false≢true}
 use mathlib.Core.List.{List}
 use mathlib.Core.Logic.{_⊎_, inl, inr, ⊎-elim}
 use mathlib.Core.Path.{_≡_, refl, sym, ap, subst, _∙_}
 use native.Mathlib.Decide.{ℕ-discrete}
 use native.Mathlib.Omega.{arith}
-use borrow.Author.Tests.{eq-eqb, ne-eqb, eqb-true, not-true}
+use borrow.Author.Tests.{eq-eqb, ne-eqb, eqb-true}
 use lib.Dec.{eqb}
-use lib.ListN.{length, getD, set, length-set}
+use lib.ListN.{length, getD, length-set}
 use lib.Seq.{getD-set-same, getD-set-other}
 use Rattle.table.proofs.Chains.{by-bool, pick-yes, pick-no}
 use Rattle.table.proofs.FoldLoops.{turns}
 use Rattle.table.proofs.Laws.Below.{below-up, last-step, below-level, below-trans, no-level, shallow-below}
 use Rattle.table.proofs.Laws.Tests.{yes-or-no, no-so, life-cases, dead-otherwise, alive-unborn, dead-unborn}
-use Rattle.table.proofs.Laws.Facts.{Facts, Taken, Stands, Lives, Below, Seen, Other, lives-taken, is-seen, seen-taken, seen-below, lives-or-ended}
+use Rattle.table.proofs.Laws.Facts.{Facts, Taken, Stands, Lives, Below, Seen, Other, is-seen, seen-taken, seen-below, lives-or-ended}
 use Rattle.table.proofs.Laws.Tests.{left, right, both, cases, or-left, or-right}
 use Rattle.table.proofs.Laws.Slots.{alive-above, below-parent, below-same, init-own, init-taken, living-own-alive}
 use Rattle.table.proofs.Laws.Tree.{below-refl}
 use Rattle.table.proofs.MapLoops.{changed-length, changed-at}
-use Rattle.table.specs.Limits.{deepest, namespace-slots, no-slot, process-slots}
+use Rattle.table.specs.Limits.{deepest, namespace-slots, process-slots}
 use Rattle.table.specs.Read.{View, view, process, namespace, pid-at, no-process, no-namespace, is-ended, is-unborn, is-alive, is-dead, init-of, alive, dead, unborn, init, taken, namespace-taken}
 use Rattle.table.specs.Records.{as-ended, with-life, put}
 use Rattle.table.specs.Tests.{_and_, _or_, if_then_else_}
@@ -30,7 +30,7 @@ use Rattle.table.specs.declared.Life.the-variants.{Unborn, Alive, Dead}
 use Rattle.table.specs.declared.Namespace.{Namespace}
 use Rattle.table.specs.declared.Process.{Process}
 use Rattle.table.specs.declared.Table.{Table}
-use Rattle.ending.proofs.Members.{turn, lower, member-is, member-own, namespace-is}
+use Rattle.ending.proofs.Members.{turn, lower, member-is, namespace-is}
 use Rattle.ending.specs.Ending.{killed, dies-with, once-dead, marked-dead, falls-with, end-member-by, end-member, end-namespace}
 
 -- ---- an ended process

@@ -1,16 +1,17 @@
 -- Freeing by marks is the freeing of the definitions, in every table.
-use Prim.Native.Nat.{ℕ, zero, suc, _<_, _≤_}
-use mathlib.Core.Bool.{Bool, true, false, not, So}
+use Prim.Native.Nat.{ℕ, zero, suc, _<_, _≤_, _+_}
+use mathlib.Core.Bool.{Bool, true, false, not, So, false≢true}
 use mathlib.Core.List.{List, map}
 use mathlib.Core.Logic.{_⊎_, inl, inr, ⊎-elim}
 use mathlib.Core.Path.{_≡_, refl, sym, ap, ap₂, subst, _∙_}
 use native.Mathlib.Decide.{ℕ-discrete, decLt}
 use native.Mathlib.Omega.{arith}
-use borrow.Author.Tests.{eq-eqb, ne-eqb, eqb-true}
+use borrow.Author.Tests.{ne-eqb, eqb-true}
 use lib.Dec.{eqb}
-use lib.ListN.{length, getD, set, replicate, length-set, List·getD-eq-default}
+use lib.ListN.{length, set, replicate, length-set, List·getD-eq-default}
 use lib.Seq.{getD-set-same, getD-set-other}
-use Rattle.table.proofs.Chains.{by-bool, pick-yes, pick-no}
+use Rattle.table.proofs.AnyLoops.{Unmet, any-steps, any-true, any-none}
+use Rattle.table.proofs.Chains.{and-true, and-false, and-false-later, or-true-later, or-false}
 use Rattle.table.proofs.FoldLoops.{turns}
 use Rattle.table.proofs.Keeps.Changed.{getD-replicate}
 use Rattle.table.proofs.Laws.Below.{shallow-below}
@@ -23,13 +24,15 @@ use Rattle.table.proofs.Slots.{length-mapped}
 use Rattle.table.specs.Freeing.{kept, freed}
 use Rattle.table.specs.Fresh.{empty-namespace}
 use Rattle.table.specs.Limits.{namespace-slots, process-slots}
-use Rattle.table.specs.Read.{View, view, process, namespace, pid-at, no-process, no-namespace, taken, below, climb}
-use Rattle.table.specs.Tests.{_and_, _or_, if_then_else_, any, changed-to}
+use Rattle.table.specs.Read.{View, view, process, namespace, pid-at, no-process, no-namespace, is-unborn, taken, below, climb}
+use Rattle.table.specs.Tests.{_and_, _or_, if_then_else_, any}
+use Rattle.table.specs.declared.Life.{Life}
+use Rattle.table.specs.declared.Life.the-variants.{Unborn, Alive, Dead}
 use Rattle.table.specs.declared.Namespace.{Namespace}
 use Rattle.table.specs.declared.Process.{Process}
 use Rattle.table.specs.declared.Table.{Table}
 use Rattle.ending.proofs.Passes.{changed-same, changed-none}
-use Rattle.ending.specs.Holding.{mark-at, with-marks, marks-of, kept-for, once-freed}
+use Rattle.ending.specs.Holding.{mark-at, with-marks, marks-of, kept-for, keeps, is-blank, once-freed}
 
 -- ---- the marks
 
@@ -132,7 +135,7 @@ module _ (t : Table) (count : length (t .namespaces) ≡ namespace-slots) where
           absurd (omega (arith, shallow-below v a n (ap (λ (x : Namespace). x .level) (List·getD-eq-default (t .namespaces) no-namespace {n = a} (omega arith))) b))
 
   pub kept-is : (n : ℕ) → n < namespace-slots → kept-for (v .up) (v .level) (mark-at (marks-of t)) n ≡ kept v n
-  unfolding kept-for kept marks-of below
+  unfolding kept-for keeps kept marks-of below
   kept-is n h =
       bool-ext _ _
       (λ k. ⊎-elim (λ (z : So (eqb n 0)). or-left _ _ z) (λ (a : _). or-right (eqb n 0) _ (by-holder a)) (cases (eqb n 0) _ k))
@@ -173,3 +176,49 @@ freed-all g t u up level marks i count a b c m s h =
     (λ n k. ap (λ (y : Bool). if y then namespace t n else empty-namespace)
     (ap (λ (l : List Bool). kept-for up level (mark-at l) n) c ∙ ap₂ (λ (p q : ℕ → ℕ). kept-for p q (mark-at (marks-of t)) n) a b
     ∙ kept-is t (length-mapped g (t .namespaces) namespace-slots count) n k)))
+
+-- ---- a blank slot is as a freed one
+
+blank-is : (s : Namespace) → So (is-blank s) → s ≡ empty-namespace
+unfolding is-blank
+blank-is s h =
+    let a : s .parent .0 ≡ 0 = eqb-true _ 0 (left _ _ (left _ _ (left _ _ h))) in
+    let b : s .level ≡ 0 = eqb-true _ 0 (right _ _ (left _ _ (left _ _ h))) in
+    let c : s .last .0 ≡ 0 = eqb-true _ 0 (right _ _ (left _ _ h)) in
+    let d : s .life ≡ Unborn = unborn-is (s .life) (right _ _ h) in
+    (λ j. record { parent = record { 0 = a j }; level = b j; last = record { 0 = c j }; life = d j })
+  where
+    unborn-is : (l : Life) → So (is-unborn l) → l ≡ Unborn
+    unborn-is Unborn h = refl
+    unborn-is (Alive i) h = absurd (false≢true h)
+    unborn-is Dead h = absurd (false≢true h)
+
+-- r says whether s is blank
+pub freed-blank : (up level : ℕ → ℕ) (mark : ℕ → Bool) (n : ℕ) (s : Namespace) (r : Bool) → r ≡ is-blank s → r ≡ true → s ≡ once-freed up level mark n s
+unfolding once-freed
+freed-blank up level mark n s r e h = go (kept-for up level mark n)
+  where
+    go : (b : Bool) → s ≡ (if b then s else empty-namespace)
+    go true = refl
+    go false = blank-is s (sym e ∙ h)
+
+-- ---- the loop that looks for a namespace that keeps n
+
+module _ (up level : ℕ → ℕ) (mark : ℕ → Bool) (n i : ℕ) where
+  pub unmarked-on : Unmet namespace-slots (keeps up level mark n) i → i < namespace-slots → mark i ≡ false → Unmet namespace-slots (keeps up level mark n) (i + 1)
+  unfolding keeps
+  unmarked-on u h e = any-steps namespace-slots (keeps up level mark n) i u h (and-false (mark i) _ e)
+
+  -- r says whether the one at i lies in the subtree of n
+  pub marked-on : (r : Bool) → Unmet namespace-slots (keeps up level mark n) i → i < namespace-slots → r ≡ climb up (level i) i n → r ≡ false → Unmet namespace-slots (keeps up level mark n) (i + 1)
+  unfolding keeps
+  marked-on r u h e q = any-steps namespace-slots (keeps up level mark n) i u h (and-false-later (mark i) _ (sym e ∙ q))
+
+  pub kept-found : (r : Bool) → i < namespace-slots → mark i ≡ true → r ≡ climb up (level i) i n → r ≡ true → true ≡ kept-for up level mark n
+  unfolding keeps kept-for
+  kept-found r h m e q =
+      sym (or-true-later (eqb n 0) _ (any-true namespace-slots (keeps up level mark n) i h (and-true (mark i) _ m (sym e ∙ q))))
+
+  pub kept-none : (n ≡ 0 → ⊥) → Unmet namespace-slots (keeps up level mark n) i → namespace-slots ≤ i → false ≡ kept-for up level mark n
+  unfolding kept-for
+  kept-none o u h = sym (or-false (eqb n 0) _ (ne-eqb n 0 o) (any-none namespace-slots (keeps up level mark n) i u h))

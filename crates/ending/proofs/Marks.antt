@@ -1,8 +1,7 @@
 -- Arrays of marks: who is seen, and which namespaces are held.
-use Prim.Native.Nat.{ℕ, zero, suc, _<_, _≤_}
+use Prim.Native.Nat.{ℕ, _<_, _≤_}
 use mathlib.Core.Bool.{Bool, true, false, not}
 use mathlib.Core.List.{List, map}
-use mathlib.Core.Logic.{⊎-elim}
 use mathlib.Core.Path.{_≡_, refl, sym, ap, fun-ext, _∙_}
 use native.Mathlib.Decide.{decLt}
 use native.Mathlib.Omega.{arith}
@@ -14,7 +13,7 @@ use Rattle.table.proofs.Chains.{pick-yes, pick-no, and-false}
 use Rattle.table.proofs.MapLoops.{Mapped, map-done, changed-at, changed-past}
 use Rattle.table.proofs.Slots.{length-mapped}
 use Rattle.table.specs.Limits.{process-slots}
-use Rattle.table.specs.Read.{view, process, no-process, pid-at, taken, seen, below, climb}
+use Rattle.table.specs.Read.{view, no-process, pid-at, taken, seen, below, climb}
 use Rattle.table.specs.Tests.{_and_, changed-to}
 use Rattle.table.specs.declared.Process.{Process}
 use Rattle.table.specs.declared.Table.{Table}

@@ -15,7 +15,6 @@ use table::Table;
 use table::empty_namespace;
 use table::empty_process;
 use tree::below;
-use tree::level_of;
 use tree::levels;
 use tree::seen;
 use tree::ups;
@@ -24,13 +23,12 @@ ghost use mathlib.Core.Bool.{true};
 ghost use Prim.Native.Nat.{_<_};
 ghost use lib.ListN.{getD, set};
 ghost use Rattle.table.specs.Freeing.{freed};
-ghost use Rattle.table.specs.Limits.{process-slots, namespace-slots};
-ghost use Rattle.table.specs.Read.{view, seen as seen-in, no-namespace, climb};
+ghost use Rattle.table.specs.Limits.{process-slots};
+ghost use Rattle.table.specs.Read.{view, seen as seen-in, no-namespace};
 ghost use Rattle.table.specs.Records.{as-ended};
-ghost use Rattle.table.specs.Tests.{_and_};
 ghost use Rattle.tree.specs.Tree.{slot-in, level-in};
 ghost use Rattle.ending.specs.Ending.{killed as killed-by-9, dies-with, once-dead, marked-dead, falls-with, end-member, end-namespace, once-swept, swept, end-init, once-handed, handed-over, Ends};
-ghost use Rattle.ending.specs.Holding.{mark-at, with-marks, marks-of, kept-for, once-freed};
+ghost use Rattle.ending.specs.Holding.{mark-at, with-marks, marks-of, kept-for, is-blank, once-freed};
 
 const SIGKILL: u8 = 9;
 
@@ -347,24 +345,6 @@ fn held(t: Table) -> [bool; NAMESPACE_SLOTS]
     marks
 }
 
-// Whether the namespace at i is marked and lies in the subtree of n.
-fn keeps(
-    up: [NsSlot; NAMESPACE_SLOTS],
-    levels: [u8; NAMESPACE_SLOTS],
-    marks: [bool; NAMESPACE_SLOTS],
-    n: NsSlot,
-    i: usize,
-) -> bool
-    requires { ⌜ i < namespace-slots ⌝ }
-    ensures { λ r. ⌜ r ≡ (mark-at marks i and climb (slot-in up) (level-in levels i) i (n .0)) ⌝ }
-{
-    if !marks[i] {
-        return false;
-    }
-    let m = NsSlot(i as u8);
-    below(up, m, n, level_of(levels, m))
-}
-
 // Whether n stays: it is the root, or a marked namespace lies in its subtree.
 fn is_kept(
     up: [NsSlot; NAMESPACE_SLOTS],
@@ -379,14 +359,34 @@ fn is_kept(
     }
     let mut i: usize = 0;
     while i < NAMESPACE_SLOTS {
-        if keeps(up, levels, marks, n, i) {
-            return true;
+        if marks[i] {
+            if below(up, NsSlot(i as u8), n, levels[i]) {
+                return true;
+            }
         }
         i += 1;
     }
     false
 }
 
+fn is_blank(s: Namespace) -> bool
+    ensures { λ r. ⌜ r ≡ is-blank s ⌝ }
+{
+    let parent = s.parent;
+    if parent.0 != 0 {
+        return false;
+    }
+    if s.level != 0 {
+        return false;
+    }
+    let last = s.last;
+    if last.0 != 0 {
+        return false;
+    }
+    s.is_unborn()
+}
+
+// What is left of the namespace s at slot n. Most slots are blank, and need no climbs.
 fn once_freed(
     up: [NsSlot; NAMESPACE_SLOTS],
     levels: [u8; NAMESPACE_SLOTS],
@@ -396,6 +396,9 @@ fn once_freed(
 ) -> Namespace
     ensures { λ r. ⌜ r ≡ once-freed (slot-in up) (level-in levels) (mark-at marks) (n .0) s ⌝ }
 {
+    if is_blank(s) {
+        return s;
+    }
     if is_kept(up, levels, marks, n) {
         return s;
     }
