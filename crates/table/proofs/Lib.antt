@@ -8,3 +8,13 @@ pub mod Laws
 pub mod Keeps
 pub mod Sameness
 pub mod Promises
+-- Laws of chains of tests and of loops, each kind once.
+pub mod Chains
+pub mod AllLoops
+pub mod AnyLoops
+pub mod FirstLoops
+pub mod SeekLoops
+pub mod FoldLoops
+pub mod MapLoops
+-- Slots read and put.
+pub mod Slots

@@ -1,6 +1,12 @@
-// The process table: its types, and the fresh table. Document 01 as definitions stands in specs/.
+// The process table: its types, the fresh table, and how a record is read and put. Document 01 as definitions stands
+// in specs/.
 ghost use mathlib.Core.Path.{_≡_};
+ghost use mathlib.Core.Bool.{not};
+ghost use lib.Dec.{eqb};
+ghost use lib.ListN.{getD};
 ghost use Rattle.table.specs.Fresh.{empty-process, empty-namespace, fresh as fresh-table};
+ghost use Rattle.table.specs.Read.{namespace, pid-at, is-running, is-ended, is-unborn, is-alive, is-dead, init-of};
+ghost use Rattle.table.specs.Records.{put, put-namespace};
 
 // ---- limits
 
@@ -183,5 +189,144 @@ pub fn fresh() -> Table
     Table {
         processes: processes,
         namespaces: namespaces,
+    }
+}
+
+// ---- reading a record
+
+impl Process {
+    // Whether the slot holds a process: each has a number at the root's level.
+    pub fn is_taken(self) -> bool
+        ensures { λ r. ⌜ r ≡ not (eqb (pid-at self 0) 0) ⌝ }
+    {
+        self.pids[0].0 != 0
+    }
+
+    pub fn has_ended(self) -> bool
+        ensures { λ r. ⌜ r ≡ is-ended (self .state) ⌝ }
+    {
+        let state = self.state;
+        match state {
+            State::Running => false,
+            State::Stopped => false,
+            State::Ended(_) => true,
+        }
+    }
+
+    pub fn is_running(self) -> bool
+        ensures { λ r. ⌜ r ≡ is-running (self .state) ⌝ }
+    {
+        let state = self.state;
+        match state {
+            State::Running => true,
+            State::Stopped => false,
+            State::Ended(_) => false,
+        }
+    }
+
+    // The number at a level, and none past the deepest.
+    pub fn pid_at(self, level: u8) -> Pid
+        ensures { λ r. ⌜ r .0 ≡ pid-at self level ⌝ }
+    {
+        let l = level as usize;
+        if l < LEVELS {
+            return self.pids[l];
+        }
+        Pid(0)
+    }
+}
+
+impl Namespace {
+    pub fn is_unborn(self) -> bool
+        ensures { λ r. ⌜ r ≡ is-unborn (self .life) ⌝ }
+    {
+        let life = self.life;
+        match life {
+            Life::Unborn => true,
+            Life::Alive(_) => false,
+            Life::Dead => false,
+        }
+    }
+
+    pub fn is_alive(self) -> bool
+        ensures { λ r. ⌜ r ≡ is-alive (self .life) ⌝ }
+    {
+        let life = self.life;
+        match life {
+            Life::Unborn => false,
+            Life::Alive(_) => true,
+            Life::Dead => false,
+        }
+    }
+
+    pub fn is_dead(self) -> bool
+        ensures { λ r. ⌜ r ≡ is-dead (self .life) ⌝ }
+    {
+        let life = self.life;
+        match life {
+            Life::Unborn => false,
+            Life::Alive(_) => false,
+            Life::Dead => true,
+        }
+    }
+
+    // The init of a living namespace, or none.
+    pub fn init(self) -> ProcSlot
+        ensures { λ r. ⌜ r .0 ≡ init-of (self .life) ⌝ }
+    {
+        let life = self.life;
+        match life {
+            Life::Unborn => ProcSlot(NO_SLOT),
+            Life::Alive(slot) => slot,
+            Life::Dead => ProcSlot(NO_SLOT),
+        }
+    }
+}
+
+// ---- a table by its slots; each of these copies the table, so none is for a loop over slots
+
+impl Table {
+    // The process at a slot. What lies past the last slot reads as empty.
+    pub fn process(self, slot: ProcSlot) -> Process
+        ensures { λ r. ⌜ r ≡ getD (self .processes) (slot .0) empty-process ⌝ }
+    {
+        let i = slot.0 as usize;
+        if i < PROCESS_SLOTS {
+            return self.processes[i];
+        }
+        empty_process()
+    }
+
+    // The namespace at a slot. What lies past the last slot reads as empty.
+    pub fn namespace(self, slot: NsSlot) -> Namespace
+        ensures { λ r. ⌜ r ≡ namespace self (slot .0) ⌝ }
+    {
+        let i = slot.0 as usize;
+        if i < NAMESPACE_SLOTS {
+            return self.namespaces[i];
+        }
+        empty_namespace()
+    }
+
+    // The table with a process put at a slot. Past the last slot there is nowhere to put it.
+    pub fn with_process(mut self, slot: ProcSlot, p: Process) -> Table
+        ensures { λ r. ⌜ r ≡ put self (slot .0) p ⌝ }
+    {
+        let i = slot.0 as usize;
+        if i < PROCESS_SLOTS {
+            self.processes[i] = p;
+        }
+        self
+    }
+
+    // The table with a namespace put at a slot. Past the last slot there is nowhere to put it.
+    pub fn with_namespace(mut self, slot: NsSlot, n: Namespace) -> Table
+        ensures { λ r. ⌜ r ≡ put-namespace self (slot .0) n ⌝ }
+    {
+        let i = slot.0 as usize;
+        if i < NAMESPACE_SLOTS {
+            self.namespaces[i] = n;
+        }
+        self
     }
 }

@@ -1,0 +1,82 @@
+-- For a loop that replaces each of the first n elements of an array by what f makes of its place and of it. The invariant
+-- is `Mapped n f d l₀ l i`: i is at most n, and l is l₀ with its first i elements changed. `search map-loops` closes the
+-- loop's three needs. d is what lies past the array's end.
+use Prim.Native.Nat.{ℕ, zero, suc, _<_, _≤_, _+_}
+use mathlib.Core.List.{List, [], _∷_, map}
+use mathlib.Core.Logic.{⊎-elim}
+use mathlib.Core.Path.{_≡_, refl, sym, ap, subst, _∙_}
+use lib.ListN.{length, getD, set, length-set, length-map, List·getD-map}
+use lib.Seq.{getD-set-same, getD-set-other, ext-getD}
+use native.Mathlib.Nat.{eq-or-lt-of-le, le-of-suc-le-suc}
+use native.Mathlib.Numerals.{add-one}
+use native.Mathlib.Omega.{arith}
+use Rattle.table.specs.Tests.{changed-to}
+
+-- ---- the changed list
+
+pub changed-length : {A : Type 0} (f : ℕ → A → A) (d : A) (n : ℕ) (l : List A) → length (changed-to f d n l) ≡ length l
+unfolding changed-to
+changed-length f d zero l = refl
+changed-length f d (suc n) l = length-set (changed-to f d n l) n (f n (getD l n d)) ∙ changed-length f d n l
+
+-- the elements from n on stand
+pub changed-past : {A : Type 0} (f : ℕ → A → A) (d : A) (n i : ℕ) (l : List A) → n ≤ i → getD (changed-to f d n l) i d ≡ getD l i d
+unfolding changed-to
+changed-past f d zero i l h = refl
+changed-past f d (suc n) i l h =
+    getD-set-other (changed-to f d n l) n i (f n (getD l n d)) d (λ q. omega arith) ∙ changed-past f d n i l (omega arith)
+
+-- those below n are what f makes of them
+pub changed-at : {A : Type 0} (f : ℕ → A → A) (d : A) (n i : ℕ) (l : List A) → i < n → i < length l → getD (changed-to f d n l) i d ≡ f i (getD l i d)
+unfolding changed-to
+changed-at f d zero i l h k = absurd (omega arith)
+changed-at f d (suc n) i l h k =
+    ⊎-elim
+    (λ (q : i ≡ n).
+    subst (λ m. getD (set (changed-to f d n l) n (f n (getD l n d))) m d ≡ f m (getD l m d)) (sym q)
+    (getD-set-same (changed-to f d n l) n (f n (getD l n d)) d (omega (arith, changed-length f d n l))))
+    (λ (q : i < n).
+    getD-set-other (changed-to f d n l) n i (f n (getD l n d)) d (λ e. omega arith) ∙ changed-at f d n i l q k)
+    (eq-or-lt-of-le (le-of-suc-le-suc h))
+
+-- ---- the loop
+
+pub record Mapped {A : Type 0} (n : ℕ) (f : ℕ → A → A) (d : A) (l₀ l : List A) (i : ℕ) : Type 0 where
+  pub within : i ≤ n
+  pub done : l ≡ changed-to f d i l₀
+
+pub map-starts : {A : Type 0} (n : ℕ) (f : ℕ → A → A) (d : A) (l₀ : List A) → Mapped n f d l₀ l₀ 0
+unfolding changed-to
+map-starts n f d l₀ = record { within = omega arith; done = refl }
+
+-- y is the callee's result for the element at i of the array as it was
+pub map-goes-on-old : {A : Type 0} (n : ℕ) (f : ℕ → A → A) (d : A) (l₀ l : List A) (i : ℕ) (y : A) → Mapped n f d l₀ l i → i < n → y ≡ f i (getD l₀ i d) → Mapped n f d l₀ (set l i y) (i + 1)
+unfolding changed-to
+map-goes-on-old n f d l₀ l i y m h e =
+    record { within = omega arith; done = rw (add-one, e) (ap (λ u. set u i (f i (getD l₀ i d))) (m .done)) }
+
+-- y is the callee's result for the element at i of the array as it is, which no turn has changed yet
+pub map-goes-on : {A : Type 0} (n : ℕ) (f : ℕ → A → A) (d : A) (l₀ l : List A) (i : ℕ) (y : A) → Mapped n f d l₀ l i → i < n → y ≡ f i (getD l i d) → Mapped n f d l₀ (set l i y) (i + 1)
+map-goes-on n f d l₀ l i y m h e =
+    map-goes-on-old n f d l₀ l i y m h
+    (e ∙ ap (λ u. f i (getD u i d)) (m .done) ∙ ap (f i) (changed-past f d i i l₀ (omega arith)))
+
+pub map-done : {A : Type 0} (n : ℕ) (f : ℕ → A → A) (d : A) (l₀ l : List A) (i : ℕ) → Mapped n f d l₀ l i → n ≤ i → l ≡ changed-to f d n l₀
+map-done n f d l₀ l i m h =
+    let w = m .within in
+    let e : i ≡ n = omega arith in
+    subst (λ k. l ≡ changed-to f d k l₀) e (m .done)
+
+pub ruleset map-loops = (map-starts, map-goes-on, map-done)
+
+pub ruleset map-old-loops = (map-starts, map-goes-on-old, map-done)
+
+-- ---- an array filled from another
+
+-- every element is what g makes of the element at its place of the other
+pub filled : {A B : Type 0} (g : B → A) (e : B) (n : ℕ) (l : List A) (b : List B) → length l ≡ n → length b ≡ n → changed-to (λ i x. g (getD b i e)) (g e) n l ≡ map g b
+filled g e n l b p q =
+    let long : length (changed-to (λ i x. g (getD b i e)) (g e) n l) ≡ length l = changed-length (λ i x. g (getD b i e)) (g e) n l in
+    ext-getD (g e) (changed-to (λ i x. g (getD b i e)) (g e) n l) (map g b)
+    (long ∙ p ∙ sym (length-map b g ∙ q))
+    (λ i h. changed-at (λ i x. g (getD b i e)) (g e) n i l (omega arith) (omega arith) ∙ sym (List·getD-map g b i e))

@@ -1,0 +1,100 @@
+-- Reading and putting past an array's end, and what a process read at a slot says of the view. The length of an array field
+-- stands in a function's facts as that of a `map`.
+use Prim.Native.Nat.{ℕ, zero, suc, _<_, _≤_}
+use mathlib.Core.Bool.{Bool, true, false, not}
+use mathlib.Core.List.{List, [], _∷_, map}
+use mathlib.Core.Path.{_≡_, refl, sym, ap, _∙_}
+use lib.Dec.{eqb}
+use lib.ListN.{length, getD, set, replicate, length-map, List·getD-eq-default}
+use lib.Seq.{set-out}
+use native.Mathlib.Nat.{le-of-suc-le-suc}
+use native.Mathlib.Omega.{arith}
+use Rattle.table.specs.Fresh.{empty-process}
+use Rattle.table.specs.Limits.{levels}
+use Rattle.table.specs.Read.{View, view, process, namespace, pid-at, no-pid, no-process, no-namespace, taken, is-ended}
+use Rattle.table.specs.Records.{put, put-namespace}
+use Rattle.table.specs.declared.Namespace.{Namespace}
+use Rattle.table.specs.declared.Pid.{Pid}
+use Rattle.table.specs.declared.Process.{Process}
+use Rattle.table.specs.declared.State.{State}
+use Rattle.table.specs.declared.Table.{Table}
+
+-- ---- past the end
+
+-- an array in a struct has its length as the code gives it
+pub length-mapped : {X Y : Type 0} (g : X → Y) (l : List X) (n : ℕ) → length (map g l) ≡ n → length l ≡ n
+length-mapped g l n e = sym (length-map l g) ∙ e
+
+pub read-past : {X Y : Type 0} (g : X → Y) (l : List X) (d : X) (n i : ℕ) → length (map g l) ≡ n → n ≤ i → d ≡ getD l i d
+read-past g l d n i e h = sym (List·getD-eq-default l d (omega (arith, length-mapped g l n e)))
+
+pub pid-past : {Y : Type 0} (g : Pid → Y) (l : List Pid) (n i : ℕ) → length (map g l) ≡ n → n ≤ i → 0 ≡ getD l i no-pid .0
+pid-past g l n i e h = ap (λ k. k .0) (read-past g l no-pid n i e h)
+
+-- within the array it does not matter what lies past its end
+within : {X : Type 0} (l : List X) (d e : X) (i : ℕ) → i < length l → getD l i d ≡ getD l i e
+within [] d e i h = absurd (omega arith)
+within (x ∷ l) d e zero h = refl
+within (x ∷ l) d e (suc i) h = within l d e i (le-of-suc-le-suc h)
+
+pub read-within : {X Y : Type 0} (g : X → Y) (l : List X) (d e : X) (n i : ℕ) → length (map g l) ≡ n → i < n → getD l i d ≡ getD l i e
+read-within g l d e n i q h = within l d e i (omega (arith, length-mapped g l n q))
+
+pub put-past : {Y : Type 0} (g : Process → Y) (t : Table) (n i : ℕ) (p : Process) → length (map g (t .processes)) ≡ n → n ≤ i → t ≡ put t i p
+put-past g t n i p e h =
+    ap (λ l. record { processes = l; namespaces = t .namespaces })
+    (sym (set-out (t .processes) i p (omega (arith, length-mapped g (t .processes) n e))))
+
+pub put-namespace-past : {Y : Type 0} (g : Namespace → Y) (t : Table) (n i : ℕ) (s : Namespace) → length (map g (t .namespaces)) ≡ n → n ≤ i → t ≡ put-namespace t i s
+put-namespace-past g t n i s e h =
+    ap (λ l. record { processes = t .processes; namespaces = l })
+    (sym (set-out (t .namespaces) i s (omega (arith, length-mapped g (t .namespaces) n e))))
+
+-- ---- what `Table::process` gives, against the view
+
+-- p reads as the process at slot i
+pub record ReadAt (v : View) (i : ℕ) (p : Process) : Type 0 where
+  pub own : p .own .0 ≡ v .own i
+  pub children : p .children .0 ≡ v .children i
+  pub parent : p .parent .0 ≡ v .parent i
+  pub state : p .state ≡ v .state i
+  pub ended : is-ended (p .state) ≡ v .ended i
+  pub handled : p .handled ≡ v .handled i
+  pub pending : p .pending ≡ v .pending i
+  pub unshared : p .unshared ≡ v .unshared i
+  pub pid : (l : ℕ) → pid-at p l ≡ v .pid i l
+  pub taken : not (eqb (pid-at p 0) 0) ≡ taken v i
+
+-- an empty slot and what lies past the end read alike
+same-pids : (n l : ℕ) → getD (replicate n no-pid) l no-pid .0 ≡ 0
+same-pids zero l = refl
+same-pids (suc n) zero = refl
+same-pids (suc n) (suc l) = same-pids n l
+
+-- a field that reads alike in both
+alike : {X : Type 0} (f : Process → X) → f empty-process ≡ f no-process → (l : List Process) (i : ℕ) → f (getD l i empty-process) ≡ f (getD l i no-process)
+alike f e [] i = e
+alike f e (p ∷ l) zero = refl
+alike f e (p ∷ l) (suc i) = alike f e l i
+
+pub read-at : (t : Table) (i : ℕ) (p : Process) → p ≡ getD (t .processes) i empty-process → ReadAt (view t) i p
+unfolding taken
+read-at t i p e =
+    let pid : (l : ℕ) → pid-at p l ≡ view t .pid i l =
+    λ l. ap (λ q. pid-at q l) e ∙ alike (λ q. pid-at q l) (same-pids levels l) (t .processes) i in
+    record {
+      own = ap (λ q. q .own .0) e ∙ alike (λ q. q .own .0) refl (t .processes) i;
+      children = ap (λ q. q .children .0) e ∙ alike (λ q. q .children .0) refl (t .processes) i;
+      parent = ap (λ q. q .parent .0) e ∙ alike (λ q. q .parent .0) refl (t .processes) i;
+      state = ap (λ q. q .state) e ∙ alike (λ q. q .state) refl (t .processes) i;
+      ended = ap (λ q. is-ended (q .state)) e ∙ alike (λ q. is-ended (q .state)) refl (t .processes) i;
+      handled = ap (λ q. q .handled) e ∙ alike (λ q. q .handled) refl (t .processes) i;
+      pending = ap (λ q. q .pending) e ∙ alike (λ q. q .pending) refl (t .processes) i;
+      unshared = ap (λ q. q .unshared) e ∙ alike (λ q. q .unshared) refl (t .processes) i;
+      pid = pid;
+      taken = ap (λ k. not (eqb k 0)) (pid 0);
+    }
+
+-- below the last slot it is the process of the definitions itself
+pub process-within : {Y : Type 0} (g : Process → Y) (t : Table) (n i : ℕ) (p : Process) → length (map g (t .processes)) ≡ n → i < n → p ≡ getD (t .processes) i empty-process → p ≡ process t i
+process-within g t n i p e h q = q ∙ read-within g (t .processes) empty-process no-process n i e h
