@@ -1,0 +1,3 @@
+-- What the contracts of `delivery` cite beside the definitions of `table`.
+pub mod Actions
+pub mod Targets

@@ -1,0 +1,206 @@
+// The delivery of a signal, to one process and to several, and whom a caller sees beside itself.
+use signals::SIGCONT;
+use signals::SIGKILL;
+use signals::SIGSTOP;
+use signals::default_action;
+use signals::has_signal;
+use signals::with_signal;
+use table::Action;
+use table::NAMESPACE_SLOTS;
+use table::NsSlot;
+use table::PROCESS_SLOTS;
+use table::Pid;
+use table::ProcSlot;
+use table::Process;
+use table::State;
+use table::Table;
+use tree::level_of;
+use tree::levels;
+use tree::seen;
+use tree::ups;
+ghost use mathlib.Core.Path.{_≡_};
+ghost use lib.Dec.{ltb};
+ghost use Prim.Native.Nat.{_<_, _≤_, _+_};
+ghost use Rattle.table.specs.Calls.{others as others-of};
+ghost use Rattle.table.specs.Delivery.{resumed as as-resumed, with-pending as as-pending};
+ghost use Rattle.table.specs.Limits.{signals, process-slots};
+ghost use Rattle.table.specs.Read.{view};
+ghost use Rattle.table.specs.Records.{with-state};
+ghost use Rattle.table.specs.Tests.{_or_, insert};
+ghost use Rattle.table.specs.declared.State.the-variants.{Stopped};
+ghost use Rattle.tree.specs.Tree.{slot-in, level-in};
+ghost use Rattle.delivery.specs.Targets.{pids-of, pid-in, listed, other-from, Lists};
+ghost use Rattle.delivery.specs.Actions.{is-forced, forced-from, plain-from, action-from, lives};
+
+// ---- what a signal does to a process
+
+// Whether the slot holds a process that has not ended.
+fn is_living(p: Process) -> bool
+    ensures { λ r. ⌜ r ≡ lives p ⌝ }
+{
+    if !p.is_taken() {
+        return false;
+    }
+    !p.has_ended()
+}
+
+// 9 and 19, which nobody handles.
+fn is_forced(s: u8) -> bool
+    ensures { λ r. ⌜ r ≡ is-forced s ⌝ }
+{
+    if s == SIGKILL {
+        return true;
+    }
+    s == SIGSTOP
+}
+
+// To an init 9 and 19 act only from a namespace above.
+fn forced_action(p: Process, init: bool, from: NsSlot, s: u8) -> Action
+    ensures { λ r. ⌜ r ≡ forced-from p init (from .0) s ⌝ }
+{
+    let own = p.own;
+    if init && own.0 == from.0 {
+        return Action::Nothing;
+    }
+    default_action(s)
+}
+
+// A signal that can be handled. Unhandled, it does nothing to an init.
+fn plain_action(p: Process, init: bool, s: u8) -> Action
+    ensures { λ r. ⌜ r ≡ plain-from p init s ⌝ }
+{
+    if has_signal(p.handled, s) {
+        return Action::Pend;
+    }
+    if init {
+        return Action::Nothing;
+    }
+    default_action(s)
+}
+
+// What a signal does to a process, sent from a namespace; init says whether it is the init of its own.
+pub fn action_on(p: Process, init: bool, from: NsSlot, s: u8) -> Action
+    ensures { λ r. ⌜ r ≡ action-from p init (from .0) s ⌝ }
+{
+    if s == 0 {
+        return Action::Nothing;
+    }
+    if !is_living(p) {
+        return Action::Nothing;
+    }
+    if s == SIGCONT {
+        return Action::Resume;
+    }
+    if is_forced(s) {
+        return forced_action(p, init, from, s);
+    }
+    plain_action(p, init, s)
+}
+
+// ---- the target once it has been done
+
+fn stopped(p: Process) -> Process
+    ensures { λ r. ⌜ r ≡ with-state p Stopped ⌝ }
+{
+    let pids = p.pids;
+    Process {
+        state: State::Stopped,
+        pids: pids,
+        ..p
+    }
+}
+
+fn with_pending(mut p: Process, s: u8) -> Process
+    requires { ⌜ s < signals ⌝ }
+    ensures { λ r. ⌜ r ≡ as-pending p s ⌝ }
+{
+    p.pending = with_signal(p.pending, s);
+    p
+}
+
+// It runs, and the signal is pending too if handled.
+fn resumed(p: Process) -> Process
+    ensures { λ r. ⌜ r ≡ as-resumed p ⌝ }
+{
+    let pids = p.pids;
+    let q = Process {
+        state: State::Running,
+        pids: pids,
+        ..p
+    };
+    if has_signal(p.handled, SIGCONT) {
+        return with_pending(q, SIGCONT);
+    }
+    q
+}
+
+// ---- whom a caller sees beside itself
+
+// Slots in an order: the first len of the array.
+pub struct Targets {
+    pub slots: [ProcSlot; PROCESS_SLOTS],
+    pub len: usize,
+}
+
+// The number of each process at a level.
+fn pids_at(processes: [Process; PROCESS_SLOTS], level: u8) -> [Pid; PROCESS_SLOTS]
+    ensures { λ r. ⌜ pid-in r ≡ pids-of processes level ⌝ }
+{
+    let mut pids = [Pid(0); PROCESS_SLOTS];
+    let mut i: usize = 0;
+    while i < PROCESS_SLOTS {
+        let p = processes[i];
+        pids[i] = p.pid_at(level);
+        i += 1;
+    }
+    pids
+}
+
+// The number at a slot; past the last slot none.
+fn pid_of(pids: [Pid; PROCESS_SLOTS], slot: ProcSlot) -> Pid
+    ensures { λ r. ⌜ r .0 ≡ pid-in pids (slot .0) ⌝ }
+{
+    let i = slot.0 as usize;
+    if i < PROCESS_SLOTS {
+        return pids[i];
+    }
+    Pid(0)
+}
+
+// Whether a listed slot moves up for a new one: the new one is placed before it already, or has the lower number.
+fn moves_up(pids: [Pid; PROCESS_SLOTS], placed: bool, pid: Pid, other: ProcSlot) -> bool
+    ensures { λ r. ⌜ r ≡ placed or ltb (pid .0) (pid-in pids (other .0)) ⌝ }
+{
+    if placed {
+        return true;
+    }
+    let number = pid_of(pids, other);
+    pid.0 < number.0
+}
+
+// A slot put at its place by ascending number.
+fn insert(found: Targets, pids: [Pid; PROCESS_SLOTS], slot: ProcSlot) -> Targets
+    requires { ⌜ found .len < process-slots ⌝ }
+    ensures { λ r. ⌜ (r .len ≡ found .len + 1) × (listed r ≡ insert (pid-in pids) (slot .0) (listed found)) ⌝ }
+{
+    let mut slots = found.slots;
+    let len = found.len;
+    let pid = pid_of(pids, slot);
+    let mut held = slot;
+    let mut placed = false;
+    let mut i: usize = 0;
+    while i < len {
+        let other = slots[i];
+        if moves_up(pids, placed, pid, other) {
+            slots[i] = held;
+            held = other;
+            placed = true;
+        }
+        i += 1;
+    }
+    slots[len] = held;
+    Targets {
+        slots: slots,
+        len: len + 1,
+    }
+}
