@@ -204,3 +204,52 @@ fn insert(found: Targets, pids: [Pid; PROCESS_SLOTS], slot: ProcSlot) -> Targets
         len: len + 1,
     }
 }
+
+// Whether a process is seen from n and is neither the caller nor number 1 there. The climb takes longest, so it is last.
+fn is_other(
+    up: [NsSlot; NAMESPACE_SLOTS],
+    levels: [u8; NAMESPACE_SLOTS],
+    n: NsSlot,
+    caller: ProcSlot,
+    slot: ProcSlot,
+    pid: Pid,
+    p: Process,
+) -> bool
+    ensures { λ r. ⌜ r ≡ other-from (slot-in up) (level-in levels) (n .0) (caller .0) (slot .0) (pid .0) p ⌝ }
+{
+    if slot.0 == caller.0 {
+        return false;
+    }
+    if pid.0 == 1 {
+        return false;
+    }
+    seen(up, levels, n, p)
+}
+
+// All that the caller sees but itself and number 1, in ascending number.
+pub fn others(t: Table, caller: ProcSlot) -> Targets
+    ensures { λ r. ⌜ Lists r (others-of (view t) (caller .0)) ⌝ }
+{
+    let namespaces = t.namespaces;
+    let processes = t.processes;
+    let up = ups(namespaces);
+    let levels = levels(namespaces);
+    let c = t.process(caller);
+    let n = c.own;
+    let pids = pids_at(processes, level_of(levels, n));
+    let mut found = Targets {
+        slots: [ProcSlot(0); PROCESS_SLOTS],
+        len: 0,
+    };
+    let mut i: usize = 0;
+    while i < PROCESS_SLOTS {
+        let p = t.processes[i];
+        let slot = ProcSlot(i as u8);
+        let pid = pids[i];
+        if is_other(up, levels, n, caller, slot, pid, p) {
+            found = insert(found, pids, slot);
+        }
+        i += 1;
+    }
+    found
+}
