@@ -1,6 +1,6 @@
 -- For the loop that gathers whom a caller sees beside itself. The invariant is `Gathering t c n up levels pids r i`: r lists
 -- those of the slots below i, and the small arrays read as the table does.
-use Prim.Native.Nat.{ℕ, zero, suc, _<_, _≤_, _+_}
+use Prim.Native.Nat.{ℕ, suc, _<_, _≤_, _+_}
 use mathlib.Core.Bool.{Bool, true, false, not}
 use mathlib.Core.List.{List}
 use mathlib.Core.Path.{_≡_, refl, sym, ap, ap₂, subst, _∙_}
@@ -8,18 +8,18 @@ use lib.Dec.{eqb}
 use lib.ListN.{length, getD}
 use native.Mathlib.Numerals.{add-one}
 use native.Mathlib.Omega.{arith}
-use Rattle.table.proofs.Slots.{ReadAt, read-at}
+use Rattle.table.proofs.Slots.{read-at}
 use Rattle.table.specs.Calls.{others}
 use Rattle.table.specs.Fresh.{empty-process}
 use Rattle.table.specs.Limits.{process-slots}
 use Rattle.table.specs.Read.{View, view, process, seen, pid-seen, all-seen}
-use Rattle.table.specs.Tests.{_and_, insert, ascending, only}
+use Rattle.table.specs.Tests.{_and_, insert, ascending}
 use Rattle.table.specs.declared.NsSlot.{NsSlot}
 use Rattle.table.specs.declared.Pid.{Pid}
 use Rattle.table.specs.declared.Process.{Process}
 use Rattle.table.specs.declared.Table.{Table}
 use Rattle.tree.proofs.Sights.{seen-test}
-use Rattle.tree.specs.Tree.{slot-in, level-in, seen-from}
+use Rattle.tree.specs.Tree.{slot-in, level-in}
 use Rattle.delivery.proofs.Orders.{ascending-more, ascending-same, ascending-few, insert-length, only-ascending}
 use Rattle.delivery.specs.Targets.{pids-of, pid-in, listed, other-from, Lists}
 use Rattle.delivery.specs.declared.Targets.{Targets}
@@ -54,7 +54,7 @@ gathers-start t c p up levels pids l r e u v h k z =
       ups = u;
       level = v;
       keys = k ∙ ap (pids-of (t .processes)) deep;
-      lists = record { count = z; list = ap (λ n. listed (record { slots = r .slots; len = n })) z };
+      lists = record { fits = omega arith; count = z; list = ap (λ n. listed (record { slots = r .slots; len = n })) z };
     }
 
 module _ (t : Table) (c n : ℕ) (up : List NsSlot) (levels : List ℕ) (pids : List Pid) (r : Targets) (i : ℕ) (w : Gathering t c n up levels pids r i) where
@@ -83,6 +83,7 @@ module _ (t : Table) (c n : ℕ) (up : List NsSlot) (levels : List ℕ) (pids : 
         level = w .level;
         keys = w .keys;
         lists = record {
+          fits = omega (arith, gathers-room h, x .0);
           count = x .0 ∙ add-one _ ∙ ap suc (w .lists .count) ∙ sym (insert-length _ i _) ∙ ap length (sym more);
           list = x .1 ∙ ap₂ (λ (g : ℕ → ℕ) l. insert g i l) (w .keys) (w .lists .list) ∙ sym more;
         };

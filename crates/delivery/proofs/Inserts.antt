@@ -1,60 +1,21 @@
 -- For the loop that puts a slot at its place in the first len of an array. From the place on each element moves up by one:
 -- the loop holds the one that is to be stored next. The invariant is `Placing f s len l₀ l held placed i`: what stands below i,
 -- with what is held and the rest, is the whole list with s inserted.
-use Prim.Native.Nat.{ℕ, zero, suc, _<_, _≤_, _+_}
-use mathlib.Core.Bool.{Bool, true, false, false≢true, true≢false}
-use mathlib.Core.List.{List, [], _∷_, _++_, map, append-assoc, append-nil}
-use mathlib.Core.Path.{_≡_, refl, sym, ap, ap₂, subst, _∙_}
+use Prim.Native.Nat.{ℕ, suc, _<_, _≤_, _+_}
+use mathlib.Core.Bool.{Bool, true, false, true≢false}
+use mathlib.Core.List.{List, [], _∷_, _++_, map, append-nil}
+use mathlib.Core.Path.{_≡_, refl, sym, ap, subst, _∙_}
 use lib.Dec.{ltb}
-use lib.ListN.{length, getD, set, take, drop, length-set}
-use lib.Seq.{take-suc, take-suc-set, drop-cons, getD-take, getD-set-other, length-take-le, drop-length}
+use lib.ListN.{length, getD, set, take, length-set}
+use lib.Seq.{getD-set-other}
 use native.Mathlib.Numerals.{add-one}
 use native.Mathlib.Omega.{arith}
-use Rattle.table.proofs.Chains.{by-bool, pick-yes, pick-no}
+use Rattle.table.proofs.Chains.{pick-yes, pick-no}
 use Rattle.table.proofs.Slots.{length-mapped}
 use Rattle.table.specs.Tests.{_or_, if_then_else_, insert}
 use Rattle.table.specs.declared.ProcSlot.{ProcSlot}
+use Rattle.delivery.proofs.Slots.{no-one, numbers-take, numbers-take-set, rest, rest-all, rest-cons, rest-none}
 use Rattle.delivery.specs.Targets.{numbers}
-
-abbrev pub no-one : ProcSlot
-no-one = record { 0 = 0 }
-
--- ---- lists of slots as lists of numbers
-
-pub numbers-append : (l m : List ProcSlot) → numbers (l ++ m) ≡ numbers l ++ numbers m
-numbers-append [] m = refl
-numbers-append (x ∷ l) m = ap (λ r. x .0 ∷ r) (numbers-append l m)
-
--- one slot more
-pub numbers-take : (l : List ProcSlot) (i : ℕ) → i < length l → (m : List ℕ) → numbers (take (suc i) l) ++ m ≡ numbers (take i l) ++ (getD l i no-one .0 ∷ m)
-numbers-take l i h m =
-    ap (λ r. numbers r ++ m) (take-suc l i no-one h)
-    ∙ ap (λ r. r ++ m) (numbers-append (take i l) (getD l i no-one ∷ []))
-    ∙ append-assoc (numbers (take i l)) (getD l i no-one .0 ∷ []) m
-
-pub numbers-take-set : (l : List ProcSlot) (i : ℕ) (x : ProcSlot) → i < length l → (m : List ℕ) → numbers (take (suc i) (set l i x)) ++ m ≡ numbers (take i l) ++ (x .0 ∷ m)
-numbers-take-set l i x h m =
-    ap (λ r. numbers r ++ m) (take-suc-set l i x h)
-    ∙ ap (λ r. r ++ m) (numbers-append (take i l) (x ∷ []))
-    ∙ append-assoc (numbers (take i l)) (x .0 ∷ []) m
-
--- what is left of the first len slots from i on
-unfoldable pub rest : ℕ → List ProcSlot → ℕ → List ℕ
-rest len l i = numbers (drop i (take len l))
-
-pub rest-all : (len : ℕ) (l : List ProcSlot) → rest len l 0 ≡ numbers (take len l)
-unfolding rest
-rest-all len l = refl
-
-pub rest-cons : (len : ℕ) (l : List ProcSlot) (i : ℕ) → i < len → len ≤ length l → rest len l i ≡ getD l i no-one .0 ∷ rest len l (suc i)
-unfolding rest
-rest-cons len l i h k =
-    ap numbers (drop-cons (take len l) i no-one (omega (arith, length-take-le len l k)))
-    ∙ ap (λ (x : ProcSlot). x .0 ∷ numbers (drop (suc i) (take len l))) (getD-take len l i no-one h)
-
-pub rest-none : (len : ℕ) (l : List ProcSlot) → len ≤ length l → rest len l len ≡ []
-unfolding rest
-rest-none len l k = ap numbers (ap (λ n. drop n (take len l)) (sym (length-take-le len l k)) ∙ drop-length (take len l))
 
 -- ---- the loop
 

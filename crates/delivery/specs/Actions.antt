@@ -1,5 +1,5 @@
--- The definitions of `table` read a view. The code takes one process, and whether it is the init of its own namespace:
--- these say the same of them.
+-- What a signal does, by the few things that the definition reads of its target: whether it lives, whether it is the init of
+-- its own namespace, that namespace, and its handled signals.
 use Prim.Native.Nat.{ℕ}
 use mathlib.Core.Bool.{Bool, not}
 use lib.Dec.{eqb}
@@ -19,17 +19,17 @@ lives p = not (eqb (pid-at p 0) 0) and not (is-ended (p .state))
 abbrev pub is-forced : ℕ → Bool
 is-forced s = eqb s sigkill or eqb s sigstop
 
--- what 9 or 19 does to it
-abbrev pub forced-from : Process → Bool → ℕ → ℕ → Action
-forced-from p init from s = if init and eqb (p .own .0) from then Nothing else default-action s
+-- what 9 or 19 does to a process of the namespace `own`
+abbrev pub forced-by : Bool → ℕ → ℕ → ℕ → Action
+forced-by init own from s = if init and eqb own from then Nothing else default-action s
 
--- what a signal does that can be handled
-abbrev pub plain-from : Process → Bool → ℕ → Action
-plain-from p init s = if has (p .handled) s then Pend else (if init then Nothing else default-action s)
+-- what another signal does to one that handles these
+abbrev pub plain-by : Bool → ℕ → ℕ → Action
+plain-by init handled s = if has handled s then Pend else (if init then Nothing else default-action s)
 
 -- what a signal does
-abbrev pub action-from : Process → Bool → ℕ → ℕ → Action
-action-from p init from s =
-    if eqb s 0 or not (lives p) then Nothing
+abbrev pub action-by : Bool → Bool → ℕ → ℕ → ℕ → ℕ → Action
+action-by living init own handled from s =
+    if eqb s 0 or not living then Nothing
     else (if eqb s sigcont then Resume
-    else (if is-forced s then forced-from p init from s else plain-from p init s))
+    else (if is-forced s then forced-by init own from s else plain-by init handled s))

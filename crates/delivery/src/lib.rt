@@ -19,18 +19,19 @@ use tree::levels;
 use tree::seen;
 use tree::ups;
 ghost use mathlib.Core.Path.{_≡_};
+ghost use Prim.Native.Nat.{ℕ, _<_, _≤_, _+_};
 ghost use lib.Dec.{ltb};
-ghost use Prim.Native.Nat.{_<_, _≤_, _+_};
+ghost use Rattle.table.proofs.Slots.{ReadAt};
 ghost use Rattle.table.specs.Calls.{others as others-of};
-ghost use Rattle.table.specs.Delivery.{resumed as as-resumed, with-pending as as-pending};
+ghost use Rattle.table.specs.Delivery.{action-on as action-in, resumed as as-resumed, with-pending as as-pending};
 ghost use Rattle.table.specs.Limits.{signals, process-slots};
-ghost use Rattle.table.specs.Read.{view};
+ghost use Rattle.table.specs.Read.{View, view, is-init as is-init-in};
 ghost use Rattle.table.specs.Records.{with-state};
 ghost use Rattle.table.specs.Tests.{_or_, insert};
 ghost use Rattle.table.specs.declared.State.the-variants.{Stopped};
 ghost use Rattle.tree.specs.Tree.{slot-in, level-in};
+ghost use Rattle.delivery.specs.Actions.{lives, is-forced, forced-by, plain-by};
 ghost use Rattle.delivery.specs.Targets.{pids-of, pid-in, listed, other-from, Lists};
-ghost use Rattle.delivery.specs.Actions.{is-forced, forced-from, plain-from, action-from, lives};
 
 // ---- what a signal does to a process
 
@@ -56,7 +57,7 @@ fn is_forced(s: u8) -> bool
 
 // To an init 9 and 19 act only from a namespace above.
 fn forced_action(p: Process, init: bool, from: NsSlot, s: u8) -> Action
-    ensures { λ r. ⌜ r ≡ forced-from p init (from .0) s ⌝ }
+    ensures { λ r. ⌜ r ≡ forced-by init (p .own .0) (from .0) s ⌝ }
 {
     let own = p.own;
     if init && own.0 == from.0 {
@@ -67,7 +68,7 @@ fn forced_action(p: Process, init: bool, from: NsSlot, s: u8) -> Action
 
 // A signal that can be handled. Unhandled, it does nothing to an init.
 fn plain_action(p: Process, init: bool, s: u8) -> Action
-    ensures { λ r. ⌜ r ≡ plain-from p init s ⌝ }
+    ensures { λ r. ⌜ r ≡ plain-by init (p .handled) s ⌝ }
 {
     if has_signal(p.handled, s) {
         return Action::Pend;
@@ -80,7 +81,7 @@ fn plain_action(p: Process, init: bool, s: u8) -> Action
 
 // What a signal does to a process, sent from a namespace; init says whether it is the init of its own.
 pub fn action_on(p: Process, init: bool, from: NsSlot, s: u8) -> Action
-    ensures { λ r. ⌜ r ≡ action-from p init (from .0) s ⌝ }
+    ensures { λ r. ⌜ ((v : View) (i : ℕ) → ReadAt v i p → init ≡ is-init-in v i → r ≡ action-in v (from .0) i s) ⌝ }
 {
     if s == 0 {
         return Action::Nothing;
@@ -99,7 +100,7 @@ pub fn action_on(p: Process, init: bool, from: NsSlot, s: u8) -> Action
 
 // ---- the target once it has been done
 
-fn stopped(p: Process) -> Process
+pub fn stopped(p: Process) -> Process
     ensures { λ r. ⌜ r ≡ with-state p Stopped ⌝ }
 {
     let pids = p.pids;
@@ -110,7 +111,7 @@ fn stopped(p: Process) -> Process
     }
 }
 
-fn with_pending(mut p: Process, s: u8) -> Process
+pub fn with_pending(mut p: Process, s: u8) -> Process
     requires { ⌜ s < signals ⌝ }
     ensures { λ r. ⌜ r ≡ as-pending p s ⌝ }
 {
@@ -119,7 +120,7 @@ fn with_pending(mut p: Process, s: u8) -> Process
 }
 
 // It runs, and the signal is pending too if handled.
-fn resumed(p: Process) -> Process
+pub fn resumed(p: Process) -> Process
     ensures { λ r. ⌜ r ≡ as-resumed p ⌝ }
 {
     let pids = p.pids;
@@ -132,6 +133,17 @@ fn resumed(p: Process) -> Process
         return with_pending(q, SIGCONT);
     }
     q
+}
+
+// ---- one target
+
+// Whether the process at a slot is the init of its own namespace.
+pub fn is_init(t: Table, slot: ProcSlot) -> bool
+    ensures { λ r. ⌜ r ≡ is-init-in (view t) (slot .0) ⌝ }
+{
+    let p = t.process(slot);
+    let home = t.namespace(p.own);
+    home.init().0 == slot.0
 }
 
 // ---- whom a caller sees beside itself

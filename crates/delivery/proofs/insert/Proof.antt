@@ -1,3 +1,4 @@
+-- `insert` puts a slot at its place, by the laws of that loop.
 use Prim.Native.Nat.{_-_}
 use mathlib.Core.Logic.{⊎-elim}
 use borrow.Author.Needs.{needs}
@@ -5,10 +6,6 @@ use Rattle.delivery.proofs.Inserts.{Placing, insert-loops}
 use Rattle.delivery.specs.Targets.{pid-in}
 use Rattle.delivery.proofs.insert.Statement.{statement}
 use Rattle.delivery.proofs.insert.Tie as tie
-use Rattle.delivery.proofs.insert.Reads as reads
-use Rattle.delivery.proofs.insert.Lts as lts
-use Rattle.delivery.proofs.moves_up.Reads as moves-up-reads
-use Rattle.delivery.proofs.pid_of.Reads as pid-of-reads
 
 abbrev Inv-loop : tie.InvT-loop
 Inv-loop pids slots₀ len pid held₀ placed₀ i₀ slots held placed i =
@@ -17,47 +14,36 @@ Inv-loop pids slots₀ len pid held₀ placed₀ i₀ slots held placed i =
 abbrev μ-loop : tie.MeasureT-loop
 μ-loop pids slots₀ len pid held₀ placed₀ i₀ slots held placed i = len - i
 
--- src/lib.rt:188:9
 pid-of-requires : tie.Need-pid-of-requires Inv-loop μ-loop
 pid-of-requires c κs = search needs
 
--- src/lib.rt:192:5
 loop-holds : tie.Need-loop-holds Inv-loop μ-loop
 loop-holds c = search insert-loops
 
--- src/lib.rt:193:21
 array-copy-out-other : tie.Need-array-copy-out-other Inv-loop μ-loop
 array-copy-out-other c = search needs
 
--- src/lib.rt:194:12
 moves-up-requires : tie.Need-moves-up-requires Inv-loop μ-loop
 moves-up-requires c κs = search needs
 
--- src/lib.rt:195:13
 array-set-from-slots : tie.Need-array-set-from-slots Inv-loop μ-loop
 array-set-from-slots c = search needs
 
--- src/lib.rt:199:9
 add-i : tie.Need-add-i Inv-loop μ-loop
 add-i c = search needs
 
--- src/lib.rt:192:5
 loop-less : tie.Need-loop-less Inv-loop μ-loop
 loop-less c = search needs
 
--- src/lib.rt:192:5
 loop-again : tie.Need-loop-again Inv-loop μ-loop
 loop-again c = ⊎-elim (λ w. search insert-loops) (λ w. search insert-loops) (c .if1 .came)
 
--- src/lib.rt:201:5
 array-set-from-slots-2 : tie.Need-array-set-from-slots-2 Inv-loop μ-loop
 array-set-from-slots-2 c = search needs
 
--- src/lib.rt:204:14
 add-t21 : tie.Need-add-t21 Inv-loop μ-loop
 add-t21 c = search needs
 
--- src/lib.rt:182:1
 returns : tie.Need-returns Inv-loop μ-loop
 returns c = (search needs, search insert-loops)
 

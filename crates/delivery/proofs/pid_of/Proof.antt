@@ -4,7 +4,6 @@ use mathlib.Core.Path.{_≡_, ap}
 use lib.ListN.{getD}
 use Rattle.table.proofs.Slots.{array-past}
 use Rattle.table.specs.Read.{no-pid}
-use Rattle.table.specs.declared.Pid.{Pid}
 use Rattle.delivery.proofs.pid_of.Statement.{statement}
 use Rattle.delivery.proofs.pid_of.Tie as tie
 
