@@ -2,16 +2,16 @@
 use Prim.Native.Nat.{ℕ, _<_}
 use mathlib.Core.Bool.{Bool, not, So}
 use mathlib.Core.List.{map}
-use mathlib.Core.Path.{_≡_, sym, ap, ap₂, _∙_}
+use mathlib.Core.Path.{_≡_, refl, sym, ap, ap₂, _∙_}
 use lib.Dec.{eqb}
 use lib.ListN.{length, length-map, getD}
 use native.Mathlib.Decide.{decLt}
 use native.Mathlib.Omega.{arith}
+use Rattle.ending.specs.Ending.{Ends}
 use Rattle.table.proofs.Chains.{by-bool, pick-yes, or-true-later, not-no}
 use Rattle.table.proofs.Laws.Facts.{Facts}
 use Rattle.table.proofs.Slots.{ReadAt, read-at, process-within, put-past}
 use Rattle.table.specs.Delivery.{action-on, act, deliver, resumed, with-pending}
-use Rattle.table.specs.Ends.{end}
 use Rattle.table.specs.Fresh.{empty-process}
 use Rattle.table.specs.Limits.{process-slots}
 use Rattle.table.specs.Read.{View, view, process, namespace, init-of, is-init, living}
@@ -25,6 +25,7 @@ use Rattle.table.specs.declared.Process.{Process}
 use Rattle.table.specs.declared.State.the-variants.{Stopped}
 use Rattle.table.specs.declared.Table.{Table}
 use Rattle.delivery.specs.Actions.{lives, action-by}
+use Rattle.delivery.specs.Delivery.{act-by, deliver-by, Delivers}
 
 -- ---- reading
 
@@ -77,31 +78,33 @@ pub target : (t : Table) (from i s : ℕ) (p : Process) (b : Bool) (a : Action) 
 target t from i s p b a at init told = record { at = at; is-action = told (view t) i (read-at t i p at) init }
 
 module _ (t : Table) (from i s : ℕ) (p : Process) (a : Action) (w : Target t from i s p a) where
-  acts : (c : Action) → a ≡ c → act t i s c ≡ deliver t from i s
-  unfolding deliver
-  acts c e = ap (act t i s) (sym e ∙ w .is-action)
-
-  pub does-nothing : a ≡ Nothing → t ≡ deliver t from i s
-  unfolding act
-  does-nothing e = acts Nothing e
+  -- u is the table once the action has been done
+  leaves : (c : Action) (u : Table) → a ≡ c → u ≡ act-by t i s c → (Facts (view t) → u ≡ act t i s c) → Delivers t from i s u
+  unfolding deliver deliver-by
+  leaves c u e x y =
+      record { always = x ∙ ap (act-by t i s) (sym e ∙ w .is-action); as-defined = λ f. y f ∙ ap (act t i s) (sym e ∙ w .is-action) }
 
   -- q is the target changed, and u the table with it put back
   puts : (h : Process → Process) (q : Process) (u : Table) → length (t .processes) ≡ process-slots → q ≡ h p → u ≡ put t i q → u ≡ put t i (h (process t i))
   puts h q u k x y = y ∙ ap (put t i) x ∙ put-read t i p h k (w .at)
 
-  pub does-resume : (q : Process) (u : Table) → a ≡ Resume → length (t .processes) ≡ process-slots → q ≡ resumed p → u ≡ put t i q → u ≡ deliver t from i s
-  unfolding act
-  does-resume q u e k x y = puts resumed q u k x y ∙ acts Resume e
+  pub does-nothing : a ≡ Nothing → Delivers t from i s t
+  unfolding act act-by
+  does-nothing e = leaves Nothing t e refl (λ f. refl)
 
-  pub does-stop : (q : Process) (u : Table) → a ≡ Stop → length (t .processes) ≡ process-slots → q ≡ with-state p Stopped → u ≡ put t i q → u ≡ deliver t from i s
-  unfolding act
-  does-stop q u e k x y = puts (λ z. with-state z Stopped) q u k x y ∙ acts Stop e
+  pub does-resume : (q : Process) (u : Table) → a ≡ Resume → length (t .processes) ≡ process-slots → q ≡ resumed p → u ≡ put t i q → Delivers t from i s u
+  unfolding act act-by
+  does-resume q u e k x y = let d = puts resumed q u k x y in leaves Resume u e d (λ f. d)
 
-  pub does-pend : (q : Process) (u : Table) → a ≡ Pend → length (t .processes) ≡ process-slots → q ≡ with-pending p s → u ≡ put t i q → u ≡ deliver t from i s
-  unfolding act
-  does-pend q u e k x y = puts (λ z. with-pending z s) q u k x y ∙ acts Pend e
+  pub does-stop : (q : Process) (u : Table) → a ≡ Stop → length (t .processes) ≡ process-slots → q ≡ with-state p Stopped → u ≡ put t i q → Delivers t from i s u
+  unfolding act act-by
+  does-stop q u e k x y = let d = puts (λ z. with-state z Stopped) q u k x y in leaves Stop u e d (λ f. d)
 
-  -- u is the table once the target has ended
-  pub does-finish : (u : Table) → a ≡ Finish → (Facts (view t) → So (living (view t) i) → u ≡ end t i (Signaled s)) → Facts (view t) → u ≡ deliver t from i s
-  unfolding act
-  does-finish u e x f = x f (finish-lives (view t) from i s (sym (w .is-action) ∙ e)) ∙ acts Finish e
+  pub does-pend : (q : Process) (u : Table) → a ≡ Pend → length (t .processes) ≡ process-slots → q ≡ with-pending p s → u ≡ put t i q → Delivers t from i s u
+  unfolding act act-by
+  does-pend q u e k x y = let d = puts (λ z. with-pending z s) q u k x y in leaves Pend u e d (λ f. d)
+
+  pub does-finish : (u : Table) → a ≡ Finish → Ends t i (Signaled s) u → Delivers t from i s u
+  unfolding act act-by
+  does-finish u e x =
+      leaves Finish u e (x .always) (λ f. x .as-defined f (finish-lives (view t) from i s (sym (w .is-action) ∙ e)))

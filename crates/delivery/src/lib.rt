@@ -1,4 +1,5 @@
 // The delivery of a signal, to one process and to several, and whom a caller sees beside itself.
+use ending::end_process;
 use signals::SIGCONT;
 use signals::SIGKILL;
 use signals::SIGSTOP;
@@ -6,6 +7,7 @@ use signals::default_action;
 use signals::has_signal;
 use signals::with_signal;
 use table::Action;
+use table::End;
 use table::NAMESPACE_SLOTS;
 use table::NsSlot;
 use table::PROCESS_SLOTS;
@@ -31,6 +33,7 @@ ghost use Rattle.table.specs.Tests.{_or_, insert};
 ghost use Rattle.table.specs.declared.State.the-variants.{Stopped};
 ghost use Rattle.tree.specs.Tree.{slot-in, level-in};
 ghost use Rattle.delivery.specs.Actions.{lives, is-forced, forced-by, plain-by};
+ghost use Rattle.delivery.specs.Delivery.{Delivers, DeliversAll};
 ghost use Rattle.delivery.specs.Targets.{pids-of, pid-in, listed, other-from, Lists};
 
 // ---- what a signal does to a process
@@ -100,7 +103,7 @@ pub fn action_on(p: Process, init: bool, from: NsSlot, s: u8) -> Action
 
 // ---- the target once it has been done
 
-pub fn stopped(p: Process) -> Process
+fn stopped(p: Process) -> Process
     ensures { λ r. ⌜ r ≡ with-state p Stopped ⌝ }
 {
     let pids = p.pids;
@@ -111,7 +114,7 @@ pub fn stopped(p: Process) -> Process
     }
 }
 
-pub fn with_pending(mut p: Process, s: u8) -> Process
+fn with_pending(mut p: Process, s: u8) -> Process
     requires { ⌜ s < signals ⌝ }
     ensures { λ r. ⌜ r ≡ as-pending p s ⌝ }
 {
@@ -120,7 +123,7 @@ pub fn with_pending(mut p: Process, s: u8) -> Process
 }
 
 // It runs, and the signal is pending too if handled.
-pub fn resumed(p: Process) -> Process
+fn resumed(p: Process) -> Process
     ensures { λ r. ⌜ r ≡ as-resumed p ⌝ }
 {
     let pids = p.pids;
@@ -138,12 +141,28 @@ pub fn resumed(p: Process) -> Process
 // ---- one target
 
 // Whether the process at a slot is the init of its own namespace.
-pub fn is_init(t: Table, slot: ProcSlot) -> bool
+fn is_init(t: Table, slot: ProcSlot) -> bool
     ensures { λ r. ⌜ r ≡ is-init-in (view t) (slot .0) ⌝ }
 {
     let p = t.process(slot);
     let home = t.namespace(p.own);
     home.init().0 == slot.0
+}
+
+// Delivers a signal that a process of the namespace `from` sends. An empty slot is passed over, as an ended target is.
+pub fn deliver(t: Table, from: NsSlot, slot: ProcSlot, s: u8) -> Table
+    requires { ⌜ s < signals ⌝ }
+    ensures { λ r. ⌜ Delivers t (from .0) (slot .0) s r ⌝ }
+{
+    let p = t.process(slot);
+    let action = action_on(p, is_init(t, slot), from, s);
+    match action {
+        Action::Nothing => t,
+        Action::Resume => t.with_process(slot, resumed(p)),
+        Action::Stop => t.with_process(slot, stopped(p)),
+        Action::Finish => end_process(t, slot, End::Signaled(s)),
+        Action::Pend => t.with_process(slot, with_pending(p, s)),
+    }
 }
 
 // ---- whom a caller sees beside itself
@@ -264,4 +283,23 @@ pub fn others(t: Table, caller: ProcSlot) -> Targets
         i += 1;
     }
     found
+}
+
+// ---- several targets
+
+// Delivers a signal to each of a list, one after the other. One that has ended or been removed by then is passed over.
+pub fn deliver_all(t: Table, from: NsSlot, found: Targets, s: u8) -> Table
+    requires { ⌜ (s < signals) × (found .len ≤ process-slots) ⌝ }
+    ensures { λ r. ⌜ DeliversAll t (from .0) (listed found) s r ⌝ }
+{
+    let slots = found.slots;
+    let count = found.len;
+    let mut u = t;
+    let mut turn: usize = 0;
+    while turn < count {
+        let slot = slots[turn];
+        u = deliver(u, from, slot, s);
+        turn += 1;
+    }
+    u
 }
