@@ -1,9 +1,10 @@
 -- For a `return` after a chain of tests. The definition joins the same tests by `and`, `or`, `implies`, `agree`, `not` and
 -- `if`, and `search chains depth 12` goes down the definition by what the tests on the way told.
-use Prim.Native.Nat.{ℕ}
+use Prim.Native.Nat.{ℕ, _<_, _≤_}
 use mathlib.Core.Bool.{Bool, true, false, not, true≢false, false≢true}
 use mathlib.Core.Path.{_≡_, refl, sym, _∙_}
-use lib.Dec.{eqb}
+use native.Mathlib.Omega.{arith}
+use lib.Dec.{eqb, ltb, leb}
 use borrow.Author.Tests.{not-true, not-false, eq-eqb, ne-eqb, lt-ltb, le-ltb, le-leb, lt-leb}
 use Rattle.table.specs.Tests.{_and_, _or_, _implies_, agree, if_then_else_}
 
@@ -146,13 +147,29 @@ told-equal a b k p q = eq-eqb b k (sym p ∙ q)
 pub told-other : (a b k : ℕ) → a ≡ b → (a ≡ k → ⊥) → eqb b k ≡ false
 told-other a b k p q = ne-eqb b k (λ e. q (p ∙ e))
 
-pub says : (b c : Bool) → b ≡ c → c ≡ b
-says b c p = sym p
+pub told-less : (a b k : ℕ) → a ≡ b → a < k → ltb b k ≡ true
+told-less a b k p h = lt-ltb b k (omega arith)
+
+pub told-no-less : (a b k : ℕ) → a ≡ b → k ≤ a → ltb b k ≡ false
+told-no-less a b k p h = le-ltb b k (omega arith)
+
+pub told-at-most : (a b k : ℕ) → a ≡ b → a ≤ k → leb b k ≡ true
+told-at-most a b k p h = le-leb b k (omega arith)
+
+pub told-more : (a b k : ℕ) → a ≡ b → k < a → leb b k ≡ false
+told-more a b k p h = lt-leb b k (omega arith)
+
+-- a `return true` or `return false` asks the equation the other way round
+pub says-true : (b : Bool) → b ≡ true → true ≡ b
+says-true b p = sym p
+
+pub says-false : (b : Bool) → b ≡ false → false ≡ b
+says-false b p = sym p
 
 pub same {ℓ} : {A : Type ℓ} {a : A} → a ≡ a
 same = refl
 
 -- the tests on numbers, and on callees' results
-pub ruleset facts = (same, eq-eqb, ne-eqb, lt-ltb, le-ltb, le-leb, lt-leb, told, told-not, told-yes, told-equal, told-other)
+pub ruleset facts = (same, eq-eqb, ne-eqb, lt-ltb, le-ltb, le-leb, lt-leb, told, told-not, told-yes, told-equal, told-other, told-less, told-no-less, told-at-most, told-more)
 
-pub ruleset chains = (facts, if-yes, if-no, and-true, and-false, and-false-later, or-true, or-true-later, or-false, implies-void, implies-true, implies-false, agree-both, agree-neither, agree-left, agree-right, not-no, not-yes, and-goes, and-first, or-goes, implies-goes, says)
+pub ruleset chains = (facts, if-yes, if-no, and-true, and-false, and-false-later, or-true, or-true-later, or-false, implies-void, implies-true, implies-false, agree-both, agree-neither, agree-left, agree-right, not-no, not-yes, and-goes, and-first, or-goes, implies-goes, says-true, says-false)

@@ -3,7 +3,7 @@
 -- three needs.
 use Prim.Native.Nat.{ℕ, zero, suc, _<_, _≤_, _+_}
 use mathlib.Core.Bool.{Bool, true, false}
-use mathlib.Core.Path.{_≡_, refl, sym, ap, subst, _∙_}
+use mathlib.Core.Path.{_≡_, refl, sym, ap, ap₂, subst, _∙_}
 use lib.Dec.{eqb, ltb}
 use native.Mathlib.Numerals.{add-one}
 use native.Mathlib.Omega.{arith}
@@ -45,3 +45,21 @@ pub least-by-turns : (p : ℕ → Bool) (f : ℕ → ℕ) (d n : ℕ) → turns 
 unfolding turns least
 least-by-turns p f d zero = refl
 least-by-turns p f d (suc n) = ap (better p f d n) (least-by-turns p f d n)
+
+-- The loop keeps beside the best slot its key, so that no turn reads the table for it: u is made of both.
+module _ {A : Type 0} (make : ℕ → ℕ → A) (slot key : A → ℕ) (p : ℕ → Bool) (f : ℕ → ℕ) (d : ℕ) where
+  abbrev pub better-with-key : ℕ → A → A
+  better-with-key i u = if p i and (eqb (slot u) d or ltb (f i) (key u)) then make i (f i) else u
+
+  chosen : (b : Bool) (x y : ℕ) → (if b then make x (f x) else make y (f y)) ≡ make (if b then x else y) (f (if b then x else y))
+  chosen true x y = refl
+  chosen false x y = refl
+
+  pub least-with-key : ((a k : ℕ) → slot (make a k) ≡ a) → ((a k : ℕ) → key (make a k) ≡ k) → (n : ℕ) → turns n better-with-key (make d (f d)) ≡ make (least p f d n) (f (least p f d n))
+  unfolding turns least
+  least-with-key s k zero = refl
+  least-with-key s k (suc n) =
+      let b : ℕ = least p f d n in
+      ap (better-with-key n) (least-with-key s k n)
+      ∙ ap₂ (λ (x y : ℕ). if p n and (eqb x d or ltb (f n) y) then make n (f n) else make b (f b)) (s b (f b)) (k b (f b))
+      ∙ chosen (p n and (eqb b d or ltb (f n) (f b))) n b

@@ -4,8 +4,8 @@ use Rattle.table.proofs.Slots.{put-namespace-past}
 use Rattle.table.proofs.Table.with_namespace.Statement.{statement}
 use Rattle.table.proofs.Table.with_namespace.Tie as tie
 
-cast-i : tie.Need-cast-i
-cast-i c = search needs
+cast-at : tie.Need-cast-at
+cast-at c = search needs
 
 mul-n : tie.Need-mul-n
 mul-n c = search needs
@@ -20,4 +20,4 @@ returns-2 : tie.Need-returns-2
 returns-2 c = search put-namespace-past
 
 pub with-namespace-spec : {M : Type 1} → statement M
-with-namespace-spec = tie.close (tie.spec cast-i mul-n element-set-from-n returns returns-2)
+with-namespace-spec = tie.close (tie.spec cast-at mul-n element-set-from-n returns returns-2)

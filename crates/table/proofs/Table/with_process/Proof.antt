@@ -4,8 +4,8 @@ use Rattle.table.proofs.Slots.{put-past}
 use Rattle.table.proofs.Table.with_process.Statement.{statement}
 use Rattle.table.proofs.Table.with_process.Tie as tie
 
-cast-i : tie.Need-cast-i
-cast-i c = search needs
+cast-at : tie.Need-cast-at
+cast-at c = search needs
 
 mul-p : tie.Need-mul-p
 mul-p c = search needs
@@ -20,4 +20,4 @@ returns-2 : tie.Need-returns-2
 returns-2 c = search put-past
 
 pub with-process-spec : {M : Type 1} → statement M
-with-process-spec = tie.close (tie.spec cast-i mul-p element-set-from-p returns returns-2)
+with-process-spec = tie.close (tie.spec cast-at mul-p element-set-from-p returns returns-2)
