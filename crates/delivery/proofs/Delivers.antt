@@ -1,5 +1,6 @@
--- For the loop that delivers to each of a list. The invariant is `Delivering t from l len s u i`: from a table that stands up to
--- unheld namespaces, what is left to do to u is all that was to be done to t.
+-- For the loop that delivers to each of the first len slots of an array. The invariant is `Delivering t from s len l u i`: what is
+-- left to do to u, from i on, makes of it what all of them make of t. `Going` says so of the definitions, which need the facts of
+-- a sound table at each delivery.
 use Prim.Native.Nat.{ℕ, suc, _<_, _≤_, _+_}
 use mathlib.Core.List.{List, [], _∷_, map}
 use mathlib.Core.Path.{_≡_, refl, sym, ap, subst, _∙_}

@@ -9,7 +9,7 @@ use lib.ListN.{length, getD}
 use native.Mathlib.Numerals.{add-one}
 use native.Mathlib.Omega.{arith}
 use Rattle.table.proofs.Slots.{read-at}
-use Rattle.table.specs.Calls.{others}
+use Rattle.table.specs.Calls.{others, pid-to}
 use Rattle.table.specs.Fresh.{empty-process}
 use Rattle.table.specs.Limits.{process-slots}
 use Rattle.table.specs.Read.{View, view, process, seen, pid-seen, all-seen}
@@ -26,19 +26,23 @@ use Rattle.delivery.specs.declared.Targets.{Targets}
 
 -- seen by the caller, and neither the caller nor number 1 there
 abbrev pub is-other : View → ℕ → ℕ → Bool
-is-other v c i = seen v (v .own c) i and (not (eqb i c) and not (eqb (pid-seen v (v .own c) i) 1))
+is-other v c i = seen v (v .own c) i and (not (eqb i c) and not (eqb (pid-to v c i) 1))
 
-pub others-ascending : (v : View) (c : ℕ) → ascending (is-other v c) (pid-seen v (v .own c)) process-slots ≡ others v c
+-- those of the slots below n, by ascending number
+abbrev pub others-below : View → ℕ → ℕ → List ℕ
+others-below v c n = ascending (is-other v c) (pid-to v c) n
+
+pub others-all : (v : View) (c : ℕ) → others-below v c process-slots ≡ others v c
 unfolding others all-seen
-others-ascending v c = sym (only-ascending (pid-seen v (v .own c)) (λ i. not (eqb i c) and not (eqb (pid-seen v (v .own c) i) 1)) (seen v (v .own c)) process-slots)
+others-all v c = sym (only-ascending (pid-to v c) (λ i. not (eqb i c) and not (eqb (pid-to v c i) 1)) (seen v (v .own c)) process-slots)
 
 pub record Gathering (t : Table) (c n : ℕ) (up : List NsSlot) (levels : List ℕ) (pids : List Pid) (r : Targets) (i : ℕ) : Type 0 where
   pub within : i ≤ process-slots
   pub own : n ≡ view t .own c
   pub ups : slot-in up ≡ view t .up
   pub level : level-in levels ≡ view t .level
-  pub keys : pid-in pids ≡ pid-seen (view t) (view t .own c)
-  pub lists : Lists r (ascending (is-other (view t) c) (pid-seen (view t) (view t .own c)) i)
+  pub keys : pid-in pids ≡ pid-to (view t) c
+  pub lists : Lists r (others-below (view t) c i)
 
 -- p is the caller as it is read, and l its level
 pub gathers-start : (t : Table) (c : ℕ) (p : Process) (up : List NsSlot) (levels : List ℕ) (pids : List Pid) (l : ℕ) (r : Targets)
@@ -67,14 +71,14 @@ module _ (t : Table) (c n : ℕ) (up : List NsSlot) (levels : List ℕ) (pids : 
 
   -- there is room for one more
   pub gathers-room : i < process-slots → r .len < process-slots
-  gathers-room h = omega (arith, w .lists .count, ascending-few (pid-seen (view t) (view t .own c)) (is-other (view t) c) i)
+  gathers-room h = omega (arith, w .lists .count, ascending-few (pid-to (view t) c) (is-other (view t) c) i)
 
   -- u is the list with i put in
   pub gathers-one : (k : ℕ) (b : Bool) (u m : Targets) → i < process-slots → k ≡ pid-in pids i → b ≡ other-from (slot-in up) (level-in levels) n c i k (process t i) → b ≡ true
       → (u .len ≡ r .len + 1) × (listed u ≡ insert (pid-in pids) i (listed r)) → m ≡ u → Gathering t c n up levels pids m (i + 1)
   gathers-one k b u m h e q y x z =
-      let more : ascending (is-other (view t) c) (pid-seen (view t) (view t .own c)) (suc i) ≡ insert (pid-seen (view t) (view t .own c)) i (ascending (is-other (view t) c) (pid-seen (view t) (view t .own c)) i) =
-      ascending-more _ (is-other (view t) c) i (sym (tested k b e q) ∙ y) in
+      let more : others-below (view t) c (suc i) ≡ insert (pid-to (view t) c) i (others-below (view t) c i) =
+      ascending-more (pid-to (view t) c) (is-other (view t) c) i (sym (tested k b e q) ∙ y) in
       rw (add-one, z)
       (record {
         within = omega arith;
@@ -84,7 +88,7 @@ module _ (t : Table) (c n : ℕ) (up : List NsSlot) (levels : List ℕ) (pids : 
         keys = w .keys;
         lists = record {
           fits = omega (arith, gathers-room h, x .0);
-          count = x .0 ∙ add-one _ ∙ ap suc (w .lists .count) ∙ sym (insert-length _ i _) ∙ ap length (sym more);
+          count = x .0 ∙ add-one _ ∙ ap suc (w .lists .count) ∙ sym (insert-length (pid-to (view t) c) i (others-below (view t) c i)) ∙ ap length (sym more);
           list = x .1 ∙ ap₂ (λ (g : ℕ → ℕ) l. insert g i l) (w .keys) (w .lists .list) ∙ sym more;
         };
       })
@@ -99,13 +103,13 @@ module _ (t : Table) (c n : ℕ) (up : List NsSlot) (levels : List ℕ) (pids : 
         ups = w .ups;
         level = w .level;
         keys = w .keys;
-        lists = subst (Lists r) (sym (ascending-same _ (is-other (view t) c) i (sym (tested k b e q) ∙ y))) (w .lists);
+        lists = subst (Lists r) (sym (ascending-same (pid-to (view t) c) (is-other (view t) c) i (sym (tested k b e q) ∙ y))) (w .lists);
       })
 
   pub gathers-all : process-slots ≤ i → Lists r (others (view t) c)
   gathers-all h =
       let k = w .within in
       let e : i ≡ process-slots = omega arith in
-      subst (Lists r) (ap (ascending (is-other (view t) c) (pid-seen (view t) (view t .own c))) e ∙ others-ascending (view t) c) (w .lists)
+      subst (Lists r) (ap (others-below (view t) c) e ∙ others-all (view t) c) (w .lists)
 
 pub ruleset gather-loops = (gathers-start, gathers-room, gathers-one, gathers-none, gathers-all)

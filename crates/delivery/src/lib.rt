@@ -101,7 +101,7 @@ pub fn action_on(p: Process, init: bool, from: NsSlot, s: u8) -> Action
     plain_action(p, init, s)
 }
 
-// ---- the target once it has been done
+// ---- the target afterwards
 
 fn stopped(p: Process) -> Process
     ensures { λ r. ⌜ r ≡ with-state p Stopped ⌝ }
