@@ -7,7 +7,8 @@ use mathlib.Core.Path.{_≡_, refl, sym, ap, subst, _∙_}
 use lib.ListN.{length, getD, take}
 use native.Mathlib.Numerals.{add-one}
 use native.Mathlib.Omega.{arith}
-use Rattle.table.proofs.Keeps.Deliver.{Safe, deliver-sane}
+use Rattle.table.proofs.Keeps.Changes.{deliver-sane}
+use Rattle.table.proofs.Keeps.Deliver.{Safe}
 use Rattle.table.proofs.Laws.Facts.{Sane}
 use Rattle.table.proofs.Slots.{length-mapped}
 use Rattle.table.specs.Delivery.{deliver-all}

@@ -41,17 +41,6 @@ made-or-refused P t c call h p m = go (runs (view t) c) refl
     go true e = rw (step-made t c call h e) (m e)
     go false e = rw (step-refused t c call h e) p
 
--- the levels' edge, at any depth
-pub too-deep : (t : Table) (c : ℕ) → SoundTable t → So (runs (view t) c) → own-level (view t) c ≡ deepest → step t c CloneNew ≡ refused t Enospc
-unfolding make clone-new
-too-deep t c h k e = step-made t c CloneNew h k ∙ rw (eq-eqb (own-level (view t) c) deepest e, clone-new)
-
-pub deep-enough : (t : Table) (c : ℕ) → SoundTable t → So (runs (view t) c) → (own-level (view t) c ≡ deepest → ⊥) → (free-slot (view t) ≡ process-slots → ⊥) → (free-namespace-slot (view t) ≡ namespace-slots → ⊥) → step t c CloneNew .reply .answer ≡ Number (next-pid (view t) (view t .own c))
-unfolding make clone-new _or_
-deep-enough t c h k e p s =
-    ap (λ r. r .reply .answer) (step-made t c CloneNew h k)
-    ∙ rw (ne-eqb (own-level (view t) c) deepest e, ne-eqb (free-slot (view t)) process-slots p, ne-eqb (free-namespace-slot (view t)) namespace-slots s, clone-new)
-
 -- a running process lives
 pub runs-lives : (t : Table) (c : ℕ) → So (runs (view t) c) → So (living (view t) c)
 unfolding runs living
