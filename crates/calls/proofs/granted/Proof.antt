@@ -1,0 +1,14 @@
+use Rattle.table.specs.Answers.{granted}
+use mathlib.Core.Path.{refl}
+use Rattle.calls.proofs.granted.Statement.{statement}
+use Rattle.calls.proofs.granted.Tie as tie
+use Rattle.calls.proofs.granted.Reads as reads
+use Rattle.calls.proofs.granted.Lts as lts
+
+-- src/lib.rt:49:1
+returns : tie.Need-returns
+unfolding granted
+returns c = refl
+
+pub granted-spec : {M : Type 1} → statement M
+granted-spec = tie.close (tie.spec returns)

@@ -1,0 +1,14 @@
+use Rattle.table.specs.Answers.{refused}
+use mathlib.Core.Path.{refl}
+use Rattle.calls.proofs.refused.Statement.{statement}
+use Rattle.calls.proofs.refused.Tie as tie
+use Rattle.calls.proofs.refused.Reads as reads
+use Rattle.calls.proofs.refused.Lts as lts
+
+-- src/lib.rt:36:1
+returns : tie.Need-returns
+unfolding refused
+returns c = refl
+
+pub refused-spec : {M : Type 1} → statement M
+refused-spec = tie.close (tie.spec returns)
