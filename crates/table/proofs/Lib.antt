@@ -7,7 +7,6 @@ pub mod Refused
 pub mod Laws
 pub mod Keeps
 pub mod Sameness
-pub mod Promises
 -- Laws of chains of tests and of loops, each kind once.
 pub mod Chains
 pub mod AllLoops
@@ -18,3 +17,4 @@ pub mod FoldLoops
 pub mod MapLoops
 -- Slots read and put.
 pub mod Slots
+pub mod Promises

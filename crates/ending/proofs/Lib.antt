@@ -1,0 +1,7 @@
+-- Laws that belong to no one function.
+pub mod Members
+pub mod Marks
+pub mod Falling
+pub mod Passes
+pub mod Fallen
+pub mod Freeing
