@@ -1,6 +1,10 @@
 // The ten calls, by a caller that may call, and `step`: one call on any table, by any caller. Each call tests for its
 // refusals in document 01's order.
 use arguments::cannot_handle;
+use arguments::exit_status;
+use arguments::is_signal;
+use arguments::names_everyone;
+use arguments::names_group;
 use arguments::names_one;
 use arguments::natural_of;
 use arguments::signal_of;
@@ -8,8 +12,17 @@ use signals::SIGNALS;
 use signals::lowest_signal;
 use signals::with_signal;
 use signals::without_signal;
+use stubs::deliver;
+use stubs::deliver_all;
+use stubs::end_process;
+use stubs::free_unheld;
+use stubs::is_sound;
+use stubs::others;
 use table::Answer;
+use table::Call;
+use table::End;
 use table::NO_SLOT;
+use table::NsSlot;
 use table::Outcome;
 use table::PROCESS_SLOTS;
 use table::Pid;
@@ -17,18 +30,29 @@ use table::ProcSlot;
 use table::Process;
 use table::Refusal;
 use table::Reply;
+use table::State;
 use table::Table;
+use table::empty_process;
 use tree::find;
 use tree::levels;
 use tree::pid_in;
 use tree::ups;
+ghost use mathlib.Core.Bool.{So, not};
 ghost use mathlib.Core.Path.{_≡_};
 ghost use Prim.Native.Nat.{_<_};
+ghost use lib.Dec.{eqb, ltb};
+ghost use mathlib.Core.List.{[], _∷_};
+ghost use Rattle.calls.specs.Kills.{sends, named-only};
 ghost use Rattle.table.specs.Answers.{refused as refused-as, granted as granted-as, answers as answers-as};
-ghost use Rattle.table.specs.Calls.{own-level, named as named-in, getpid as getpid-of, getppid as getppid-of, handle-on, handle-off, handle as handle-of, poll as poll-of};
-ghost use Rattle.table.specs.Limits.{signals};
-ghost use Rattle.table.specs.Read.{view};
-ghost use Rattle.table.specs.Tests.{if_then_else_};
+ghost use Rattle.table.specs.Calls.{own-level, named as named-in, clone as clone-of, clone-new as clone-new-of, unshare as unshare-of, set-children, setns as setns-of, others as others-of, getpid as getpid-of, getppid as getppid-of, kill as kill-of, exit as exit-of, wait as wait-of, handle-on, handle-off, handle as handle-of, poll as poll-of};
+ghost use Rattle.table.specs.Freeing.{freed};
+ghost use Rattle.table.specs.Fresh.{empty-process};
+ghost use Rattle.table.specs.Limits.{process-slots, signals};
+ghost use Rattle.table.specs.Read.{view, pid-at, is-ended, child-of};
+ghost use Rattle.table.specs.Records.{put};
+ghost use Rattle.table.specs.Sound.{sound};
+ghost use Rattle.table.specs.Step.{runs, make as make-of, step as step-of};
+ghost use Rattle.table.specs.Tests.{_and_, _or_, if_then_else_, any, least};
 
 // ---- answers
 
@@ -115,6 +139,203 @@ pub fn getppid(t: Table, caller: ProcSlot) -> Outcome
     answers(t, pid.0)
 }
 
+// ---- clone
+
+pub fn clone(t: Table, caller: ProcSlot) -> Outcome
+    ensures { λ r. ⌜ (So (sound t) → So (runs (view t) (caller .0)) → r ≡ clone-of t (caller .0)) ⌝ }
+{
+    refused(t, Refusal::Eagain)
+}
+
+pub fn clone_new(t: Table, caller: ProcSlot) -> Outcome
+    ensures { λ r. ⌜ (So (sound t) → So (runs (view t) (caller .0)) → r ≡ clone-new-of t (caller .0)) ⌝ }
+{
+    refused(t, Refusal::Eagain)
+}
+
+// ---- unshare and setns
+
+// The caller's children's namespace becomes n, with or without the mark; the caller's own stays.
+fn set_children(t: Table, caller: ProcSlot, n: NsSlot, mark: bool) -> Table
+    ensures { λ r. ⌜ r ≡ set-children t (caller .0) (n .0) mark ⌝ }
+{
+    let p = t.process(caller);
+    let q = Process {
+        children: n,
+        unshared: mark,
+        ..p
+    };
+    free_unheld(t.with_process(caller, q))
+}
+
+pub fn unshare(t: Table, caller: ProcSlot) -> Outcome
+    ensures { λ r. ⌜ (So (sound t) → So (runs (view t) (caller .0)) → r ≡ unshare-of t (caller .0)) ⌝ }
+{
+    refused(t, Refusal::Eagain)
+}
+
+pub fn setns(t: Table, caller: ProcSlot, n: i32) -> Outcome
+    ensures { λ r. ⌜ r ≡ setns-of t (caller .0) n ⌝ }
+{
+    let slot = named(t, caller, n);
+    if slot.0 == PROCESS_SLOTS as u8 {
+        return refused(t, Refusal::Esrch);
+    }
+    let target = t.process(slot);
+    if target.has_ended() {
+        return refused(t, Refusal::Esrch);
+    }
+    let own = target.own;
+    let p = t.process(caller);
+    answers(set_children(t, caller, own, p.unshared), 0)
+}
+
+// ---- exit
+
+// The root init does not end.
+pub fn exit(t: Table, caller: ProcSlot, s: i32) -> Outcome
+    ensures { λ r. ⌜ (So (sound t) → So (runs (view t) (caller .0)) → r ≡ exit-of t (caller .0) s) ⌝ }
+{
+    if caller.0 == 0 {
+        return refused(t, Refusal::Ebusy);
+    }
+    let u = end_process(t, caller, End::Exited(exit_status(s)));
+    answers(free_unheld(u), 0)
+}
+
+// ---- wait
+
+// Whether a process is a child of the one at a slot.
+fn is_child(p: Process, parent: ProcSlot) -> bool
+    ensures { λ r. ⌜ r ≡ (not (eqb (pid-at p 0) 0) and eqb (p .parent .0) (parent .0)) ⌝ }
+{
+    if !p.is_taken() {
+        return false;
+    }
+    let slot = p.parent;
+    slot.0 == parent.0
+}
+
+fn has_child(t: Table, parent: ProcSlot) -> bool
+    ensures { λ r. ⌜ r ≡ any process-slots (child-of (view t) (parent .0)) ⌝ }
+{
+    let mut i: usize = 0;
+    while i < PROCESS_SLOTS {
+        let p = t.processes[i];
+        if is_child(p, parent) {
+            return true;
+        }
+        i += 1;
+    }
+    false
+}
+
+// Whether a process is an ended child that comes before the best so far, by its number at a level. PROCESS_SLOTS says
+// that there is none so far.
+fn comes_first(p: Process, parent: ProcSlot, level: u8, best: ProcSlot, lowest: Pid) -> bool
+    ensures { λ r. ⌜ r ≡ (not (eqb (pid-at p 0) 0) and eqb (p .parent .0) (parent .0) and is-ended (p .state) and (eqb (best .0) process-slots or ltb (pid-at p level) (lowest .0))) ⌝ }
+{
+    if !is_child(p, parent) {
+        return false;
+    }
+    if !p.has_ended() {
+        return false;
+    }
+    if best.0 == PROCESS_SLOTS as u8 {
+        return true;
+    }
+    let pid = p.pid_at(level);
+    pid.0 < lowest.0
+}
+
+// The slot of the ended child with the lowest number at a level. PROCESS_SLOTS says that there is none.
+fn first_ended(t: Table, parent: ProcSlot, level: u8) -> ProcSlot
+    ensures { λ r. ⌜ r .0 ≡ least (λ i. child-of (view t) (parent .0) i and view t .ended i) (λ i. view t .pid i level) process-slots process-slots ⌝ }
+{
+    let mut best = ProcSlot(PROCESS_SLOTS as u8);
+    let mut lowest = Pid(0);
+    let mut i: usize = 0;
+    while i < PROCESS_SLOTS {
+        let p = t.processes[i];
+        if comes_first(p, parent, level, best, lowest) {
+            best = ProcSlot(i as u8);
+            lowest = p.pid_at(level);
+        }
+        i += 1;
+    }
+    best
+}
+
+// The child at a slot is removed; the answer is its number and how it ended.
+fn reap(t: Table, slot: ProcSlot, pid: Pid, how: End) -> Outcome
+    ensures { λ r. ⌜ r ≡ granted-as (freed (put t (slot .0) empty-process)) (Answer.Reaped pid how) ⌝ }
+{
+    let u = t.with_process(slot, empty_process());
+    granted(free_unheld(u), Answer::Reaped(pid, how))
+}
+
+pub fn wait(t: Table, caller: ProcSlot) -> Outcome
+    ensures { λ r. ⌜ r ≡ wait-of t (caller .0) ⌝ }
+{
+    if !has_child(t, caller) {
+        return refused(t, Refusal::Echild);
+    }
+    let level = own_level(t, caller);
+    let slot = first_ended(t, caller, level);
+    let child = t.process(slot);
+    let state = child.state;
+    match state {
+        State::Running => answers(t, 0),
+        State::Stopped => answers(t, 0),
+        State::Ended(how) => reap(t, slot, child.pid_at(level), how),
+    }
+}
+
+// ---- kill
+
+// A signal to the one that a number names.
+fn kill_one(t: Table, caller: ProcSlot, n: i32, s: u8) -> Outcome
+    requires { ⌜ s < signals ⌝ }
+    ensures { λ r. ⌜ (So (sound t) → r ≡ sends t (caller .0) (named-only (view t) (caller .0) n) s) ⌝ }
+{
+    let slot = named(t, caller, n);
+    if slot.0 == PROCESS_SLOTS as u8 {
+        return refused(t, Refusal::Esrch);
+    }
+    let p = t.process(caller);
+    let own = p.own;
+    answers(free_unheld(deliver(t, own, slot, s)), 0)
+}
+
+// A signal to all that the caller sees but itself and number 1.
+fn kill_others(t: Table, caller: ProcSlot, s: u8) -> Outcome
+    requires { ⌜ s < signals ⌝ }
+    ensures { λ r. ⌜ (So (sound t) → r ≡ sends t (caller .0) (others-of (view t) (caller .0)) s) ⌝ }
+{
+    let found = others(t, caller);
+    if found.len == 0 {
+        return refused(t, Refusal::Esrch);
+    }
+    let p = t.process(caller);
+    let own = p.own;
+    answers(free_unheld(deliver_all(t, own, found, s)), 0)
+}
+
+pub fn kill(t: Table, caller: ProcSlot, n: i32, s: i32) -> Outcome
+    ensures { λ r. ⌜ (So (sound t) → r ≡ kill-of t (caller .0) n s) ⌝ }
+{
+    if !is_signal(s) {
+        return refused(t, Refusal::Einval);
+    }
+    if names_group(n) {
+        return refused(t, Refusal::Enosys);
+    }
+    if names_everyone(n) {
+        return kill_others(t, caller, signal_of(s));
+    }
+    kill_one(t, caller, n, signal_of(s))
+}
+
 // ---- handle and poll
 
 // A process that handles a signal, or no longer does: then a pending one is dropped.
@@ -163,4 +384,42 @@ pub fn poll(t: Table, caller: ProcSlot) -> Outcome
         ..p
     };
     answers(t.with_process(caller, q), s as u16)
+}
+
+// ---- one call
+
+// A call by a caller that may call.
+fn make(t: Table, caller: ProcSlot, call: Call) -> Outcome
+    ensures { λ r. ⌜ (So (sound t) → So (runs (view t) (caller .0)) → r ≡ make-of t (caller .0) call) ⌝ }
+{
+    match call {
+        Call::Clone => clone(t, caller),
+        Call::CloneNew => clone_new(t, caller),
+        Call::Unshare => unshare(t, caller),
+        Call::Setns(n) => setns(t, caller, n),
+        Call::Kill(n, s) => kill(t, caller, n, s),
+        Call::Exit(s) => exit(t, caller, s),
+        Call::Wait => wait(t, caller),
+        Call::Getpid => getpid(t, caller),
+        Call::Getppid => getppid(t, caller),
+        Call::Handle(s, on) => handle(t, caller, s, on),
+        Call::Poll => poll(t, caller),
+    }
+}
+
+// One call on any table, by any caller.
+pub fn step(t: Table, caller: ProcSlot, call: Call) -> Outcome
+    ensures { λ r. ⌜ r ≡ step-of t (caller .0) call ⌝ }
+{
+    if !is_sound(t) {
+        return refused(t, Refusal::Unsound);
+    }
+    let p = t.process(caller);
+    if !p.is_taken() {
+        return refused(t, Refusal::NotRunning);
+    }
+    if !p.is_running() {
+        return refused(t, Refusal::NotRunning);
+    }
+    make(t, caller, call)
 }
