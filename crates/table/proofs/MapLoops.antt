@@ -4,13 +4,19 @@
 use Prim.Native.Nat.{ℕ, zero, suc, _<_, _≤_, _+_}
 use mathlib.Core.List.{List, [], _∷_, map}
 use mathlib.Core.Logic.{⊎-elim}
-use mathlib.Core.Path.{_≡_, refl, sym, ap, subst, fun-ext, _∙_}
+use mathlib.Core.Path.{_≡_, refl, sym, ap, ap₂, subst, fun-ext, _∙_}
 use lib.ListN.{length, getD, set, length-set, length-map, List·getD-map}
-use lib.Seq.{getD-set-same, getD-set-other, ext-getD}
+use lib.Seq.{getD-set-same, getD-set-other, set-getD, ext-getD}
 use native.Mathlib.Nat.{eq-or-lt-of-le, le-of-suc-le-suc}
 use native.Mathlib.Numerals.{add-one}
 use native.Mathlib.Omega.{arith}
+use Rattle.table.specs.Limits.{process-slots, namespace-slots}
+use Rattle.table.specs.Read.{no-process, no-namespace}
+use Rattle.table.specs.Records.{changed}
 use Rattle.table.specs.Tests.{changed-to}
+use Rattle.table.specs.declared.Namespace.{Namespace}
+use Rattle.table.specs.declared.Process.{Process}
+use Rattle.table.specs.declared.Table.{Table}
 
 -- ---- the changed list
 
@@ -38,6 +44,12 @@ changed-at f d (suc n) i l h k =
     (λ (q : i < n).
     getD-set-other (changed-to f d n l) n i (f n (getD l n d)) d (λ e. omega arith) ∙ changed-at f d n i l q k)
     (eq-or-lt-of-le (le-of-suc-le-suc h))
+
+-- where f changes nothing the list stands
+pub changed-none : {A : Type 0} (d : A) (n : ℕ) (l : List A) → changed-to (λ i x. x) d n l ≡ l
+unfolding changed-to
+changed-none d zero l = refl
+changed-none d (suc n) l = ap (λ u. set u n (getD l n d)) (changed-none d n l) ∙ set-getD l n d
 
 -- ---- the loop
 
@@ -70,6 +82,22 @@ map-done n f d l₀ l i m h =
 pub ruleset map-loops = (map-starts, map-goes-on, map-done)
 
 pub ruleset map-old-loops = (map-starts, map-goes-on-old, map-done)
+
+-- ---- the table u that such loops leave of t
+
+pub both-changed : (t u : Table) (f : ℕ → Process → Process) (g : ℕ → Namespace → Namespace) → u .processes ≡ changed-to f no-process process-slots (t .processes) → u .namespaces ≡ changed-to g no-namespace namespace-slots (t .namespaces) → u ≡ changed t f g
+both-changed t u f g p q = ap₂ (λ ps ns. record { processes = ps; namespaces = ns }) p q
+
+-- one loop, over the processes or over the namespaces
+pub processes-changed : (t u : Table) (f : ℕ → Process → Process) (i : ℕ) → Mapped process-slots f no-process (t .processes) (u .processes) i → process-slots ≤ i → u .namespaces ≡ t .namespaces → u ≡ changed t f (λ n s. s)
+processes-changed t u f i m h q =
+    both-changed t u f (λ n s. s) (map-done process-slots f no-process (t .processes) (u .processes) i m h)
+    (q ∙ sym (changed-none no-namespace namespace-slots (t .namespaces)))
+
+pub namespaces-changed : (t u : Table) (g : ℕ → Namespace → Namespace) (i : ℕ) → Mapped namespace-slots g no-namespace (t .namespaces) (u .namespaces) i → namespace-slots ≤ i → u .processes ≡ t .processes → u ≡ changed t (λ n p. p) g
+namespaces-changed t u g i m h q =
+    both-changed t u (λ n p. p) g (q ∙ sym (changed-none no-process process-slots (t .processes)))
+    (map-done namespace-slots g no-namespace (t .namespaces) (u .namespaces) i m h)
 
 -- ---- an array filled from another
 

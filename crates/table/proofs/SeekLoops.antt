@@ -18,11 +18,14 @@ seek-starts f g from = record { rest = refl }
 pub seek-again : (f : ℕ → Bool) (g from c : ℕ) → Seeking f g from c → c ≤ g → f c ≡ false → Seeking f g from (c + 1)
 seek-again f g from c s h e = record { rest = s .rest ∙ lowest-on f (suc g) c (omega arith) e }
 
-pub seek-found : (f : ℕ → Bool) (g from c : ℕ) → Seeking f g from c → c ≤ g → f c ≡ true → c ≡ lowest f (suc g - from) from
-seek-found f g from c s h e = sym (s .rest ∙ lowest-here f (suc g) c (omega arith) e)
+-- (In a contract `suc g` may have been computed to a number, e.)
+pub seek-found : (f : ℕ → Bool) (g e from c : ℕ) → Seeking f g from c → suc g ≡ e → c ≤ g → f c ≡ true → c ≡ lowest f (e - from) from
+seek-found f g e from c s q h t =
+    sym (ap (λ k. lowest f (k - from) from) (sym q) ∙ s .rest ∙ lowest-here f (suc g) c (omega arith) t)
 
-pub seek-past : (f : ℕ → Bool) (g from c : ℕ) → Seeking f g from c → g < c → c ≡ lowest f (suc g - from) from
-seek-past f g from c s h = sym (s .rest ∙ lowest-end f (suc g) c (omega arith))
+pub seek-past : (f : ℕ → Bool) (g e from c : ℕ) → Seeking f g from c → suc g ≡ e → g < c → c ≡ lowest f (e - from) from
+seek-past f g e from c s q h =
+    sym (ap (λ k. lowest f (k - from) from) (sym q) ∙ s .rest ∙ lowest-end f (suc g) c (omega arith))
 
 -- a candidate that some slot holds, and one that none holds
 pub held : (n : ℕ) (h : ℕ → Bool) → any n h ≡ true → not (any n h) ≡ false

@@ -291,10 +291,10 @@ impl Table {
         ensures { λ r. ⌜ r ≡ getD (self .processes) (slot .0) empty-process ⌝ }
     {
         let i = slot.0 as usize;
-        if i < PROCESS_SLOTS {
-            return self.processes[i];
+        if i >= PROCESS_SLOTS {
+            return empty_process();
         }
-        empty_process()
+        self.processes[i]
     }
 
     // The namespace at a slot. What lies past the last slot reads as empty.
@@ -302,10 +302,10 @@ impl Table {
         ensures { λ r. ⌜ r ≡ namespace self (slot .0) ⌝ }
     {
         let i = slot.0 as usize;
-        if i < NAMESPACE_SLOTS {
-            return self.namespaces[i];
+        if i >= NAMESPACE_SLOTS {
+            return empty_namespace();
         }
-        empty_namespace()
+        self.namespaces[i]
     }
 
     // The table with a process put at a slot. Past the last slot there is nowhere to put it.

@@ -92,11 +92,11 @@ pub fn seen(
 ) -> bool
     ensures { λ r. ⌜ r ≡ seen-from (slot-in up) (level-in levels) (n .0) p ⌝ }
 {
-    if !p.is_taken() {
-        return false;
+    if p.is_taken() {
+        let own = p.own;
+        return below(up, own, n, level_of(levels, own));
     }
-    let own = p.own;
-    below(up, own, n, level_of(levels, own))
+    false
 }
 
 // The number of a process in n, or none where it is not seen.
@@ -158,13 +158,13 @@ pub fn find(t: Table, n: NsSlot, pid: Pid) -> ProcSlot
 pub fn free_slot(t: Table) -> ProcSlot
     ensures { λ r. ⌜ r .0 ≡ free-slot (view t) ⌝ }
 {
-    let mut i: usize = 0;
-    while i < PROCESS_SLOTS {
-        let p = t.processes[i];
+    let mut slot: usize = 0;
+    while slot < PROCESS_SLOTS {
+        let p = t.processes[slot];
         if !p.is_taken() {
-            return ProcSlot(i as u8);
+            return ProcSlot(slot as u8);
         }
-        i += 1;
+        slot += 1;
     }
     ProcSlot(PROCESS_SLOTS as u8)
 }
@@ -183,13 +183,13 @@ pub fn holds_namespace(slot: NsSlot, n: Namespace) -> bool
 pub fn free_namespace_slot(t: Table) -> NsSlot
     ensures { λ r. ⌜ r .0 ≡ free-namespace-slot (view t) ⌝ }
 {
-    let mut i: usize = 0;
-    while i < NAMESPACE_SLOTS {
-        let n = t.namespaces[i];
-        if !holds_namespace(NsSlot(i as u8), n) {
-            return NsSlot(i as u8);
+    let mut slot: usize = 0;
+    while slot < NAMESPACE_SLOTS {
+        let n = t.namespaces[slot];
+        if !holds_namespace(NsSlot(slot as u8), n) {
+            return NsSlot(slot as u8);
         }
-        i += 1;
+        slot += 1;
     }
     NsSlot(NAMESPACE_SLOTS as u8)
 }

@@ -50,7 +50,8 @@ pub record Fresh (v : View) (n k : ℕ) : Type 0 where
   pub within : k ≤ greatest-pid
   pub free : So (free-pid v n k)
 
-module _ (v : View) (p : Facts v) (n : ℕ) (s : Stands v n) where
+-- The number that the search gives, in any table: 64 processes cannot hold all that it tries.
+module _ (v : View) (n : ℕ) where
   abbrev low : ℕ
   low = lowest (free-pid v n) (greatest-pid - v .last n) (suc (v .last n))
 
@@ -66,12 +67,9 @@ module _ (v : View) (p : Facts v) (n : ℕ) (s : Stands v n) where
       held : (j : ℕ) → j ≤ process-slots → (find v n (restart-pid + j) < process-slots) × Seen v n (find v n (restart-pid + j)) × (pid-seen v n (find v n (restart-pid + j)) ≡ restart-pid + j)
       held j l = found v n (restart-pid + j) (h (restart-pid + j) (omega arith) (omega arith))
 
-  last-low : v .last n ≤ greatest-pid
-  last-low = p .last-pids n (p .in-namespace n s)
-
-  pub next-fresh : Fresh v n (next-pid v n)
+  pub always-fresh : Fresh v n (next-pid v n)
   unfolding next-pid
-  next-fresh = go (leb low greatest-pid) refl
+  always-fresh = go (leb low greatest-pid) refl
     where
       r : Lowest (free-pid v n) (greatest-pid - v .last n) (suc (v .last n)) low
       r = lowest-is _ _ _
@@ -83,8 +81,12 @@ module _ (v : View) (p : Facts v) (n : ℕ) (s : Stands v n) where
       below-end = ⊎-elim (λ l. l) (λ o. absurd (crowded (λ j a b. q .none-before j a (omega arith)))) (less again (suc greatest-pid))
 
       go : (b : Bool) → leb low greatest-pid ≡ b → Fresh v n (if b then low else again)
-      go true e = let l : low ≤ greatest-pid = leb-true low greatest-pid e in record { above = omega (arith, r .from); within = l; free = r .holds (omega (arith, last-low)) }
+      go true e = let l : low ≤ greatest-pid = leb-true low greatest-pid e in record { above = omega (arith, r .from); within = l; free = r .holds (omega (arith, r .from)) }
       go false e = record { above = omega (arith, q .from); within = omega (arith, below-end); free = q .holds (omega (arith, below-end)) }
+
+module _ (v : View) (p : Facts v) (n : ℕ) (s : Stands v n) where
+  pub next-fresh : Fresh v n (next-pid v n)
+  next-fresh = always-fresh v n
 
   -- nobody is seen from an unborn one
   pub nobody : So (unborn v n) → (i : ℕ) → Seen v n i → ⊥
@@ -96,6 +98,6 @@ module _ (v : View) (p : Facts v) (n : ℕ) (s : Stands v n) where
   unfolding next-pid
   next-first u =
       let z : v .last n ≡ 0 = p .unborn-last n s u in
-      let r : Lowest (free-pid v n) (greatest-pid - v .last n) (suc (v .last n)) low = lowest-is _ _ _ in
-      let one : low ≡ 1 = ⊎-elim (λ l. absurd (false≢true (sym (r .none-before 1 (omega arith) l) ∙ is-free v n 1 (λ i h e. nobody u i h)))) (λ o. omega (arith, r .from)) (less 1 low) in
+      let r : Lowest (free-pid v n) (greatest-pid - v .last n) (suc (v .last n)) (low v n) = lowest-is _ _ _ in
+      let one : low v n ≡ 1 = ⊎-elim (λ l. absurd (false≢true (sym (r .none-before 1 (omega arith) l) ∙ is-free v n 1 (λ i h e. nobody u i h)))) (λ o. omega (arith, r .from)) (less 1 (low v n)) in
       rw one

@@ -11,10 +11,10 @@ use Rattle.tree.proofs.free_namespace_slot.Statement.{statement}
 use Rattle.tree.proofs.free_namespace_slot.Tie as tie
 
 abbrev Inv-loop : tie.InvT-loop
-Inv-loop t i₀ i = Ahead namespace-slots (λ k. not (namespace-taken (view t) k)) i
+Inv-loop t slot₀ slot = Ahead namespace-slots (λ k. not (namespace-taken (view t) k)) slot
 
 abbrev μ-loop : tie.MeasureT-loop
-μ-loop t i₀ i = namespace-slots - i
+μ-loop t slot₀ slot = namespace-slots - slot
 
 loop-holds : tie.Need-loop-holds Inv-loop μ-loop
 loop-holds c = search first-loops-by
@@ -38,8 +38,8 @@ returns : tie.Need-returns Inv-loop μ-loop
 unfolding namespace-taken free-namespace-slot
 returns c = search (first-loops-by, chains)
 
-add-i : tie.Need-add-i Inv-loop μ-loop
-add-i c = search needs
+add-slot : tie.Need-add-slot Inv-loop μ-loop
+add-slot c = search needs
 
 loop-less : tie.Need-loop-less Inv-loop μ-loop
 loop-less c = search needs
@@ -68,7 +68,7 @@ free-namespace-slot-spec =
     holds-namespace-requires
     cast-t13
     returns
-    add-i
+    add-slot
     loop-less
     loop-again
     cast-t14

@@ -1,0 +1,4 @@
+-- Laws that belong to no one function.
+pub mod Seeks
+pub mod Choice
+pub mod Found
