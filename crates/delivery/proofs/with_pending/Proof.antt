@@ -1,0 +1,15 @@
+-- `with_pending` sets the signal's bit.
+use borrow.Author.Needs.{needs}
+use Rattle.table.specs.Delivery.{with-pending}
+use Rattle.delivery.proofs.with_pending.Statement.{statement}
+use Rattle.delivery.proofs.with_pending.Tie as tie
+
+with-signal-requires : tie.Need-with-signal-requires
+with-signal-requires c κs = search needs
+
+returns : tie.Need-returns
+unfolding with-pending
+returns c = rw (c .with-signal .ensures)
+
+pub with-pending-spec : {M : Type 1} → statement M
+with-pending-spec = tie.close (tie.spec with-signal-requires returns)

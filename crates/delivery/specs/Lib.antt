@@ -1,0 +1,4 @@
+-- What the contracts of `delivery` cite beside the definitions of `table`.
+pub mod Actions
+pub mod Delivery
+pub mod Targets
