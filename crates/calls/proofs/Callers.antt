@@ -1,11 +1,11 @@
 -- What the calls read of the caller, of its parent and of its namespace, against the definitions.
 use Prim.Native.Nat.{ℕ}
 use mathlib.Core.List.{List}
-use mathlib.Core.Path.{_≡_, refl, sym, ap, _∙_}
+use mathlib.Core.Path.{_≡_, ap, _∙_}
 use lib.ListN.{getD}
 use Rattle.table.proofs.Slots.{read-at}
 use Rattle.table.specs.Answers.{answers}
-use Rattle.table.specs.Calls.{own-level, pid-to, getpid, getppid}
+use Rattle.table.specs.Calls.{own-level, getpid, getppid}
 use Rattle.table.specs.Fresh.{empty-process}
 use Rattle.table.specs.Read.{view, namespace, pid-at, pid-seen, pid-in}
 use Rattle.table.specs.declared.Namespace.{Namespace}

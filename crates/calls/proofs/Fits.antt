@@ -13,7 +13,7 @@ use denote.Shadow.{shadow}
 use lib.Dec.{eqb, ltb}
 use lib.ListN.{getD, length}
 use mir.Val.{Val}
-use Rattle.table.proofs.Laws.Facts.{Facts, Sane, facts, sane}
+use Rattle.table.proofs.Laws.Facts.{Facts, facts}
 use Rattle.table.proofs.Laws.Quant.{both, all-intro}
 use Rattle.table.proofs.Pid as K
 use Rattle.table.proofs.Process as P
@@ -79,6 +79,3 @@ module _ (t : Table) (vs : List Val) (is : Is T.the-row t vs) where
 
   pub facts-of : So (sound t) → Facts (view t)
   facts-of h = facts t (sound-table h)
-
-  pub sane-of : So (sound t) → Sane t
-  sane-of h = sane t (sound-table h)

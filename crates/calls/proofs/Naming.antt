@@ -2,9 +2,9 @@
 use Prim.Native.Nat.{ℕ, _<_}
 use native.Mathlib.Decide.{decLt}
 use native.Mathlib.Omega.{arith}
-use mathlib.Core.Bool.{Bool, true, false, not, So}
+use mathlib.Core.Bool.{Bool, true, false, not}
 use mathlib.Core.List.{List}
-use mathlib.Core.Path.{_≡_, refl, sym, ap, _∙_}
+use mathlib.Core.Path.{_≡_, sym, ap, _∙_}
 use borrow.Author.Tests.{eqb-true, not-true, not-false}
 use denote.Laws.{Is}
 use lib.Dec.{eqb, ltb}
@@ -22,7 +22,7 @@ use Rattle.table.proofs.Table as T
 use Rattle.table.specs.Calls.{natural, named}
 use Rattle.table.specs.Fresh.{empty-process}
 use Rattle.table.specs.Limits.{process-slots}
-use Rattle.table.specs.Read.{View, view, seen, pid-seen, find}
+use Rattle.table.specs.Read.{view, seen, pid-seen, find}
 use Rattle.table.specs.Tests.{_and_}
 use Rattle.table.specs.declared.Process.{Process}
 use Rattle.table.specs.declared.Table.{Table}

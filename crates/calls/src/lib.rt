@@ -1,5 +1,4 @@
-// The ten calls, by a caller that may call, and `step`: one call on any table, by any caller. Each call tests for its
-// refusals in document 01's order.
+// The ten calls, by a caller that may call. Each tests for its refusals in document 01's order.
 use arguments::cannot_handle;
 use arguments::exit_status;
 use arguments::is_signal;
@@ -8,19 +7,23 @@ use arguments::names_group;
 use arguments::names_one;
 use arguments::natural_of;
 use arguments::signal_of;
+use births::birth;
+use births::new_namespace;
+use delivery::deliver;
+use delivery::deliver_all;
+use delivery::others;
+use ending::end_process;
+use ending::free_unheld;
+use numbers::next_pid;
 use signals::SIGNALS;
 use signals::lowest_signal;
 use signals::with_signal;
 use signals::without_signal;
-use stubs::deliver;
-use stubs::deliver_all;
-use stubs::end_process;
-use stubs::free_unheld;
-use stubs::is_sound;
-use stubs::others;
 use table::Answer;
 use table::Call;
 use table::End;
+use table::LEVELS;
+use table::NAMESPACE_SLOTS;
 use table::NO_SLOT;
 use table::NsSlot;
 use table::Outcome;
@@ -34,6 +37,8 @@ use table::State;
 use table::Table;
 use table::empty_process;
 use tree::find;
+use tree::free_namespace_slot;
+use tree::free_slot;
 use tree::levels;
 use tree::pid_in;
 use tree::ups;
@@ -41,18 +46,21 @@ ghost use mathlib.Core.Bool.{So, not};
 ghost use mathlib.Core.Path.{_≡_};
 ghost use Prim.Native.Nat.{_<_};
 ghost use lib.Dec.{eqb, ltb};
-ghost use mathlib.Core.List.{[], _∷_};
 ghost use Rattle.calls.specs.Kills.{sends, named-only};
 ghost use Rattle.table.specs.Answers.{refused as refused-as, granted as granted-as, answers as answers-as};
-ghost use Rattle.table.specs.Calls.{own-level, named as named-in, clone as clone-of, clone-new as clone-new-of, unshare as unshare-of, set-children, setns as setns-of, others as others-of, getpid as getpid-of, getppid as getppid-of, kill as kill-of, exit as exit-of, wait as wait-of, handle-on, handle-off, handle as handle-of, poll as poll-of};
+ghost use Rattle.table.specs.Calls.{own-level, named as named-in, born as born-of, clone as clone-of, clone-new as clone-new-of, unshare as unshare-of, set-children, setns as setns-of, others as others-of, getpid as getpid-of, getppid as getppid-of, kill as kill-of, exit as exit-of, wait as wait-of, handle-on, handle-off, handle as handle-of, poll as poll-of};
 ghost use Rattle.table.specs.Freeing.{freed};
 ghost use Rattle.table.specs.Fresh.{empty-process};
 ghost use Rattle.table.specs.Limits.{process-slots, signals};
+ghost use Rattle.table.specs.Pids.{free-slot};
 ghost use Rattle.table.specs.Read.{view, pid-at, is-ended, child-of};
 ghost use Rattle.table.specs.Records.{put};
 ghost use Rattle.table.specs.Sound.{sound};
-ghost use Rattle.table.specs.Step.{runs, make as make-of, step as step-of};
+ghost use Rattle.table.specs.Step.{runs, make as make-of};
 ghost use Rattle.table.specs.Tests.{_and_, _or_, if_then_else_, any, least};
+
+// The level of a namespace that has none below it.
+const DEEPEST: u8 = LEVELS as u8 - 1;
 
 // ---- answers
 
@@ -119,7 +127,7 @@ fn named(t: Table, caller: ProcSlot, n: i32) -> ProcSlot
 
 // ---- getpid and getppid
 
-pub fn getpid(t: Table, caller: ProcSlot) -> Outcome
+fn getpid(t: Table, caller: ProcSlot) -> Outcome
     ensures { λ r. ⌜ r ≡ getpid-of t (caller .0) ⌝ }
 {
     let p = t.process(caller);
@@ -127,7 +135,7 @@ pub fn getpid(t: Table, caller: ProcSlot) -> Outcome
     answers(t, pid.0)
 }
 
-pub fn getppid(t: Table, caller: ProcSlot) -> Outcome
+fn getppid(t: Table, caller: ProcSlot) -> Outcome
     ensures { λ r. ⌜ r ≡ getppid-of t (caller .0) ⌝ }
 {
     let p = t.process(caller);
@@ -141,16 +149,58 @@ pub fn getppid(t: Table, caller: ProcSlot) -> Outcome
 
 // ---- clone
 
-pub fn clone(t: Table, caller: ProcSlot) -> Outcome
-    ensures { λ r. ⌜ (So (sound t) → So (runs (view t) (caller .0)) → r ≡ clone-of t (caller .0)) ⌝ }
+// A child is born: t is the table before, u the one with the child at a slot. The answer is its number in the caller's
+// namespace, and the host is told its slot.
+fn born(t: Table, caller: ProcSlot, slot: ProcSlot, u: Table) -> Outcome
+    ensures { λ r. ⌜ (slot .0 ≡ free-slot (view t) → r ≡ born-of t (caller .0) u) ⌝ }
 {
-    refused(t, Refusal::Eagain)
+    let p = t.process(caller);
+    let own = p.own;
+    let pid = next_pid(t, own);
+    Outcome {
+        reply: Reply {
+            answer: Answer::Number(pid.0),
+            child: slot,
+        },
+        table: u,
+    }
 }
 
-pub fn clone_new(t: Table, caller: ProcSlot) -> Outcome
+fn clone(t: Table, caller: ProcSlot) -> Outcome
+    ensures { λ r. ⌜ r ≡ clone-of t (caller .0) ⌝ }
+{
+    let p = t.process(caller);
+    let n = p.children;
+    let home = t.namespace(n);
+    if home.is_dead() {
+        return refused(t, Refusal::Enomem);
+    }
+    let slot = free_slot(t);
+    if slot.0 == PROCESS_SLOTS as u8 {
+        return refused(t, Refusal::Eagain);
+    }
+    born(t, caller, slot, birth(t, slot, caller, n))
+}
+
+fn clone_new(t: Table, caller: ProcSlot) -> Outcome
     ensures { λ r. ⌜ (So (sound t) → So (runs (view t) (caller .0)) → r ≡ clone-new-of t (caller .0)) ⌝ }
 {
-    refused(t, Refusal::Eagain)
+    let level = own_level(t, caller);
+    if DEEPEST <= level {
+        return refused(t, Refusal::Enospc);
+    }
+    let slot = free_slot(t);
+    if slot.0 == PROCESS_SLOTS as u8 {
+        return refused(t, Refusal::Eagain);
+    }
+    let n = free_namespace_slot(t);
+    if n.0 == NAMESPACE_SLOTS as u8 {
+        return refused(t, Refusal::Eagain);
+    }
+    let p = t.process(caller);
+    let own = p.own;
+    let u = new_namespace(t, n, own, level + 1);
+    born(t, caller, slot, birth(u, slot, caller, n))
 }
 
 // ---- unshare and setns
@@ -168,13 +218,27 @@ fn set_children(t: Table, caller: ProcSlot, n: NsSlot, mark: bool) -> Table
     free_unheld(t.with_process(caller, q))
 }
 
-pub fn unshare(t: Table, caller: ProcSlot) -> Outcome
+fn unshare(t: Table, caller: ProcSlot) -> Outcome
     ensures { λ r. ⌜ (So (sound t) → So (runs (view t) (caller .0)) → r ≡ unshare-of t (caller .0)) ⌝ }
 {
-    refused(t, Refusal::Eagain)
+    let p = t.process(caller);
+    if p.unshared {
+        return refused(t, Refusal::Einval);
+    }
+    let level = own_level(t, caller);
+    if DEEPEST <= level {
+        return refused(t, Refusal::Enospc);
+    }
+    let n = free_namespace_slot(t);
+    if n.0 == NAMESPACE_SLOTS as u8 {
+        return refused(t, Refusal::Eagain);
+    }
+    let own = p.own;
+    let u = new_namespace(t, n, own, level + 1);
+    answers(set_children(u, caller, n, true), 0)
 }
 
-pub fn setns(t: Table, caller: ProcSlot, n: i32) -> Outcome
+fn setns(t: Table, caller: ProcSlot, n: i32) -> Outcome
     ensures { λ r. ⌜ r ≡ setns-of t (caller .0) n ⌝ }
 {
     let slot = named(t, caller, n);
@@ -193,7 +257,7 @@ pub fn setns(t: Table, caller: ProcSlot, n: i32) -> Outcome
 // ---- exit
 
 // The root init does not end.
-pub fn exit(t: Table, caller: ProcSlot, s: i32) -> Outcome
+fn exit(t: Table, caller: ProcSlot, s: i32) -> Outcome
     ensures { λ r. ⌜ (So (sound t) → So (runs (view t) (caller .0)) → r ≡ exit-of t (caller .0) s) ⌝ }
 {
     if caller.0 == 0 {
@@ -274,7 +338,7 @@ fn reap(t: Table, slot: ProcSlot, pid: Pid, how: End) -> Outcome
     granted(free_unheld(u), Answer::Reaped(pid, how))
 }
 
-pub fn wait(t: Table, caller: ProcSlot) -> Outcome
+fn wait(t: Table, caller: ProcSlot) -> Outcome
     ensures { λ r. ⌜ r ≡ wait-of t (caller .0) ⌝ }
 {
     if !has_child(t, caller) {
@@ -321,7 +385,7 @@ fn kill_others(t: Table, caller: ProcSlot, s: u8) -> Outcome
     answers(free_unheld(deliver_all(t, own, found, s)), 0)
 }
 
-pub fn kill(t: Table, caller: ProcSlot, n: i32, s: i32) -> Outcome
+fn kill(t: Table, caller: ProcSlot, n: i32, s: i32) -> Outcome
     ensures { λ r. ⌜ (So (sound t) → r ≡ kill-of t (caller .0) n s) ⌝ }
 {
     if !is_signal(s) {
@@ -359,7 +423,7 @@ fn handling(p: Process, s: u8, on: bool) -> Process
     }
 }
 
-pub fn handle(t: Table, caller: ProcSlot, s: i32, on: bool) -> Outcome
+fn handle(t: Table, caller: ProcSlot, s: i32, on: bool) -> Outcome
     ensures { λ r. ⌜ r ≡ handle-of t (caller .0) s on ⌝ }
 {
     if cannot_handle(s) {
@@ -370,7 +434,7 @@ pub fn handle(t: Table, caller: ProcSlot, s: i32, on: bool) -> Outcome
     answers(t.with_process(caller, q), 0)
 }
 
-pub fn poll(t: Table, caller: ProcSlot) -> Outcome
+fn poll(t: Table, caller: ProcSlot) -> Outcome
     ensures { λ r. ⌜ r ≡ poll-of t (caller .0) ⌝ }
 {
     let p = t.process(caller);
@@ -405,21 +469,4 @@ fn make(t: Table, caller: ProcSlot, call: Call) -> Outcome
         Call::Handle(s, on) => handle(t, caller, s, on),
         Call::Poll => poll(t, caller),
     }
-}
-
-// One call on any table, by any caller.
-pub fn step(t: Table, caller: ProcSlot, call: Call) -> Outcome
-    ensures { λ r. ⌜ r ≡ step-of t (caller .0) call ⌝ }
-{
-    if !is_sound(t) {
-        return refused(t, Refusal::Unsound);
-    }
-    let p = t.process(caller);
-    if !p.is_taken() {
-        return refused(t, Refusal::NotRunning);
-    }
-    if !p.is_running() {
-        return refused(t, Refusal::NotRunning);
-    }
-    make(t, caller, call)
 }

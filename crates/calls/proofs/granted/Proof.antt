@@ -1,11 +1,9 @@
+-- `granted` is the definition, spelt out.
 use Rattle.table.specs.Answers.{granted}
 use mathlib.Core.Path.{refl}
 use Rattle.calls.proofs.granted.Statement.{statement}
 use Rattle.calls.proofs.granted.Tie as tie
-use Rattle.calls.proofs.granted.Reads as reads
-use Rattle.calls.proofs.granted.Lts as lts
 
--- src/lib.rt:49:1
 returns : tie.Need-returns
 unfolding granted
 returns c = refl

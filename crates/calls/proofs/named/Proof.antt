@@ -1,54 +1,39 @@
+-- `named` finds the process that a number names; a number past what a Pid holds names nobody, since no record has it.
 use borrow.Author.Needs.{needs}
 use Rattle.calls.proofs.Naming.{names-nobody, names-too-far, names-somebody}
 use Rattle.calls.proofs.named.Statement.{statement}
 use Rattle.calls.proofs.named.Tie as tie
-use Rattle.calls.proofs.named.Reads as reads
-use Rattle.calls.proofs.named.Lts as lts
-use Rattle.arguments.proofs.names_one.Reads as names-one-reads
-use Rattle.arguments.proofs.natural_of.Reads as natural-of-reads
-use Rattle.table.proofs.Table.process.Reads as process-reads
-use Rattle.tree.proofs.find.Reads as find-reads
 
--- src/lib.rt:84:9
 names-one-requires : tie.Need-names-one-requires
 names-one-requires c κs = search needs
 
--- src/lib.rt:85:25
 cast-t9 : tie.Need-cast-t9
 cast-t9 c = search needs
 
--- src/lib.rt:85:9
 returns : tie.Need-returns
 returns c = search names-nobody
 
--- src/lib.rt:87:9
 natural-of-requires : tie.Need-natural-of-requires
 natural-of-requires c κs = search needs
 
--- src/lib.rt:89:25
 cast-t10 : tie.Need-cast-t10
 cast-t10 c = search needs
 
--- src/lib.rt:89:9
 returns-2 : tie.Need-returns-2
 returns-2 c =
     let s = c .before .before .before .before in
     names-too-far (s .args .t) (s .args .caller .0) (s .args .n) (s .fits .n) _ (c .before .before .before .names-one .ensures) _
     (c .before .before .if1 .left) (c .before .natural-of .ensures) _ (s .good .0) (c .if2 .taken)
 
--- src/lib.rt:91:9
 process-requires : tie.Need-process-requires
 process-requires c κs = search needs
 
--- src/lib.rt:93:22
 cast-t11 : tie.Need-cast-t11
 cast-t11 c = search needs
 
--- src/lib.rt:93:5
 find-requires : tie.Need-find-requires
 find-requires c κs = search needs
 
--- src/lib.rt:81:1
 returns-3 : tie.Need-returns-3
 returns-3 c = search names-somebody
 

@@ -1,11 +1,9 @@
+-- `refused` is the definition, spelt out.
 use Rattle.table.specs.Answers.{refused}
 use mathlib.Core.Path.{refl}
 use Rattle.calls.proofs.refused.Statement.{statement}
 use Rattle.calls.proofs.refused.Tie as tie
-use Rattle.calls.proofs.refused.Reads as reads
-use Rattle.calls.proofs.refused.Lts as lts
 
--- src/lib.rt:36:1
 returns : tie.Need-returns
 unfolding refused
 returns c = refl
