@@ -1,0 +1,65 @@
+-- unshare and setns: the children's namespace of the caller is set.
+use Prim.Native.Nat.{ℕ}
+use mathlib.Core.Bool.{Bool, true, false}
+use mathlib.Core.Path.{_≡_, sym, ap, ap₂, _∙_}
+use borrow.Author.Tests.{eq-eqb, ne-eqb}
+use lib.Dec.{eqb}
+use lib.IntN.{ℤ}
+use lib.ListN.{getD}
+use mir.Syntax.{w32}
+use mir.Val.{SFits, toZ, ofZ}
+use mir.ValLaws.{toZ-ofZ}
+use Rattle.calls.proofs.Signals.{put-changed}
+use Rattle.table.proofs.Chains.{if-yes, if-no, or-true, or-true-later, or-false}
+use Rattle.table.proofs.Slots.{read-at}
+use Rattle.table.specs.Answers.{refused, answers}
+use Rattle.table.specs.Calls.{set-children, named, setns}
+use Rattle.table.specs.Freeing.{freed}
+use Rattle.table.specs.Fresh.{empty-process}
+use Rattle.table.specs.Limits.{process-slots}
+use Rattle.table.specs.Read.{view, process, is-ended}
+use Rattle.table.specs.Records.{put, with-children}
+use Rattle.table.specs.Tests.{_or_, if_then_else_}
+use Rattle.table.specs.declared.Outcome.{Outcome}
+use Rattle.table.specs.declared.Process.{Process}
+use Rattle.table.specs.declared.Refusal.the-variants.{Esrch}
+use Rattle.table.specs.declared.Table.{Table}
+
+-- p is the process read at the caller's slot c
+pub children-set : (t u r : Table) (c n : ℕ) (mark : Bool) (p : Process) → p ≡ getD (t .processes) c empty-process → u ≡ put t c (with-children p n mark) → r ≡ freed u → r ≡ set-children t c n mark
+unfolding set-children
+children-set t u r c n mark p e d f =
+    f ∙ ap freed (d ∙ put-changed t c p (λ q. with-children q n mark) e)
+
+-- i is the slot that `named` gives of the argument z
+module _ (t : Table) (c i : ℕ) (z : ℤ) (fits : SFits w32 z) (r : Outcome) (e : i ≡ named (view t) c (toZ w32 (ofZ w32 z))) where
+  slot : i ≡ named (view t) c z
+  slot = e ∙ ap (named (view t) c) (toZ-ofZ w32 z fits)
+
+  abbrev Sets : ℕ → Outcome
+  Sets j =
+      if eqb j process-slots or view t .ended j then refused t Esrch
+      else answers (set-children t c (view t .own j) (process t c .unshared)) 0
+
+  comes : r ≡ Sets i → r ≡ setns t c z
+  unfolding setns
+  comes a = a ∙ ap Sets slot
+
+  pub setns-nobody : i ≡ process-slots → r ≡ refused t Esrch → r ≡ setns t c z
+  setns-nobody h a = comes (if-yes _ _ _ _ (or-true _ _ (eq-eqb i process-slots h)) a)
+
+  -- p is the process read there, and b whether it has ended
+  module _ (p : Process) (b : Bool) (o : i ≡ process-slots → ⊥) (d : p ≡ getD (t .processes) i empty-process) (q : b ≡ is-ended (p .state)) where
+    ended : b ≡ view t .ended i
+    ended = q ∙ read-at t i p d .ended
+
+    pub setns-ended : b ≡ true → r ≡ refused t Esrch → r ≡ setns t c z
+    setns-ended y a = comes (if-yes _ _ _ _ (or-true-later _ _ (sym ended ∙ y)) a)
+
+    -- s is the process read at the caller's slot
+    pub setns-sets : (s : Process) (u : Table) → b ≡ false → s ≡ getD (t .processes) c empty-process → u ≡ set-children t c (p .own .0) (s .unshared) → r ≡ answers u 0 → r ≡ setns t c z
+    setns-sets s u n f g a =
+        comes
+        (if-no _ _ _ _ (or-false _ _ (ne-eqb i process-slots o) (sym ended ∙ n))
+        (a
+        ∙ ap (λ x. answers x 0) (g ∙ ap₂ (set-children t c) (read-at t i p d .own) (read-at t c s f .unshared))))

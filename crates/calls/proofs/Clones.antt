@@ -1,0 +1,150 @@
+-- clone in both kinds, and unshare: the refusals, a new namespace and a birth.
+use Prim.Native.Nat.{ℕ, _<_, _≤_, _+_}
+use native.Mathlib.Omega.{arith}
+use mathlib.Core.Bool.{Bool, true, false, So}
+use mathlib.Core.List.{List}
+use mathlib.Core.Path.{_≡_, sym, ap, ap₂, _∙_}
+use borrow.Author.Tests.{eq-eqb, ne-eqb}
+use denote.Laws.{Is}
+use lib.Dec.{eqb}
+use lib.ListN.{getD}
+use mir.Val.{Val}
+use Rattle.births.proofs.Given.{birth-given, namespace-given, clone-new-given}
+use Rattle.births.specs.Births.{birth-at, namespace-at}
+use Rattle.calls.proofs.Fits.{facts-of}
+use Rattle.table.proofs.Chains.{if-yes, if-no, or-true, or-true-later, or-false}
+use Rattle.table.proofs.Laws.Below.{low-level}
+use Rattle.table.proofs.Laws.Quant.{left}
+use Rattle.table.proofs.Slots.{read-at}
+use Rattle.table.proofs.Table as T
+use Rattle.table.specs.Answers.{refused, answers}
+use Rattle.table.specs.Births.{birth}
+use Rattle.table.specs.Calls.{own-level, born, clone, clone-new, new-namespace, set-children, unshare}
+use Rattle.table.specs.Fresh.{empty-process}
+use Rattle.table.specs.Limits.{process-slots, namespace-slots, deepest}
+use Rattle.table.specs.Pids.{next-pid, free-slot, free-namespace-slot}
+use Rattle.table.specs.Read.{view, process, namespace, is-dead, dead}
+use Rattle.table.specs.Sound.{sound}
+use Rattle.table.specs.Step.{runs}
+use Rattle.table.specs.declared.Answer.the-variants.{Number}
+use Rattle.table.specs.declared.Namespace.{Namespace}
+use Rattle.table.specs.declared.Outcome.{Outcome}
+use Rattle.table.specs.declared.ProcSlot.{ProcSlot}
+use Rattle.table.specs.declared.Process.{Process}
+use Rattle.table.specs.declared.Refusal.the-variants.{Einval, Enospc, Enomem, Eagain}
+use Rattle.table.specs.declared.Table.{Table}
+
+-- the child's number k and its slot i, and the table with it
+abbrev told-of : ℕ → ℕ → Table → Outcome
+told-of k i u = record { reply = record { answer = Number k; child = record { 0 = i } }; table = u }
+
+-- p is the process read at the caller's slot c, and k the number that `next_pid` gives
+pub born-is : (t u : Table) (c k : ℕ) (slot : ProcSlot) (p : Process) → p ≡ getD (t .processes) c empty-process → k ≡ next-pid (view t) (p .own .0) → slot .0 ≡ free-slot (view t) → told-of k (slot .0) u ≡ born t c u
+born-is t u c k slot p e q f =
+    ap₂ (λ (a b : ℕ). told-of a b u) (q ∙ ap (next-pid (view t)) (read-at t c p e .own)) f
+
+-- ---- plain: s is the namespace read for the caller's children, and b whether it is dead
+
+module _ (t : Table) (c : ℕ) (p : Process) (s : Namespace) (b : Bool) (r : Outcome) (e : p ≡ getD (t .processes) c empty-process) (d : s ≡ namespace t (p .children .0)) (q : b ≡ is-dead (s .life)) where
+  for-children : p .children .0 ≡ view t .children c
+  for-children = read-at t c p e .children
+
+  dead-is : b ≡ dead (view t) (view t .children c)
+  dead-is = q ∙ ap (λ x. is-dead (x .life)) d ∙ ap (λ n. is-dead (namespace t n .life)) for-children
+
+  pub clone-dead : b ≡ true → r ≡ refused t Enomem → r ≡ clone t c
+  unfolding clone
+  clone-dead y a = if-yes _ _ _ _ (sym dead-is ∙ y) a
+
+  -- i is the slot that `free_slot` gives
+  module _ (i : ℕ) (n : b ≡ false) (f : i ≡ free-slot (view t)) where
+    pub clone-full : i ≡ process-slots → r ≡ refused t Eagain → r ≡ clone t c
+    unfolding clone
+    clone-full h a = if-no _ _ _ _ (sym dead-is ∙ n) (if-yes _ _ _ _ (eq-eqb _ process-slots (sym f ∙ h)) a)
+
+    pub clone-born : (u : Table) → (i ≡ process-slots → ⊥) → u ≡ birth-at t i c (p .children .0) → (i ≡ free-slot (view t) → r ≡ born t c u) → r ≡ clone t c
+    unfolding clone
+    clone-born u o g a =
+        if-no _ _ _ _ (sym dead-is ∙ n)
+        (if-no _ _ _ _ (ne-eqb _ process-slots (λ h. o (f ∙ h)))
+        (a f ∙ ap (born t c) (birth-given t u i c (p .children .0) f g ∙ ap (birth t c) for-children)))
+
+-- ---- the caller's level, and no room
+
+-- in a sound table no caller's level is past the deepest
+level-low : (t : Table) (c : ℕ) (vs : List Val) → Is T.the-row t vs → So (sound t) → So (runs (view t) c) → own-level (view t) c ≤ deepest
+unfolding runs
+level-low t c vs is s h =
+    let f = facts-of t vs is s in
+    low-level (view t) f (view t .own c) (f .members c (left _ _ h) .0 .0)
+
+-- l is the caller's level as `own_level` gives it
+module _ (t : Table) (c l : ℕ) (k : l ≡ own-level (view t) c) where
+  too-deep : (vs : List Val) → Is T.the-row t vs → deepest ≤ l → So (sound t) → So (runs (view t) c) → eqb (own-level (view t) c) deepest ≡ true
+  too-deep vs is d s h = eq-eqb (own-level (view t) c) deepest (omega (arith, level-low t c vs is s h))
+
+  not-deep : l < deepest → eqb (own-level (view t) c) deepest ≡ false
+  not-deep d = ne-eqb (own-level (view t) c) deepest (λ q. omega arith)
+
+  -- ---- new: i and n are what `free_slot` and `free_namespace_slot` give
+
+  module _ (r : Outcome) where
+    pub clone-new-deep : (vs : List Val) → Is T.the-row t vs → deepest ≤ l → r ≡ refused t Enospc → So (sound t) → So (runs (view t) c) → r ≡ clone-new t c
+    unfolding clone-new
+    clone-new-deep vs is d a s h = if-yes _ _ _ _ (too-deep vs is d s h) a
+
+    module _ (i : ℕ) (d : l < deepest) (f : i ≡ free-slot (view t)) where
+      pub clone-new-full : i ≡ process-slots → r ≡ refused t Eagain → r ≡ clone-new t c
+      unfolding clone-new
+      clone-new-full h a =
+          if-no _ _ _ _ (not-deep d) (if-yes _ _ _ _ (or-true _ _ (eq-eqb _ process-slots (sym f ∙ h))) a)
+
+      module _ (n : ℕ) (o : i ≡ process-slots → ⊥) (g : n ≡ free-namespace-slot (view t)) where
+        pub clone-new-crowded : n ≡ namespace-slots → r ≡ refused t Eagain → r ≡ clone-new t c
+        unfolding clone-new
+        clone-new-crowded h a =
+            if-no _ _ _ _ (not-deep d) (if-yes _ _ _ _ (or-true-later _ _ (eq-eqb _ namespace-slots (sym g ∙ h))) a)
+
+        -- p is the process read at the caller's slot, u the table with the namespace, and w the one with the child
+        pub clone-new-born : (p : Process) (u w : Table) → (n ≡ namespace-slots → ⊥) → p ≡ getD (t .processes) c empty-process → u ≡ namespace-at t n (p .own .0) (l + 1) → w ≡ birth-at u i c n → (i ≡ free-slot (view t) → r ≡ born t c w) → r ≡ clone-new t c
+        unfolding clone-new
+        clone-new-born p u w m e x y a =
+            if-no _ _ _ _ (not-deep d)
+            (if-no _ _ _ _ (or-false _ _ (ne-eqb _ process-slots (λ h. o (f ∙ h))) (ne-eqb _ namespace-slots (λ h. m (g ∙ h))))
+            (a f ∙ ap (born t c) (clone-new-given t u w c n i (p .own .0) l g (read-at t c p e .own) k x f y)))
+
+-- ---- unshare: p is the process read at the caller's slot
+
+module _ (t : Table) (c : ℕ) (p : Process) (r : Outcome) (e : p ≡ getD (t .processes) c empty-process) where
+  marked : p .unshared ≡ process t c .unshared
+  marked = read-at t c p e .unshared
+
+  pub unshare-marked : p .unshared ≡ true → r ≡ refused t Einval → r ≡ unshare t c
+  unfolding unshare
+  unshare-marked y a = if-yes _ _ _ _ (sym marked ∙ y) a
+
+  module _ (l : ℕ) (o : p .unshared ≡ false) (k : l ≡ own-level (view t) c) where
+    pub unshare-deep : (vs : List Val) → Is T.the-row t vs → deepest ≤ l → r ≡ refused t Enospc → So (sound t) → So (runs (view t) c) → r ≡ unshare t c
+    unfolding unshare
+    unshare-deep vs is d a s h =
+        if-no _ _ _ _ (sym marked ∙ o) (if-yes _ _ _ _ (too-deep t c l k vs is d s h) a)
+
+    module _ (n : ℕ) (d : l < deepest) (g : n ≡ free-namespace-slot (view t)) where
+      pub unshare-crowded : n ≡ namespace-slots → r ≡ refused t Eagain → r ≡ unshare t c
+      unfolding unshare
+      unshare-crowded h a =
+          if-no _ _ _ _ (sym marked ∙ o)
+          (if-no _ _ _ _ (not-deep t c l k d) (if-yes _ _ _ _ (eq-eqb _ namespace-slots (sym g ∙ h)) a))
+
+      -- u is the table with the namespace, and w the one where it is the caller's
+      pub unshare-sets : (u w : Table) → (n ≡ namespace-slots → ⊥) → u ≡ namespace-at t n (p .own .0) (l + 1) → w ≡ set-children u c n true → r ≡ answers w 0 → r ≡ unshare t c
+      unfolding unshare
+      unshare-sets u w m x y a =
+          if-no _ _ _ _ (sym marked ∙ o)
+          (if-no _ _ _ _ (not-deep t c l k d)
+          (if-no _ _ _ _ (ne-eqb _ namespace-slots (λ h. m (g ∙ h)))
+          (a
+          ∙ ap (λ z. answers z 0)
+          (y
+          ∙ ap (λ z. set-children z c n true) (namespace-given t u c n (p .own .0) l g (read-at t c p e .own) k x)
+          ∙ ap (λ j. set-children (new-namespace t c) c j true) g))))
