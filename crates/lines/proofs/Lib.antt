@@ -2,3 +2,4 @@
 pub mod Cuts
 pub mod Carrying
 pub mod TenLines
+pub mod Running

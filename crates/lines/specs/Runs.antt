@@ -1,7 +1,8 @@
 -- "A small program runs a script of calls": what a script gives, from the fresh table.
 use Prim.Native.Nat.{ℕ}
 use mathlib.Core.List.{List, [], _∷_, _++_}
-use Rattle.lines.specs.Splitting.{lines}
+use mathlib.Core.Path.{_≡_}
+use Rattle.lines.specs.Splitting.{ended, left, last-line, lines, whole}
 use Rattle.script.specs.Outputs.{answer-line, bad-line}
 use Rattle.script.specs.Reading.{read-line}
 use Rattle.script.specs.declared.Parsed.{Parsed}
@@ -22,12 +23,26 @@ run-line t (Parsed.Good slot c) =
     record { text = answer-line (o .reply .answer); table = o .table }
 
 -- "Each line gives one output line. No header."
-unfoldable pub run-lines : Table → List (List ℕ) → List ℕ
-run-lines t [] = []
-run-lines t (l ∷ ls) =
+unfoldable pub run-all : Table → List (List ℕ) → Ran
+run-all t [] = record { text = []; table = t }
+run-all t (l ∷ ls) =
     let r = run-line t (read-line l) in
-    r .text ++ run-lines (r .table) ls
+    let s = run-all (r .table) ls in
+    record { text = r .text ++ s .text; table = s .table }
 
 -- "From the fresh table."
 unfoldable pub run : List ℕ → List ℕ
-run input = run-lines fresh (lines input)
+run input = run-all fresh (lines input) .text
+
+-- ---- an input in chunks
+
+-- the table and the open line are carried on from each chunk to the next
+unfoldable pub run-chunks : Table → List ℕ → List (List ℕ) → List ℕ
+run-chunks t l [] = run-all t (last-line l) .text
+run-chunks t l (c ∷ cs) =
+    let r = run-all t (ended l c) in
+    r .text ++ run-chunks (r .table) (left l c) cs
+
+-- For any way of cutting the input the output is the same.
+abbrev pub Cuts-change-no-output : Type 0
+Cuts-change-no-output = (chunks : List (List ℕ)) → run-chunks fresh [] chunks ≡ run (whole chunks)
