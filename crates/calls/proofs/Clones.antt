@@ -13,8 +13,8 @@ use Rattle.births.proofs.Given.{birth-given, namespace-given, clone-new-given}
 use Rattle.births.specs.Births.{birth-at, namespace-at}
 use Rattle.calls.proofs.Fits.{facts-of}
 use Rattle.table.proofs.Chains.{if-yes, if-no, or-true, or-true-later, or-false}
-use Rattle.table.proofs.Laws.Below.{low-level}
-use Rattle.table.proofs.Laws.Quant.{left}
+use Rattle.table.proofs.Laws.Below.{level-deepest}
+use Rattle.table.proofs.Laws.Tests.{left}
 use Rattle.table.proofs.Slots.{read-at}
 use Rattle.table.proofs.Table as T
 use Rattle.table.specs.Answers.{refused, answers}
@@ -76,7 +76,7 @@ level-low : (t : Table) (c : ℕ) (vs : List Val) → Is T.the-row t vs → So (
 unfolding runs
 level-low t c vs is s h =
     let f = facts-of t vs is s in
-    low-level (view t) f (view t .own c) (f .members c (left _ _ h) .0 .0)
+    level-deepest (view t) f (view t .own c) (f .members c (left _ _ h) .0 .0)
 
 -- l is the caller's level as `own_level` gives it
 module _ (t : Table) (c l : ℕ) (k : l ≡ own-level (view t) c) where

@@ -14,7 +14,7 @@ use lib.Dec.{eqb, ltb}
 use lib.ListN.{getD, length}
 use mir.Val.{Val}
 use Rattle.table.proofs.Laws.Facts.{Facts, facts}
-use Rattle.table.proofs.Laws.Quant.{both, all-intro}
+use Rattle.table.proofs.Laws.Tests.{both, all-intro}
 use Rattle.table.proofs.Pid as K
 use Rattle.table.proofs.Process as P
 use Rattle.table.proofs.Slots.{length-mapped}

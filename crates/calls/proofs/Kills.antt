@@ -21,7 +21,7 @@ use Rattle.delivery.specs.Targets.{Lists, listed}
 use Rattle.delivery.specs.declared.Targets.{Targets}
 use Rattle.table.proofs.Chains.{if-yes, if-no, pick-yes, pick-no, not-no, not-yes, told-not, told-yes}
 use Rattle.table.proofs.Laws.Facts.{Facts}
-use Rattle.table.proofs.Sameness.ExitSame.{runs-living}
+use Rattle.table.proofs.Laws.Steps.{runs-lives}
 use Rattle.table.proofs.Slots.{read-at}
 use Rattle.table.proofs.Table as T
 use Rattle.table.specs.Answers.{refused, answers}
@@ -57,7 +57,7 @@ module _ (t : Table) (c : ℕ) (z : ℤ) (fits : SFits w32 z) (r : Outcome) wher
       ∙ ap (λ x. answers x 0)
       (f
       ∙ ap freed
-      (d (facts-of t vs is s) (runs-living t c h) ∙ ap (λ j. end t c (Exited j)) (q ∙ ap status (toZ-ofZ w32 z fits)))))
+      (d (facts-of t vs is s) (runs-lives t c h) ∙ ap (λ j. end t c (Exited j)) (q ∙ ap status (toZ-ofZ w32 z fits)))))
 
 -- ---- what is sent
 

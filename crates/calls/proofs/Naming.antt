@@ -15,8 +15,8 @@ use mir.Val.{Val, SFits, toZ, ofZ}
 use mir.ValLaws.{toZ-ofZ}
 use Rattle.arguments.proofs.Named.{named-one, named-none}
 use Rattle.calls.proofs.Fits.{pid-fits}
-use Rattle.table.proofs.Laws.Lowest.{lowest-is}
-use Rattle.table.proofs.Laws.Quant.{right}
+use Rattle.table.proofs.Laws.Find.{lowest-is}
+use Rattle.table.proofs.Laws.Tests.{right}
 use Rattle.table.proofs.Slots.{read-at}
 use Rattle.table.proofs.Table as T
 use Rattle.table.specs.Calls.{natural, named}
