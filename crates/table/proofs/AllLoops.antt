@@ -55,8 +55,8 @@ all-fails n f i r h e q = all-stops n f i h (sym e ∙ not-true r q)
 
 pub ruleset all-loops = (all-starts, all-goes-on, all-passes, all-fails)
 
--- where the body's tests stand in the loop itself: with `chains`
-pub ruleset all-steps-by = (all-starts, all-steps, all-passes, all-stops)
+-- where the test is another one, as `if r { return false; }`, or several stand in the loop: with `chains`
+pub ruleset all-loops-by = (all-starts, all-steps, all-passes, all-stops)
 
 -- what a passed test says of each number
 pub all-at : (n : ℕ) (f : ℕ → Bool) (i : ℕ) → all n f ≡ true → i < n → f i ≡ true

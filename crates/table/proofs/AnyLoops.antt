@@ -46,6 +46,9 @@ any-true (suc n) f i h e =
     (λ (q : i < n). by-bool (f n) (λ t. pick-yes (f n) true (any n f) t) (λ t. pick-no (f n) true (any n f) t ∙ any-true n f i q e))
     (eq-or-lt-of-le (le-of-suc-le-suc h))
 
+pub any-here : (n : ℕ) (f : ℕ → Bool) (i : ℕ) → i < n → f i ≡ true → true ≡ any n f
+any-here n f i h e = sym (any-true n f i h e)
+
 pub any-found : (n : ℕ) (f : ℕ → Bool) (i : ℕ) (r : Bool) → i < n → r ≡ f i → r ≡ true → any n f ≡ true
 any-found n f i r h e q = any-true n f i h (sym e ∙ q)
 
@@ -57,3 +60,6 @@ pub any-returns-false : (n : ℕ) (f : ℕ → Bool) (i : ℕ) → Unmet n f i �
 any-returns-false n f i k h = sym (any-none n f i k h)
 
 pub ruleset any-loops = (any-starts, any-goes-on, any-none, any-found, any-returns-true, any-returns-false)
+
+-- where the test is another one, as `if !r { return true; }`, or several stand in the loop: with `chains`
+pub ruleset any-loops-by = (any-starts, any-steps, any-none, any-true, any-here, any-returns-false)

@@ -3,6 +3,7 @@
 use Prim.Native.Nat.{ℕ}
 use mathlib.Core.Bool.{Bool, true, false, not, true≢false, false≢true}
 use mathlib.Core.Path.{_≡_, refl, sym, _∙_}
+use lib.Dec.{eqb}
 use borrow.Author.Tests.{not-true, not-false, eq-eqb, ne-eqb, lt-ltb, le-ltb, le-leb, lt-leb}
 use Rattle.table.specs.Tests.{_and_, _or_, _implies_, agree, if_then_else_}
 
@@ -111,6 +112,12 @@ unfolding _and_
 and-goes true b x p q = q
 and-goes false b x p q = absurd (false≢true p)
 
+-- the same, where the code made the later test before
+pub and-first : (a b x : Bool) → b ≡ true → x ≡ a → x ≡ a and b
+unfolding _and_
+and-first true b x p q = q ∙ sym p
+and-first false b x p q = q
+
 pub or-goes : (a b x : Bool) → a ≡ false → x ≡ b → x ≡ a or b
 unfolding _or_
 or-goes true b x p q = absurd (true≢false p)
@@ -132,6 +139,13 @@ told-not r b p q = sym p ∙ not-true r q
 pub told-yes : (r b : Bool) → r ≡ b → not r ≡ false → b ≡ true
 told-yes r b p q = sym p ∙ not-false r q
 
+-- a callee's result a is the number b, and a test compared it with k
+pub told-equal : (a b k : ℕ) → a ≡ b → a ≡ k → eqb b k ≡ true
+told-equal a b k p q = eq-eqb b k (sym p ∙ q)
+
+pub told-other : (a b k : ℕ) → a ≡ b → (a ≡ k → ⊥) → eqb b k ≡ false
+told-other a b k p q = ne-eqb b k (λ e. q (p ∙ e))
+
 pub says : (b c : Bool) → b ≡ c → c ≡ b
 says b c p = sym p
 
@@ -139,6 +153,6 @@ pub same {ℓ} : {A : Type ℓ} {a : A} → a ≡ a
 same = refl
 
 -- the tests on numbers, and on callees' results
-pub ruleset facts = (same, eq-eqb, ne-eqb, lt-ltb, le-ltb, le-leb, lt-leb, told, told-not, told-yes)
+pub ruleset facts = (same, eq-eqb, ne-eqb, lt-ltb, le-ltb, le-leb, lt-leb, told, told-not, told-yes, told-equal, told-other)
 
-pub ruleset chains = (facts, if-yes, if-no, and-true, and-false, and-false-later, or-true, or-true-later, or-false, implies-void, implies-true, implies-false, agree-both, agree-neither, agree-left, agree-right, not-no, not-yes, and-goes, or-goes, implies-goes, says)
+pub ruleset chains = (facts, if-yes, if-no, and-true, and-false, and-false-later, or-true, or-true-later, or-false, implies-void, implies-true, implies-false, agree-both, agree-neither, agree-left, agree-right, not-no, not-yes, and-goes, and-first, or-goes, implies-goes, says)

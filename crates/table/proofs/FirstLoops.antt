@@ -43,12 +43,19 @@ first-starts n f =
     let e : n - 0 ≡ n = omega arith in
     record { within = omega arith; rest = rw e }
 
+-- what the test at i tells
+pub first-steps : (n : ℕ) (f : ℕ → Bool) (i : ℕ) → Ahead n f i → i < n → f i ≡ false → Ahead n f (i + 1)
+first-steps n f i k h e = record { within = omega arith; rest = k .rest ∙ lowest-on f n i h e }
+
+pub first-here : (n : ℕ) (f : ℕ → Bool) (i : ℕ) → Ahead n f i → i < n → f i ≡ true → i ≡ lowest f n 0
+first-here n f i k h e = sym (k .rest ∙ lowest-here f n i h e)
+
 -- r is the callee's result, and the test is `if r { return i; }`
 pub first-goes-on : (n : ℕ) (f : ℕ → Bool) (i : ℕ) (r : Bool) → Ahead n f i → i < n → r ≡ f i → r ≡ false → Ahead n f (i + 1)
-first-goes-on n f i r k h e q = record { within = omega arith; rest = k .rest ∙ lowest-on f n i h (sym e ∙ q) }
+first-goes-on n f i r k h e q = first-steps n f i k h (sym e ∙ q)
 
 pub first-found : (n : ℕ) (f : ℕ → Bool) (i : ℕ) (r : Bool) → Ahead n f i → i < n → r ≡ f i → r ≡ true → i ≡ lowest f n 0
-first-found n f i r k h e q = sym (k .rest ∙ lowest-here f n i h (sym e ∙ q))
+first-found n f i r k h e q = first-here n f i k h (sym e ∙ q)
 
 pub first-none : (n : ℕ) (f : ℕ → Bool) (i : ℕ) → Ahead n f i → n ≤ i → n ≡ lowest f n 0
 first-none n f i k h =
@@ -57,3 +64,6 @@ first-none n f i k h =
     sym (k .rest ∙ lowest-end f n i h ∙ e)
 
 pub ruleset first-loops = (first-starts, first-goes-on, first-found, first-none)
+
+-- where the test is another one, as `if !r { return i; }`: with `chains`
+pub ruleset first-loops-by = (first-starts, first-steps, first-here, first-none)

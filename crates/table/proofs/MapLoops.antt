@@ -4,7 +4,7 @@
 use Prim.Native.Nat.{ℕ, zero, suc, _<_, _≤_, _+_}
 use mathlib.Core.List.{List, [], _∷_, map}
 use mathlib.Core.Logic.{⊎-elim}
-use mathlib.Core.Path.{_≡_, refl, sym, ap, subst, _∙_}
+use mathlib.Core.Path.{_≡_, refl, sym, ap, subst, fun-ext, _∙_}
 use lib.ListN.{length, getD, set, length-set, length-map, List·getD-map}
 use lib.Seq.{getD-set-same, getD-set-other, ext-getD}
 use native.Mathlib.Nat.{eq-or-lt-of-le, le-of-suc-le-suc}
@@ -80,3 +80,8 @@ filled g e n l b p q =
     ext-getD (g e) (changed-to (λ i x. g (getD b i e)) (g e) n l) (map g b)
     (long ∙ p ∙ sym (length-map b g ∙ q))
     (λ i h. changed-at (λ i x. g (getD b i e)) (g e) n i l (omega arith) (omega arith) ∙ sym (List·getD-map g b i e))
+
+-- so the array l that such a loop leaves, read by h at any slot, reads as the other
+pub filled-reads : {A B C : Type 0} (g : B → A) (e : B) (h : A → C) (n : ℕ) (l₀ l : List A) (b : List B) → l ≡ changed-to (λ i x. g (getD b i e)) (g e) n l₀ → length l₀ ≡ n → length b ≡ n → _≡_ {A = ℕ → C} (λ i. h (getD l i (g e))) (λ i. h (g (getD b i e)))
+filled-reads g e h n l₀ l b d p q =
+    fun-ext (λ i. ap (λ u. h (getD u i (g e))) (d ∙ filled g e n l₀ b p q) ∙ ap h (List·getD-map g b i e))

@@ -1,5 +1,5 @@
--- Reading and putting past an array's end, and what a process read at a slot says of the view. The length of an array field
--- stands in a function's facts as that of a `map`.
+-- Reading and putting past an array's end, and what a process read at a slot says of the view. In a function's facts the
+-- length of an array that is a field stands as that of a `map`; of one that is a parameter it stands plain.
 use Prim.Native.Nat.{ℕ, zero, suc, _<_, _≤_}
 use mathlib.Core.Bool.{Bool, true, false, not}
 use mathlib.Core.List.{List, [], _∷_, map}
@@ -25,11 +25,14 @@ use Rattle.table.specs.declared.Table.{Table}
 pub length-mapped : {X Y : Type 0} (g : X → Y) (l : List X) (n : ℕ) → length (map g l) ≡ n → length l ≡ n
 length-mapped g l n e = sym (length-map l g) ∙ e
 
-pub read-past : {X Y : Type 0} (g : X → Y) (l : List X) (d : X) (n i : ℕ) → length (map g l) ≡ n → n ≤ i → d ≡ getD l i d
-read-past g l d n i e h = sym (List·getD-eq-default l d (omega (arith, length-mapped g l n e)))
+pub array-past : {X : Type 0} (l : List X) (d : X) (n i : ℕ) → length l ≡ n → n ≤ i → d ≡ getD l i d
+array-past l d n i e h = sym (List·getD-eq-default l d (omega arith))
+
+pub field-past : {X Y : Type 0} (g : X → Y) (l : List X) (d : X) (n i : ℕ) → length (map g l) ≡ n → n ≤ i → d ≡ getD l i d
+field-past g l d n i e h = array-past l d n i (length-mapped g l n e) h
 
 pub pid-past : {Y : Type 0} (g : Pid → Y) (l : List Pid) (n i : ℕ) → length (map g l) ≡ n → n ≤ i → 0 ≡ getD l i no-pid .0
-pid-past g l n i e h = ap (λ k. k .0) (read-past g l no-pid n i e h)
+pid-past g l n i e h = ap (λ k. k .0) (field-past g l no-pid n i e h)
 
 -- within the array it does not matter what lies past its end
 within : {X : Type 0} (l : List X) (d e : X) (i : ℕ) → i < length l → getD l i d ≡ getD l i e
@@ -37,8 +40,8 @@ within [] d e i h = absurd (omega arith)
 within (x ∷ l) d e zero h = refl
 within (x ∷ l) d e (suc i) h = within l d e i (le-of-suc-le-suc h)
 
-pub read-within : {X Y : Type 0} (g : X → Y) (l : List X) (d e : X) (n i : ℕ) → length (map g l) ≡ n → i < n → getD l i d ≡ getD l i e
-read-within g l d e n i q h = within l d e i (omega (arith, length-mapped g l n q))
+pub field-within : {X Y : Type 0} (g : X → Y) (l : List X) (d e : X) (n i : ℕ) → length (map g l) ≡ n → i < n → getD l i d ≡ getD l i e
+field-within g l d e n i q h = within l d e i (omega (arith, length-mapped g l n q))
 
 pub put-past : {Y : Type 0} (g : Process → Y) (t : Table) (n i : ℕ) (p : Process) → length (map g (t .processes)) ≡ n → n ≤ i → t ≡ put t i p
 put-past g t n i p e h =
@@ -97,4 +100,4 @@ read-at t i p e =
 
 -- below the last slot it is the process of the definitions itself
 pub process-within : {Y : Type 0} (g : Process → Y) (t : Table) (n i : ℕ) (p : Process) → length (map g (t .processes)) ≡ n → i < n → p ≡ getD (t .processes) i empty-process → p ≡ process t i
-process-within g t n i p e h q = q ∙ read-within g (t .processes) empty-process no-process n i e h
+process-within g t n i p e h q = q ∙ field-within g (t .processes) empty-process no-process n i e h

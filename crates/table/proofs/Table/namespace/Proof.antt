@@ -1,6 +1,6 @@
 -- `namespace` gives the namespace at a slot, and an empty one past the last slot.
 use borrow.Author.Needs.{needs}
-use Rattle.table.proofs.Slots.{read-past}
+use Rattle.table.proofs.Slots.{field-past}
 use Rattle.table.proofs.Table.namespace.Statement.{statement}
 use Rattle.table.proofs.Table.namespace.Tie as tie
 
@@ -20,7 +20,7 @@ empty-namespace-requires : tie.Need-empty-namespace-requires
 empty-namespace-requires c κs = search needs
 
 returns-2 : tie.Need-returns-2
-returns-2 c = rw (c .empty-namespace .ensures) (search read-past)
+returns-2 c = rw (c .empty-namespace .ensures) (search field-past)
 
 pub namespace-spec : {M : Type 1} → statement M
 namespace-spec =

@@ -1,0 +1,59 @@
+-- `levels` fills an array with the namespaces' levels, by the laws of a loop that changes each element.
+use Prim.Native.Nat.{ℕ, _-_}
+use mathlib.Core.Path.{refl}
+use borrow.Author.Needs.{needs}
+use lib.ListN.{getD, replicate}
+use Rattle.table.proofs.MapLoops.{Mapped, map-old-loops, filled-reads}
+use Rattle.table.specs.Limits.{namespace-slots}
+use Rattle.table.specs.Read.{no-namespace}
+use Rattle.table.specs.declared.Namespace.{Namespace}
+use Rattle.tree.proofs.levels.Statement.{statement}
+use Rattle.tree.proofs.levels.Tie as tie
+
+abbrev Inv-loop : tie.InvT-loop
+Inv-loop namespaces levels₀ i₀ levels i =
+    Mapped namespace-slots (λ k x. getD namespaces k no-namespace .level) 0 levels₀ levels i
+
+abbrev μ-loop : tie.MeasureT-loop
+μ-loop namespaces levels₀ i₀ levels i = namespace-slots - i
+
+loop-holds : tie.Need-loop-holds Inv-loop μ-loop
+loop-holds c = search map-old-loops
+
+mul-n : tie.Need-mul-n Inv-loop μ-loop
+mul-n c = search needs
+
+array-copy-out-n : tie.Need-array-copy-out-n Inv-loop μ-loop
+array-copy-out-n c = search needs
+
+array-write-levels : tie.Need-array-write-levels Inv-loop μ-loop
+array-write-levels c = search needs
+
+add-i : tie.Need-add-i Inv-loop μ-loop
+add-i c = search needs
+
+loop-less : tie.Need-loop-less Inv-loop μ-loop
+loop-less c = search needs
+
+loop-again : tie.Need-loop-again Inv-loop μ-loop
+loop-again c = search map-old-loops
+
+returns : tie.Need-returns Inv-loop μ-loop
+returns c =
+    filled-reads (λ (s : Namespace). s .level) no-namespace (λ (k : ℕ). k) namespace-slots (replicate namespace-slots 0) (c .before .loop .levels)
+    (c .before .before .args .t1) (search map-old-loops) refl (search needs)
+
+pub levels-spec : {M : Type 1} → statement M
+levels-spec =
+    tie.close
+    (tie.spec
+    Inv-loop
+    μ-loop
+    loop-holds
+    mul-n
+    array-copy-out-n
+    array-write-levels
+    add-i
+    loop-less
+    loop-again
+    returns)

@@ -1,0 +1,2 @@
+-- What the contracts of `tree` cite beside the definitions of `table`.
+pub mod Tree

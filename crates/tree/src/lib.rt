@@ -1,0 +1,195 @@
+// The tree of namespaces: what lies below what, who is seen from where and under which number, and the lowest free
+// slots. A pass over the table takes the table once; what it does at each slot takes one process, and the parents and
+// levels of the namespaces as small arrays.
+use table::NAMESPACE_SLOTS;
+use table::Namespace;
+use table::NsSlot;
+use table::PROCESS_SLOTS;
+use table::Pid;
+use table::ProcSlot;
+use table::Process;
+use table::Table;
+ghost use mathlib.Core.Path.{_≡_};
+ghost use Rattle.table.specs.Read.{view, climb, find as find-in};
+ghost use Rattle.table.specs.Pids.{free-slot, free-namespace-slot};
+ghost use Rattle.tree.specs.Tree.{ups-of, levels-of, slot-in, level-in, seen-from, pid-from, named-from, holds-namespace};
+
+// ---- the parents and the levels of all namespaces
+
+pub fn ups(namespaces: [Namespace; NAMESPACE_SLOTS]) -> [NsSlot; NAMESPACE_SLOTS]
+    ensures { λ r. ⌜ slot-in r ≡ ups-of namespaces ⌝ }
+{
+    let mut up = [NsSlot(0); NAMESPACE_SLOTS];
+    let mut i: usize = 0;
+    while i < NAMESPACE_SLOTS {
+        let n = namespaces[i];
+        let parent = n.parent;
+        up[i] = parent;
+        i += 1;
+    }
+    up
+}
+
+pub fn levels(namespaces: [Namespace; NAMESPACE_SLOTS]) -> [u8; NAMESPACE_SLOTS]
+    ensures { λ r. ⌜ level-in r ≡ levels-of namespaces ⌝ }
+{
+    let mut levels = [0u8; NAMESPACE_SLOTS];
+    let mut i: usize = 0;
+    while i < NAMESPACE_SLOTS {
+        let n = namespaces[i];
+        levels[i] = n.level;
+        i += 1;
+    }
+    levels
+}
+
+// The parent of a namespace; past the last slot 0, as in an empty one.
+pub fn parent_of(up: [NsSlot; NAMESPACE_SLOTS], n: NsSlot) -> NsSlot
+    ensures { λ r. ⌜ r .0 ≡ slot-in up (n .0) ⌝ }
+{
+    let i = n.0 as usize;
+    if i < NAMESPACE_SLOTS {
+        return up[i];
+    }
+    NsSlot(0)
+}
+
+// The level of a namespace; past the last slot 0, as in an empty one.
+pub fn level_of(levels: [u8; NAMESPACE_SLOTS], n: NsSlot) -> u8
+    ensures { λ r. ⌜ r ≡ level-in levels (n .0) ⌝ }
+{
+    let i = n.0 as usize;
+    if i < NAMESPACE_SLOTS {
+        return levels[i];
+    }
+    0
+}
+
+// ---- below
+
+// Whether the climb from a, which has this level, to its parent and so on comes to b.
+pub fn below(up: [NsSlot; NAMESPACE_SLOTS], a: NsSlot, b: NsSlot, level: u8) -> bool
+    ensures { λ r. ⌜ r ≡ climb (slot-in up) level (a .0) (b .0) ⌝ }
+{
+    if a.0 == b.0 {
+        return true;
+    }
+    if level == 0 {
+        return false;
+    }
+    let parent = parent_of(up, a);
+    below(up, parent, b, level - 1)
+}
+
+// ---- who is seen
+
+// Whether a process is in the subtree of n, ended or not.
+pub fn seen(
+    up: [NsSlot; NAMESPACE_SLOTS],
+    levels: [u8; NAMESPACE_SLOTS],
+    n: NsSlot,
+    p: Process,
+) -> bool
+    ensures { λ r. ⌜ r ≡ seen-from (slot-in up) (level-in levels) (n .0) p ⌝ }
+{
+    if !p.is_taken() {
+        return false;
+    }
+    let own = p.own;
+    below(up, own, n, level_of(levels, own))
+}
+
+// The number of a process in n, or none where it is not seen.
+pub fn pid_in(
+    up: [NsSlot; NAMESPACE_SLOTS],
+    levels: [u8; NAMESPACE_SLOTS],
+    n: NsSlot,
+    p: Process,
+) -> Pid
+    ensures { λ r. ⌜ r .0 ≡ pid-from (slot-in up) (level-in levels) (n .0) p ⌝ }
+{
+    if !seen(up, levels, n, p) {
+        return Pid(0);
+    }
+    p.pid_at(level_of(levels, n))
+}
+
+// Whether a process is seen from n and has a number at a level. The number is compared first: few processes have it,
+// and a climb takes longer.
+pub fn is_named(
+    up: [NsSlot; NAMESPACE_SLOTS],
+    levels: [u8; NAMESPACE_SLOTS],
+    n: NsSlot,
+    level: u8,
+    pid: Pid,
+    p: Process,
+) -> bool
+    ensures { λ r. ⌜ r ≡ named-from (slot-in up) (level-in levels) (n .0) level (pid .0) p ⌝ }
+{
+    let number = p.pid_at(level);
+    if number.0 != pid.0 {
+        return false;
+    }
+    seen(up, levels, n, p)
+}
+
+// The slot of the process whose number in n is pid. PROCESS_SLOTS says that there is none.
+pub fn find(t: Table, n: NsSlot, pid: Pid) -> ProcSlot
+    ensures { λ r. ⌜ r .0 ≡ find-in (view t) (n .0) (pid .0) ⌝ }
+{
+    let namespaces = t.namespaces;
+    let up = ups(namespaces);
+    let levels = levels(namespaces);
+    let level = level_of(levels, n);
+    let mut i: usize = 0;
+    while i < PROCESS_SLOTS {
+        let p = t.processes[i];
+        if is_named(up, levels, n, level, pid, p) {
+            return ProcSlot(i as u8);
+        }
+        i += 1;
+    }
+    ProcSlot(PROCESS_SLOTS as u8)
+}
+
+// ---- free slots
+
+// The lowest free process slot. PROCESS_SLOTS says that there is none.
+pub fn free_slot(t: Table) -> ProcSlot
+    ensures { λ r. ⌜ r .0 ≡ free-slot (view t) ⌝ }
+{
+    let mut i: usize = 0;
+    while i < PROCESS_SLOTS {
+        let p = t.processes[i];
+        if !p.is_taken() {
+            return ProcSlot(i as u8);
+        }
+        i += 1;
+    }
+    ProcSlot(PROCESS_SLOTS as u8)
+}
+
+// Whether a slot with this record holds a namespace: it is the root's, or its level is not 0.
+pub fn holds_namespace(slot: NsSlot, n: Namespace) -> bool
+    ensures { λ r. ⌜ r ≡ holds-namespace (slot .0) n ⌝ }
+{
+    if slot.0 == 0 {
+        return true;
+    }
+    n.level != 0
+}
+
+// The lowest free namespace slot. NAMESPACE_SLOTS says that there is none.
+pub fn free_namespace_slot(t: Table) -> NsSlot
+    ensures { λ r. ⌜ r .0 ≡ free-namespace-slot (view t) ⌝ }
+{
+    let mut i: usize = 0;
+    while i < NAMESPACE_SLOTS {
+        let n = t.namespaces[i];
+        if !holds_namespace(NsSlot(i as u8), n) {
+            return NsSlot(i as u8);
+        }
+        i += 1;
+    }
+    NsSlot(NAMESPACE_SLOTS as u8)
+}
