@@ -1,2 +1,4 @@
 pub mod Rows
+pub mod Masks
+pub mod Ranges
 pub mod Same

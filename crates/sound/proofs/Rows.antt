@@ -5,7 +5,7 @@ use Prim.Native.Nat.{ℕ}
 use mathlib.Core.Bool.{Bool, true, false, not, true≢false, false≢true}
 use mathlib.Core.Path.{_≡_, refl, sym, _∙_}
 use borrow.Author.Tests.{eq-eqb, ne-eqb, lt-ltb, le-ltb, le-leb, lt-leb}
-use Rattle.table.proofs.Chains.{same, told, told-not, told-yes, told-equal, told-other, not-no, not-yes, and-false, and-false-later, and-true}
+use Rattle.table.proofs.Chains.{same, told, told-not, told-yes, told-equal, told-other, not-no, not-yes, and-false, and-false-later, or-true, or-goes}
 use Rattle.table.specs.Tests.{_and_, _or_, _implies_}
 
 -- ---- one test, by what the code found
@@ -114,6 +114,32 @@ fails-7-6 a b c d e f g p = sym (and-false (a and b and c and d and e and f) g (
 
 pub ruleset row-7 = (passes-7, fails-7-1, fails-7-2, fails-7-3, fails-7-4, fails-7-5, fails-7-6)
 
+pub passes-8 : (a b c d e f g h x : Bool) → a ≡ true → b ≡ true → c ≡ true → d ≡ true → e ≡ true → f ≡ true → g ≡ true → x ≡ h → x ≡ a and b and c and d and e and f and g and h
+passes-8 a b c d e f g h x p1 p2 p3 p4 p5 p6 p7 q = passes-2 (a and b and c and d and e and f and g) h x (sym (passes-7 a b c d e f g true p1 p2 p3 p4 p5 p6 (sym p7))) q
+
+pub fails-8-1 : (a b c d e f g h : Bool) → a ≡ false → false ≡ a and b and c and d and e and f and g and h
+fails-8-1 a b c d e f g h p = sym (and-false (a and b and c and d and e and f and g) h (sym (fails-7-1 a b c d e f g p)))
+
+pub fails-8-2 : (a b c d e f g h : Bool) → b ≡ false → false ≡ a and b and c and d and e and f and g and h
+fails-8-2 a b c d e f g h p = sym (and-false (a and b and c and d and e and f and g) h (sym (fails-7-2 a b c d e f g p)))
+
+pub fails-8-3 : (a b c d e f g h : Bool) → c ≡ false → false ≡ a and b and c and d and e and f and g and h
+fails-8-3 a b c d e f g h p = sym (and-false (a and b and c and d and e and f and g) h (sym (fails-7-3 a b c d e f g p)))
+
+pub fails-8-4 : (a b c d e f g h : Bool) → d ≡ false → false ≡ a and b and c and d and e and f and g and h
+fails-8-4 a b c d e f g h p = sym (and-false (a and b and c and d and e and f and g) h (sym (fails-7-4 a b c d e f g p)))
+
+pub fails-8-5 : (a b c d e f g h : Bool) → e ≡ false → false ≡ a and b and c and d and e and f and g and h
+fails-8-5 a b c d e f g h p = sym (and-false (a and b and c and d and e and f and g) h (sym (fails-7-5 a b c d e f g p)))
+
+pub fails-8-6 : (a b c d e f g h : Bool) → f ≡ false → false ≡ a and b and c and d and e and f and g and h
+fails-8-6 a b c d e f g h p = sym (and-false (a and b and c and d and e and f and g) h (sym (fails-7-6 a b c d e f g p)))
+
+pub fails-8-7 : (a b c d e f g h : Bool) → g ≡ false → false ≡ a and b and c and d and e and f and g and h
+fails-8-7 a b c d e f g h p = sym (and-false (a and b and c and d and e and f and g) h (and-false-later (a and b and c and d and e and f) g p))
+
+pub ruleset row-8 = (passes-8, fails-8-1, fails-8-2, fails-8-3, fails-8-4, fails-8-5, fails-8-6, fails-8-7)
+
 -- ---- a choice by a test t: a where it holds, b where it does not
 
 pub takes : (t a b x : Bool) → t ≡ true → x ≡ a → x ≡ (t implies a) and (t or b)
@@ -127,8 +153,17 @@ unfolding _and_ _or_ _implies_
 takes-other true a b x p q = absurd (true≢false p)
 takes-other false a b x p q = q
 
--- a that is a row of two
-pub takes-fails : (t a b c : Bool) → t ≡ true → a ≡ false → false ≡ (t implies a and b) and (t or c)
-takes-fails t a b c p q = takes t (a and b) c false p (fails-2-1 a b q)
-
 pub ruleset choice = (takes, takes-other)
+
+-- a choice where what is taken is a test m and then, but at the first slot, another: as for a slot that holds something
+
+pub slot-fails : (t m z p b : Bool) → t ≡ true → m ≡ false → false ≡ (t implies m and (z or p)) and (t or b)
+slot-fails t m z p b h k = takes t (m and (z or p)) b false h (fails-2-1 m (z or p) k)
+
+pub slot-first : (t m z p b : Bool) → t ≡ true → m ≡ true → z ≡ true → true ≡ (t implies m and (z or p)) and (t or b)
+slot-first t m z p b h k e = takes t (m and (z or p)) b true h (passes-2 m (z or p) true k (sym (or-true z p e)))
+
+pub slot-other : (t m z p b x : Bool) → t ≡ true → m ≡ true → z ≡ false → x ≡ p → x ≡ (t implies m and (z or p)) and (t or b)
+slot-other t m z p b x h k e q = takes t (m and (z or p)) b x h (passes-2 m (z or p) x k (or-goes z p x e q))
+
+pub ruleset slots = (takes-other, slot-fails, slot-first, slot-other)

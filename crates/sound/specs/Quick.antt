@@ -94,9 +94,11 @@ signals-ok handled pending =
     and all signals (λ s. has pending s implies has handled s)
 
 -- numbers up to the own level, and none beyond
+abbrev pub pid-ok : ℕ → ℕ → ℕ → Bool
+pid-ok pid l level = if leb l level then leb 1 pid and leb pid greatest-pid else eqb pid 0
+
 unfoldable pub pids-ok : (ℕ → ℕ) → ℕ → Bool
-pids-ok pid level =
-    all levels (λ l. if leb l level then leb 1 (pid l) and leb (pid l) greatest-pid else eqb (pid l) 0)
+pids-ok pid level = all levels (λ l. pid-ok (pid l) l level)
 
 unfoldable pub member-ok : (ℕ → ℕ) → ProcessRow → NamespaceRow → NamespaceRow → Bool
 member-ok up p home inner =
