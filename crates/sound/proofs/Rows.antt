@@ -3,10 +3,11 @@
 -- of those hold and the last is what is returned.
 use Prim.Native.Nat.{ℕ}
 use mathlib.Core.Bool.{Bool, true, false, not, true≢false, false≢true}
-use mathlib.Core.Path.{_≡_, refl, sym, _∙_}
+use mathlib.Core.Path.{_≡_, refl, sym, ap, _∙_}
 use borrow.Author.Tests.{eq-eqb, ne-eqb, lt-ltb, le-ltb, le-leb, lt-leb}
 use Rattle.table.proofs.Chains.{same, told, told-not, told-yes, told-equal, told-other, not-no, not-yes, and-false, and-false-later, or-true, or-goes}
-use Rattle.table.specs.Tests.{_and_, _or_, _implies_}
+use lib.Dec.{eqb}
+use Rattle.table.specs.Tests.{_and_, _or_, _implies_, agree}
 
 -- ---- one test, by what the code found
 
@@ -167,3 +168,23 @@ pub slot-other : (t m z p b x : Bool) → t ≡ true → m ≡ true → z ≡ fa
 slot-other t m z p b x h k e q = takes t (m and (z or p)) b x h (passes-2 m (z or p) x k (or-goes z p x e q))
 
 pub ruleset slots = (takes-other, slot-fails, slot-first, slot-other)
+
+-- ---- a callee's result that goes into a test
+
+-- a number n that is b, compared with k
+pub told-same : (n b k : ℕ) → n ≡ b → eqb n k ≡ eqb b k
+told-same n b k e = ap (λ x. eqb x k) e
+
+-- a test r of two: the first is a callee's result t
+pub told-agree : (r t b h c : Bool) → r ≡ agree t h → t ≡ b → r ≡ c → agree b h ≡ c
+told-agree r t b h c p e q = ap (λ x. agree x h) (sym e) ∙ sym p ∙ q
+
+pub agree-yes : (a b : Bool) → a ≡ true → b ≡ agree a b
+unfolding agree
+agree-yes true b e = refl
+agree-yes false b e = absurd (false≢true e)
+
+pub agree-no : (a b : Bool) → a ≡ false → not b ≡ agree a b
+unfolding agree
+agree-no true b e = absurd (true≢false e)
+agree-no false b e = refl

@@ -43,7 +43,7 @@ one-more up (suc m) n = one-more up m (up n)
 
 -- what k turns make of a namespace
 top-by : (up level : ℕ → ℕ) (n : ℕ) → n < namespace-slots → level n ≤ deepest → (k : ℕ) → k ≤ levels → top up level k n ≡ up-by up (level n - (levels - k)) n
-unfolding top up-by
+unfolding top Q.itself Q.raised up-by
 top-by up level n b l zero h =
     let z : level n - levels ≡ 0 = omega arith in
     pick-yes _ n 0 (lt-ltb n namespace-slots b) ∙ sym (ap (λ d. up-by up d n) z)
@@ -131,7 +131,7 @@ module _ (v : View) (p : Facts v) (h : Held v) where
   init-seen n s a = is-seen v n _ (lives-taken v _ (p .inits n s a .0)) (subst (λ m. So (below v m n)) (sym (p .inits n s a .1)) (below-refl v n))
 
   namespace-fits : (n : ℕ) → n < namespace-slots → So (Q.namespace-ok n (held v n) (namespace-at v n) (namespace-at v (v .up n)) (process-at v (init v n)))
-  unfolding Q.namespace-ok Q.life-ok Q.init-ok Q.place-ok pid-seen
+  unfolding Q.namespace-ok Q.filled-ok Q.life-ok Q.init-ok Q.place-ok pid-seen
   namespace-fits n l =
       simp tests (
         (p .last-pids n l, (λ s. is-held v p n (h .held-by n s), λ x. held-namespace v p n l (holder-of v n x))),
@@ -139,7 +139,7 @@ module _ (v : View) (p : Facts v) (h : Held v) where
           λ s. (
             (
               λ a. let q = p .inits n s a in (((lives-taken v _ (q .0), not-ended v _ (q .0)), q .1), p .first n s a _ (init-seen n s a) .1 refl),
-              p .unborn-last n s,
+              λ a. p .unborn-last n s,
             ),
             λ o. let q = p .tree n s o in ((q, λ u. p .unborn-leaf (v .up n) (q .0 .0) u n s o refl), p .below-dead n s o),
           ),
@@ -289,9 +289,9 @@ module _ (v : View) (r : Past v) (q : So (quick v)) where
   namespace-says :
       (n : ℕ) → n < namespace-slots
       → ((v .last n ≤ greatest-pid) × ((Stands v n → So (held v n)) × (So (held v n) → Stands v n)))
-      × ((Stands v n → ((So (alive v n) → Born v n) × (So (unborn v n) → v .last n ≡ 0)) × (Other n → Placed v n))
+      × ((Stands v n → ((So (alive v n) → Born v n) × ((So (alive v n) → ⊥) → So (unborn v n) → v .last n ≡ 0)) × (Other n → Placed v n))
       × ((Stands v n → ⊥) → So (Q.blank-namespace (namespace-at v n))))
-  unfolding Q.namespaces-ok Q.namespace-ok Q.life-ok Q.init-ok Q.place-ok pid-seen
+  unfolding Q.namespaces-ok Q.namespace-ok Q.filled-ok Q.life-ok Q.init-ok Q.place-ok pid-seen
   namespace-says n b = simp tests at (all-elim namespace-slots _ (parts .0 .0 .0 .1) n b)
 
   reach : (i : ℕ) → i < process-slots → So (reaches-root (v .parent) process-slots i)
@@ -448,7 +448,7 @@ module _ (v : View) (r : Past v) (q : So (quick v)) where
         empty-namespace = λ n o. by-namespace n (λ b. sym (blank-namespace-is v n) ∙ namespace-says n b .1 .1 o) (r .past-namespaces n);
         tree = λ n s o. placed n s o .0 .0;
         below-dead = λ n s o. placed n s o .1;
-        unborn-last = λ n s u. namespace-says n (namespace-range n s) .1 .0 s .0 .1 u;
+        unborn-last = λ n s u. namespace-says n (namespace-range n s) .1 .0 s .0 .1 (λ a. alive-unborn (v .life n) a u) u;
         unborn-empty = λ n s u. no-member n u;
         unborn-leaf = λ n s u. no-child n u;
         unborn-own = λ n s u i t e. holds-unborn n i s u t e;

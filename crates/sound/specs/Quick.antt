@@ -1,16 +1,20 @@
 -- The way in which the code decides whether a table is sound: each process once with the namespaces and the parent that it
 -- names, each namespace once with its parent and its init, and the numbers by one key for each process and level.
 -- proofs/Same.antt shows that it says what specs/Sound.antt of the table says.
-use Prim.Native.Nat.{ℕ, zero, suc, _+_, _*_, _-_}
+use Prim.Native.Nat.{ℕ, zero, suc, _+_, _*_, _-_, _<_}
 use mathlib.Core.Bool.{Bool, true, false, not}
+use mathlib.Core.List.{List}
+use mathlib.Core.Path.{_≡_}
 use lib.Dec.{eqb, leb, ltb}
+use lib.ListN.{getD, set, length}
 use Rattle.table.specs.Limits.{process-slots, namespace-slots, levels, deepest, greatest-pid, no-slot, signals, sigkill, sigstop}
-use Rattle.table.specs.Read.{View, taken, namespace-taken, pid-at, climb, is-running, is-ended, is-unborn, is-alive, is-dead, init-of}
+use Rattle.table.specs.Read.{View, taken, namespace-taken, no-namespace, pid-at, climb, is-running, is-ended, is-unborn, is-alive, is-dead, init-of}
 use Rattle.table.specs.SignalSets.{has}
-use Rattle.table.specs.Sound.{root-process, root-namespace, reaches-root, kept-end, held}
-use Rattle.table.specs.Tests.{_and_, _or_, _implies_, agree, if_then_else_, all}
+use Rattle.table.specs.Sound.{root-process, root-namespace, reaches-root, kept-end, holds, held}
+use Rattle.table.specs.Tests.{_and_, _or_, _implies_, agree, if_then_else_, all, any}
 use Rattle.table.specs.declared.Life.{Life}
 use Rattle.table.specs.declared.Namespace.{Namespace}
+use Rattle.table.specs.declared.ProcSlot.{ProcSlot}
 use Rattle.table.specs.declared.Process.{Process}
 use Rattle.table.specs.declared.State.{State}
 
@@ -127,6 +131,9 @@ processes-ok v =
     all process-slots
     (λ i. process-ok (v .up) i (process-at v i) (namespace-at v (v .own i)) (namespace-at v (v .children i)) (process-at v (v .parent i)))
 
+abbrev pub process-in : List ProcSlot → ℕ → ℕ
+process-in slots i = getD slots i (record { 0 = 0 }) .0
+
 -- an empty slot has slot 0 for its parent, so it reaches slot 0 too
 unfoldable pub reach-ok : (ℕ → ℕ) → Bool
 reach-ok parent = all process-slots (reaches-root parent process-slots)
@@ -137,7 +144,8 @@ unfoldable pub init-ok : ℕ → NamespaceRow → ProcessRow → Bool
 init-ok n s init = init .taken and not (init .ended) and eqb (init .own) n and eqb (init .pid (s .level)) 1
 
 unfoldable pub life-ok : ℕ → NamespaceRow → ProcessRow → Bool
-life-ok n s init = (is-alive (s .life) implies init-ok n s init) and (is-unborn (s .life) implies eqb (s .last) 0)
+life-ok n s init =
+    (is-alive (s .life) implies init-ok n s init) and (is-alive (s .life) or (is-unborn (s .life) implies eqb (s .last) 0))
 
 -- its place below its parent
 unfoldable pub place-ok : NamespaceRow → NamespaceRow → Bool
@@ -148,21 +156,53 @@ place-ok s above =
 unfoldable pub blank-namespace : NamespaceRow → Bool
 blank-namespace s = eqb (s .up) 0 and eqb (s .level) 0 and eqb (s .last) 0 and is-unborn (s .life)
 
+unfoldable pub filled-ok : ℕ → NamespaceRow → NamespaceRow → ProcessRow → Bool
+filled-ok n s above init =
+    (s .taken implies life-ok n s init and (eqb n 0 or place-ok s above)) and (s .taken or blank-namespace s)
+
 -- h says whether something holds it
 unfoldable pub namespace-ok : ℕ → Bool → NamespaceRow → NamespaceRow → ProcessRow → Bool
-namespace-ok n h s above init =
-    leb (s .last) greatest-pid and agree (s .taken) h
-    and ((s .taken implies life-ok n s init and (eqb n 0 or place-ok s above)) and (s .taken or blank-namespace s))
+namespace-ok n h s above init = leb (s .last) greatest-pid and agree (s .taken) h and filled-ok n s above init
 
 unfoldable pub namespaces-ok : View → Bool
 namespaces-ok v =
     all namespace-slots
     (λ n. namespace-ok n (held v n) (namespace-at v n) (namespace-at v (v .up n)) (process-at v (init-of (v .life n))))
 
+-- ---- which namespaces something holds, as marks
+
+abbrev pub mark-process : List Bool → ProcessRow → List Bool
+mark-process m p = if p .taken then set (set m (p .own) true) (p .children) true else m
+
+abbrev pub mark-namespace : List Bool → ℕ → NamespaceRow → List Bool
+mark-namespace m n s = if not (eqb n 0) and s .taken then set m (s .up) true else m
+
+-- the marks say of each namespace slot whether f holds
+pub record Marks (m : List Bool) (f : ℕ → Bool) : Type 0 where
+  pub long : length m ≡ namespace-slots
+  pub says : (n : ℕ) → n < namespace-slots → getD m n false ≡ f n
+
+-- the root is held, and what a process has as its own namespace or for its children
+unfoldable pub held-by-processes : View → ℕ → Bool
+held-by-processes v n =
+    eqb n 0 or any process-slots (λ i. taken v i and eqb (v .own i) n) or any process-slots (holds v n)
+
+-- and what is the parent of a namespace but the root
+unfoldable pub held-by-children : List Namespace → ℕ → Bool
+held-by-children s n =
+    any namespace-slots
+    (λ m. not (eqb m 0) and namespace-row m (getD s m no-namespace) .taken and eqb (getD s m no-namespace .parent .0) n)
+
 -- ---- keys, one for each process, of which no two may be equal but where they are 0
 
+abbrev pub key-in : List ℕ → ℕ → ℕ
+key-in keys i = getD keys i 0
+
+abbrev pub differs-at : (ℕ → ℕ) → ℕ → Bool
+differs-at key i = eqb (key i) 0 or all i (λ j. not (eqb (key j) (key i)))
+
 unfoldable pub differ : (ℕ → ℕ) → Bool
-differ key = all process-slots (λ i. eqb (key i) 0 or all i (λ j. not (eqb (key j) (key i))))
+differ key = all process-slots (differs-at key)
 
 -- the unborn namespace that a process holds
 unfoldable pub unborn-key : ProcessRow → NamespaceRow → ℕ
@@ -171,11 +211,18 @@ unborn-key p inner = if p .taken and inner .taken and is-unborn (inner .life) th
 abbrev pub unborn-keys : View → ℕ → ℕ
 unborn-keys v i = unborn-key (process-at v i) (namespace-at v (v .children i))
 
+-- each namespace itself, and those below a level one up
+unfoldable pub itself : ℕ → ℕ
+itself n = if ltb n namespace-slots then n else 0
+
+unfoldable pub raised : (ℕ → ℕ) → (ℕ → ℕ) → ℕ → (ℕ → ℕ) → ℕ → ℕ
+raised up level l top n = if ltb l (level n) then up (top n) else top n
+
 -- The namespace at the level 8 - k that is n or above it, where n is at most at level 8: at each turn those below the next
 -- level go one up.
 unfoldable pub top : (ℕ → ℕ) → (ℕ → ℕ) → ℕ → ℕ → ℕ
-top up level zero n = if ltb n namespace-slots then n else 0
-top up level (suc k) n = if ltb (deepest - k) (level n) then up (top up level k n) else top up level k n
+top up level zero = itself
+top up level (suc k) = raised up level (deepest - k) (top up level k)
 
 -- the namespace at a level and the number there as one key
 unfoldable pub pid-key : (ℕ → ℕ) → ℕ → ProcessRow → ℕ
@@ -183,6 +230,15 @@ pid-key top l p = if eqb (p .pid l) 0 then 0 else top (p .own) * 65536 + p .pid 
 
 abbrev pub pid-keys : View → ℕ → ℕ → ℕ
 pid-keys v k i = pid-key (top (v .up) (v .level) (suc k)) (deepest - k) (process-at v i)
+
+-- ---- the root
+
+unfoldable pub root-process-ok : ProcessRow → NamespaceRow → Bool
+root-process-ok p n =
+    eqb (init-of (n .life)) 0 and (p .taken and not (p .ended)) and eqb (p .own) 0 and eqb (p .pid 0) 1 and eqb (p .parent) no-slot
+
+unfoldable pub root-namespace-ok : NamespaceRow → Bool
+root-namespace-ok n = is-alive (n .life) and eqb (n .level) 0 and eqb (n .up) no-slot
 
 -- ---- all of it
 
