@@ -1,42 +1,40 @@
+-- A loop that tests every key.
+use borrow.Author.Needs.{needs}
+use Prim.Native.Nat.{_-_}
+use Rattle.table.proofs.AllLoops.{Passed, all-loops}
+use Rattle.table.specs.Limits.{process-slots}
+use Rattle.sound.specs.Quick.{key-in, differs-at, differ}
 use Rattle.sound.proofs.all_differ.Statement.{statement}
 use Rattle.sound.proofs.all_differ.Tie as tie
-use Rattle.sound.proofs.all_differ.Reads as reads
-use Rattle.sound.proofs.all_differ.Lts as lts
-use Rattle.sound.proofs.differs.Reads as differs-reads
 
 abbrev Inv-loop : tie.InvT-loop
-Inv-loop keys i₀ i = ?
+Inv-loop keys i₀ i = Passed process-slots (differs-at (key-in keys)) i
 
 abbrev μ-loop : tie.MeasureT-loop
-μ-loop keys i₀ i = ?
+μ-loop keys i₀ i = process-slots - i
 
--- src/lib.rt:582:5
 loop-holds : tie.Need-loop-holds Inv-loop μ-loop
-loop-holds c = ?
+loop-holds c = search all-loops
 
--- src/lib.rt:583:13
 differs-requires : tie.Need-differs-requires Inv-loop μ-loop
-differs-requires c κs = ?
+differs-requires c κs = search needs
 
--- src/lib.rt:584:13
 returns : tie.Need-returns Inv-loop μ-loop
-returns c = ?
+unfolding differ
+returns c = search all-loops
 
--- src/lib.rt:586:9
 add-i : tie.Need-add-i Inv-loop μ-loop
-add-i c = ?
+add-i c = search needs
 
--- src/lib.rt:582:5
 loop-less : tie.Need-loop-less Inv-loop μ-loop
-loop-less c = ?
+loop-less c = search needs
 
--- src/lib.rt:582:5
 loop-again : tie.Need-loop-again Inv-loop μ-loop
-loop-again c = ?
+loop-again c = search all-loops
 
--- src/lib.rt:578:1
 returns-2 : tie.Need-returns-2 Inv-loop μ-loop
-returns-2 c = ?
+unfolding differ
+returns-2 c = search all-loops
 
 pub all-differ-spec : {M : Type 1} → statement M
 all-differ-spec =

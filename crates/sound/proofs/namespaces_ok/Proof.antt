@@ -83,7 +83,7 @@ namespace-ok-requires c κs = search needs
 
 returns : tie.Need-returns Inv-loop μ-loop
 unfolding namespaces-ok
-returns c = let t = c .before .before .before .before .before .before .before .before .before .before .before .before .before .before .args .t1 in let i = c .before .before .before .before .before .before .before .before .before .before .loop .i in let s = namespace t i in let above : c .before .before .before .before .before .before .if1 .above ≡ namespace t (s .parent .0) = ⊎-elim (λ w. w .2) (λ w. let h = w .0 .left in let e : no-namespace ≡ getD (t .namespaces) (s .parent .0) no-namespace = search field-past in w .2 ∙ w .1 .ensures ∙ e) (c .before .before .before .before .before .before .if1 .came) in let k = c .before .before .before .before .before .init .result .0 in let read : process-row (c .before .before .before .if2 .init) ≡ process-row (process t k) = ⊎-elim (λ w. ap process-row (w .2)) (λ w. let h = w .0 .left in let e : no-process ≡ getD (t .processes) k no-process = search field-past in ap process-row (w .2 ∙ w .1 .ensures) ∙ empty-row ∙ ap process-row e) (c .before .before .before .if2 .came) in let init = read ∙ ap (λ k. process-row (process t k)) (c .before .before .before .before .before .init .ensures) in let l = c .before .before .before .before .before .before .before .before .before .loop-test .taken in let held = c .before .before .either .ensures ∙ ap₂ (λ x y. x or y) (c .before .before .before .before .before .before .before .before .before .before .before .before .held-by-processes .ensures .says i l) (c .before .before .before .before .before .before .before .before .before .before .before .held-by-children .ensures .says i l) ∙ marks-all t i in let e = namespace-reads t i _ _ _ (c .before .namespace-ok .result) held above init (c .before .namespace-ok .ensures) in all-fails namespace-slots _ i (c .before .namespace-ok .result) l e (c .if3 .taken)
+returns c = let t = c .before .before .before .before .before .before .before .before .before .before .before .before .before .before .args .t1 in let i = c .before .before .before .before .before .before .before .before .before .before .loop .i in let s = namespace t i in let above : c .before .before .before .before .before .before .if1 .above ≡ namespace t (s .parent .0) = ⊎-elim (λ w. w .2) (λ w. let h = w .0 .left in let e : no-namespace ≡ getD (t .namespaces) (s .parent .0) no-namespace = search (field-past, c .before .before .before .before .before .before .before .before .before .before .before .before .before .before .good) in w .2 ∙ w .1 .ensures ∙ e) (c .before .before .before .before .before .before .if1 .came) in let k = c .before .before .before .before .before .init .result .0 in let read : process-row (c .before .before .before .if2 .init) ≡ process-row (process t k) = ⊎-elim (λ w. ap process-row (w .2)) (λ w. let h = w .0 .left in let e : no-process ≡ getD (t .processes) k no-process = search (field-past, c .before .before .before .before .before .before .before .before .before .before .before .before .before .before .good) in ap process-row (w .2 ∙ w .1 .ensures) ∙ empty-row ∙ ap process-row e) (c .before .before .before .if2 .came) in let init = read ∙ ap (λ k. process-row (process t k)) (c .before .before .before .before .before .init .ensures) in let l = c .before .before .before .before .before .before .before .before .before .loop-test .taken in let held = c .before .before .either .ensures ∙ ap₂ (λ x y. x or y) (c .before .before .before .before .before .before .before .before .before .before .before .before .held-by-processes .ensures .says i l) (c .before .before .before .before .before .before .before .before .before .before .before .held-by-children .ensures .says i l) ∙ marks-all t i in let e = namespace-reads t i _ _ _ (c .before .namespace-ok .result) held above init (c .before .namespace-ok .ensures) in all-fails namespace-slots _ i (c .before .namespace-ok .result) l e (c .if3 .taken)
 
 add-i : tie.Need-add-i Inv-loop μ-loop
 add-i c = search needs
@@ -92,7 +92,7 @@ loop-less : tie.Need-loop-less Inv-loop μ-loop
 loop-less c = search needs
 
 loop-again : tie.Need-loop-again Inv-loop μ-loop
-loop-again c = let t = c .before .before .before .before .before .before .before .before .before .before .before .before .before .before .args .t1 in let i = c .before .before .before .before .before .before .before .before .before .before .loop .i in let s = namespace t i in let above : c .before .before .before .before .before .before .if1 .above ≡ namespace t (s .parent .0) = ⊎-elim (λ w. w .2) (λ w. let h = w .0 .left in let e : no-namespace ≡ getD (t .namespaces) (s .parent .0) no-namespace = search field-past in w .2 ∙ w .1 .ensures ∙ e) (c .before .before .before .before .before .before .if1 .came) in let k = c .before .before .before .before .before .init .result .0 in let read : process-row (c .before .before .before .if2 .init) ≡ process-row (process t k) = ⊎-elim (λ w. ap process-row (w .2)) (λ w. let h = w .0 .left in let e : no-process ≡ getD (t .processes) k no-process = search field-past in ap process-row (w .2 ∙ w .1 .ensures) ∙ empty-row ∙ ap process-row e) (c .before .before .before .if2 .came) in let init = read ∙ ap (λ k. process-row (process t k)) (c .before .before .before .before .before .init .ensures) in let l = c .before .before .before .before .before .before .before .before .before .loop-test .taken in let held = c .before .before .either .ensures ∙ ap₂ (λ x y. x or y) (c .before .before .before .before .before .before .before .before .before .before .before .before .held-by-processes .ensures .says i l) (c .before .before .before .before .before .before .before .before .before .before .before .held-by-children .ensures .says i l) ∙ marks-all t i in let e = namespace-reads t i _ _ _ (c .before .namespace-ok .result) held above init (c .before .namespace-ok .ensures) in all-goes-on namespace-slots _ i (c .before .namespace-ok .result) (c .before .before .before .before .before .before .before .before .before .before .loop .inv) l e (c .if3 .left)
+loop-again c = let t = c .before .before .before .before .before .before .before .before .before .before .before .before .before .before .args .t1 in let i = c .before .before .before .before .before .before .before .before .before .before .loop .i in let s = namespace t i in let above : c .before .before .before .before .before .before .if1 .above ≡ namespace t (s .parent .0) = ⊎-elim (λ w. w .2) (λ w. let h = w .0 .left in let e : no-namespace ≡ getD (t .namespaces) (s .parent .0) no-namespace = search (field-past, c .before .before .before .before .before .before .before .before .before .before .before .before .before .before .good) in w .2 ∙ w .1 .ensures ∙ e) (c .before .before .before .before .before .before .if1 .came) in let k = c .before .before .before .before .before .init .result .0 in let read : process-row (c .before .before .before .if2 .init) ≡ process-row (process t k) = ⊎-elim (λ w. ap process-row (w .2)) (λ w. let h = w .0 .left in let e : no-process ≡ getD (t .processes) k no-process = search (field-past, c .before .before .before .before .before .before .before .before .before .before .before .before .before .before .good) in ap process-row (w .2 ∙ w .1 .ensures) ∙ empty-row ∙ ap process-row e) (c .before .before .before .if2 .came) in let init = read ∙ ap (λ k. process-row (process t k)) (c .before .before .before .before .before .init .ensures) in let l = c .before .before .before .before .before .before .before .before .before .loop-test .taken in let held = c .before .before .either .ensures ∙ ap₂ (λ x y. x or y) (c .before .before .before .before .before .before .before .before .before .before .before .before .held-by-processes .ensures .says i l) (c .before .before .before .before .before .before .before .before .before .before .before .held-by-children .ensures .says i l) ∙ marks-all t i in let e = namespace-reads t i _ _ _ (c .before .namespace-ok .result) held above init (c .before .namespace-ok .ensures) in all-goes-on namespace-slots _ i (c .before .namespace-ok .result) (c .before .before .before .before .before .before .before .before .before .before .loop .inv) l e (c .if3 .left)
 
 returns-2 : tie.Need-returns-2 Inv-loop μ-loop
 unfolding namespaces-ok
