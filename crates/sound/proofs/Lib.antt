@@ -5,4 +5,5 @@ pub mod Fills
 pub mod Marks
 pub mod Reaches
 pub mod Records
+pub mod Keys
 pub mod Same

@@ -74,11 +74,10 @@ module _ (h q : ℕ) (hl : h < 2 ^ signals) (ql : q < 2 ^ signals) where
       ((λ e. o .0 .0 (rw e at k), λ e. o .0 .1 (rw e at k)), λ e. o .1 (rw e at k)))
 
   unmasked : bitAnd h catchable ≡ h → Catchable h
-  unmasked e =
-      (
-        (λ k. lacks .0 .0 (among h catchable e 0 k), λ k. lacks .0 .1 (among h catchable e sigkill k)),
-        λ k. lacks .1 (among h catchable e sigstop k),
-      )
+  unmasked e = (
+    (λ k. lacks .0 .0 (among h catchable e 0 k), λ k. lacks .0 .1 (among h catchable e sigkill k)),
+    λ k. lacks .1 (among h catchable e sigstop k),
+  )
 
   says : So (signals-ok h q) → Catchable h × ((s : ℕ) → s < signals → So (has q s) → So (has h s))
   unfolding signals-ok

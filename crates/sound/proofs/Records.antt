@@ -4,17 +4,20 @@ use mathlib.Core.Bool.{Bool, false, not}
 use mathlib.Core.List.{List, []}
 use mathlib.Core.Path.{_≡_, refl, sym, ap, subst, fun-ext, _∙_}
 use lib.Dec.{eqb}
-use lib.ListN.{getD, replicate}
+use lib.ListN.{length, getD, replicate, List·getD-eq-default}
+use native.Mathlib.Omega.{arith}
+use Rattle.table.proofs.Laws.Facts.{Past}
 use Rattle.table.specs.Fresh.{empty-process}
-use Rattle.table.specs.Limits.{levels}
-use Rattle.table.specs.Read.{view, process, namespace, no-pid, no-process, taken, namespace-taken, init-of}
-use Rattle.table.specs.Sound.{held}
+use Rattle.table.specs.Limits.{levels, process-slots, namespace-slots}
+use Rattle.table.specs.Read.{view, process, namespace, no-pid, no-process, no-namespace, taken, namespace-taken, init-of}
+use Rattle.table.specs.Sound.{held, zero-process, zero-namespace}
+use Rattle.table.specs.Tests.{_and_, all}
 use Rattle.table.specs.declared.Namespace.{Namespace}
 use Rattle.table.specs.declared.Pid.{Pid}
 use Rattle.table.specs.declared.Process.{Process}
 use Rattle.table.specs.declared.State.the-variants.{Running}
 use Rattle.table.specs.declared.Table.{Table}
-use Rattle.sound.specs.Quick.{ProcessRow, process-row, namespace-row, process-at, namespace-at, process-ok, namespace-ok}
+use Rattle.sound.specs.Quick.{ProcessRow, process-row, namespace-row, process-at, namespace-at, process-ok, namespace-ok, blank, blank-namespace}
 
 no-pids : (n l : ℕ) → getD (replicate n no-pid) l no-pid .0 ≡ 0
 no-pids zero l = refl
@@ -53,3 +56,12 @@ module _ (t : Table) where
       ∙ ap (λ u. namespace-ok n u (namespace-row n (namespace t n)) (namespace-row (namespace t n .parent .0) above) init) a
       ∙ ap (λ u. namespace-ok n (held (view t) n) (namespace-row n (namespace t n)) (namespace-row (namespace t n .parent .0) u) init) b
       ∙ ap (λ u. namespace-ok n (held (view t) n) (namespace-row n (namespace t n)) (namespace-row (namespace t n .parent .0) (namespace t (namespace t n .parent .0))) u) c
+
+-- Past the last slot all is zero: the arrays have the lengths of their types.
+pub past-from : (t : Table) → length (t .processes) ≡ process-slots → length (t .namespaces) ≡ namespace-slots → Past (view t)
+unfolding zero-process zero-namespace blank blank-namespace all _and_
+past-from t a b =
+    record {
+      past = λ i h. ap (λ p. blank (process-row p)) (List·getD-eq-default (t .processes) no-process (omega arith));
+      past-namespaces = λ n h. ap (λ s. blank-namespace (namespace-row 0 s)) (List·getD-eq-default (t .namespaces) no-namespace (omega arith));
+    }

@@ -19,7 +19,6 @@ use tree::holds_namespace;
 use tree::levels;
 use tree::parent_of;
 use tree::ups;
-
 ghost use mathlib.Core.Path.{_≡_};
 ghost use mathlib.Core.Bool.{not, true};
 ghost use Prim.Native.Nat.{suc, _<_};
@@ -64,12 +63,7 @@ fn holds_rightly(p: Process, inner: Namespace) -> bool
 }
 
 // A living process's namespace is not dead, and the one for its children is its own or below.
-fn living_ok(
-    up: [NsSlot; NAMESPACE_SLOTS],
-    p: Process,
-    home: Namespace,
-    inner: Namespace,
-) -> bool
+fn living_ok(up: [NsSlot; NAMESPACE_SLOTS], p: Process, home: Namespace, inner: Namespace) -> bool
     ensures { λ r. ⌜ r ≡ living-ok (slot-in up) (process-row p) (namespace-row (p .own .0) home) (namespace-row (p .children .0) inner) ⌝ }
 {
     let own = p.own;
@@ -86,12 +80,7 @@ fn living_ok(
     holds_rightly(p, inner)
 }
 
-fn state_ok(
-    up: [NsSlot; NAMESPACE_SLOTS],
-    p: Process,
-    home: Namespace,
-    inner: Namespace,
-) -> bool
+fn state_ok(up: [NsSlot; NAMESPACE_SLOTS], p: Process, home: Namespace, inner: Namespace) -> bool
     ensures { λ r. ⌜ r ≡ state-ok (slot-in up) (process-row p) (namespace-row (p .own .0) home) (namespace-row (p .children .0) inner) ⌝ }
 {
     if p.has_ended() {
@@ -167,12 +156,7 @@ fn pids_ok(p: Process, level: u8) -> bool
     true
 }
 
-fn member_ok(
-    up: [NsSlot; NAMESPACE_SLOTS],
-    p: Process,
-    home: Namespace,
-    inner: Namespace,
-) -> bool
+fn member_ok(up: [NsSlot; NAMESPACE_SLOTS], p: Process, home: Namespace, inner: Namespace) -> bool
     ensures { λ r. ⌜ r ≡ member-ok (slot-in up) (process-row p) (namespace-row (p .own .0) home) (namespace-row (p .children .0) inner) ⌝ }
 {
     let own = p.own;
@@ -208,12 +192,7 @@ fn first_ok(p: Process, home: Namespace, parent: Process) -> bool
     true
 }
 
-fn parent_ok(
-    up: [NsSlot; NAMESPACE_SLOTS],
-    p: Process,
-    home: Namespace,
-    parent: Process,
-) -> bool
+fn parent_ok(up: [NsSlot; NAMESPACE_SLOTS], p: Process, home: Namespace, parent: Process) -> bool
     ensures { λ r. ⌜ r ≡ parent-ok (slot-in up) (process-row p) (namespace-row (p .own .0) home) (process-row parent) ⌝ }
 {
     let own = p.own;
@@ -450,7 +429,11 @@ fn mark_process(marks: [bool; NAMESPACE_SLOTS], p: Process) -> [bool; NAMESPACE_
 }
 
 // A namespace but the root holds its parent.
-fn mark_namespace(marks: [bool; NAMESPACE_SLOTS], n: NsSlot, s: Namespace) -> [bool; NAMESPACE_SLOTS]
+fn mark_namespace(
+    marks: [bool; NAMESPACE_SLOTS],
+    n: NsSlot,
+    s: Namespace,
+) -> [bool; NAMESPACE_SLOTS]
     ensures { λ r. ⌜ r ≡ mark-namespace marks (n .0) (namespace-row (n .0) s) ⌝ }
 {
     if n.0 == 0 {

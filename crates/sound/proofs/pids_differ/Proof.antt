@@ -1,71 +1,62 @@
+-- A loop over the levels from the deepest up, with the namespaces above at each.
+use borrow.Author.Needs.{needs}
+use Prim.Native.Nat.{_-_}
+use native.Mathlib.Numerals.{add-one}
+use mathlib.Core.Path.{_≡_}
+use Rattle.table.proofs.AllLoops.{Passed, all-starts, all-goes-on, all-fails, all-passes}
+use Rattle.table.specs.Limits.{levels as level-count}
+use Rattle.table.specs.Read.{view}
+use Rattle.tree.specs.Tree.{slot-in}
+use Rattle.sound.specs.Quick.{differ, pid-keys, top}
+use Rattle.sound.proofs.Keys.{next-top, next-differs}
 use Rattle.sound.proofs.pids_differ.Statement.{statement}
 use Rattle.sound.proofs.pids_differ.Tie as tie
-use Rattle.sound.proofs.pids_differ.Reads as reads
-use Rattle.sound.proofs.pids_differ.Lts as lts
-use Rattle.sound.proofs.all_differ.Reads as all-differ-reads
-use Rattle.sound.proofs.pid_keys.Reads as pid-keys-reads
-use Rattle.sound.proofs.raise.Reads as raise-reads
-use Rattle.sound.proofs.themselves.Reads as themselves-reads
-use Rattle.tree.proofs.levels.Reads as levels-reads
-use Rattle.tree.proofs.ups.Reads as ups-reads
 
 abbrev Inv-loop : tie.InvT-loop
-Inv-loop t up levels tops₀ k₀ tops k = ?
+Inv-loop t up levels tops₀ k₀ tops k = (Passed level-count (λ l. differ (pid-keys (view t) l)) k) × (slot-in tops ≡ top (view t .up) (view t .level) k)
 
 abbrev μ-loop : tie.MeasureT-loop
-μ-loop t up levels tops₀ k₀ tops k = ?
+μ-loop t up levels tops₀ k₀ tops k = level-count - k
 
--- src/lib.rt:813:9
 ups-requires : tie.Need-ups-requires Inv-loop μ-loop
-ups-requires c κs = ?
+ups-requires c κs = search needs
 
--- src/lib.rt:814:9
 levels-requires : tie.Need-levels-requires Inv-loop μ-loop
-levels-requires c κs = ?
+levels-requires c κs = search needs
 
--- src/lib.rt:815:9
 themselves-requires : tie.Need-themselves-requires Inv-loop μ-loop
-themselves-requires c κs = ?
+themselves-requires c κs = search needs
 
--- src/lib.rt:817:5
 loop-holds : tie.Need-loop-holds Inv-loop μ-loop
-loop-holds c = ?
+unfolding top
+loop-holds c = (all-starts level-count _, c .themselves .ensures)
 
--- src/lib.rt:818:21
 sub-level : tie.Need-sub-level Inv-loop μ-loop
-sub-level c = ?
+sub-level c = search needs
 
--- src/lib.rt:819:13
 raise-requires : tie.Need-raise-requires Inv-loop μ-loop
-raise-requires c κs = ?
+raise-requires c κs = search needs
 
--- src/lib.rt:821:24
 pid-keys-requires : tie.Need-pid-keys-requires Inv-loop μ-loop
-pid-keys-requires c κs = ?
+pid-keys-requires c κs = search needs
 
--- src/lib.rt:821:13
 all-differ-requires : tie.Need-all-differ-requires Inv-loop μ-loop
-all-differ-requires c κs = ?
+all-differ-requires c κs = search needs
 
--- src/lib.rt:822:13
 returns : tie.Need-returns Inv-loop μ-loop
-returns c = ?
+returns c = let v = view (c .before .before .before .before .before .before .before .before .before .before .args .t) in let k = c .before .before .before .before .before .loop .k in let next = next-top v k _ _ _ _ (c .before .before .before .before .before .before .before .before .ups .ensures) (c .before .before .before .before .before .before .before .levels .ensures) (c .before .before .before .before .before .loop .inv .1) (c .before .before .before .raise .ensures) in let e = next-differs v k _ _ (c .before .all-differ .result) next (c .before .before .pid-keys .ensures) (c .before .all-differ .ensures) in all-fails level-count _ k (c .before .all-differ .result) (c .before .before .before .before .loop-test .taken) e (c .if1 .taken)
 
--- src/lib.rt:824:9
 add-k : tie.Need-add-k Inv-loop μ-loop
-add-k c = ?
+add-k c = search needs
 
--- src/lib.rt:817:5
 loop-less : tie.Need-loop-less Inv-loop μ-loop
-loop-less c = ?
+loop-less c = search needs
 
--- src/lib.rt:817:5
 loop-again : tie.Need-loop-again Inv-loop μ-loop
-loop-again c = ?
+loop-again c = let v = view (c .before .before .before .before .before .before .before .before .before .before .args .t) in let k = c .before .before .before .before .before .loop .k in let next = next-top v k _ _ _ _ (c .before .before .before .before .before .before .before .before .ups .ensures) (c .before .before .before .before .before .before .before .levels .ensures) (c .before .before .before .before .before .loop .inv .1) (c .before .before .before .raise .ensures) in let e = next-differs v k _ _ (c .before .all-differ .result) next (c .before .before .pid-keys .ensures) (c .before .all-differ .ensures) in (all-goes-on level-count _ k (c .before .all-differ .result) (c .before .before .before .before .before .loop .inv .0) (c .before .before .before .before .loop-test .taken) e (c .if1 .left), rw add-one next)
 
--- src/lib.rt:809:1
 returns-2 : tie.Need-returns-2 Inv-loop μ-loop
-returns-2 c = ?
+returns-2 c = all-passes level-count _ _ (c .before .loop .inv .0) (search needs)
 
 pub pids-differ-spec : {M : Type 1} → statement M
 pids-differ-spec =
