@@ -2,9 +2,11 @@
 use Rattle.table.proofs.Keeps.Changes as Changes
 use Rattle.table.proofs.Keeps.Fixed as Fixed
 use Rattle.table.proofs.Keeps.Finds as Finds
+use Rattle.table.proofs.Keeps.Lines as Lines
+use Rattle.table.proofs.Keeps.Numbers as Numbers
 use Rattle.table.proofs.Keeps.Refusals as Refusals
 use Rattle.table.proofs.Sameness.Demand3 as Demand3
-use Rattle.table.specs.Claims.{RefusalLeaves, KeepsSound, NamespaceFixed, SignalFinds, SubtreeFalls, OutsideLeaves, Sameness}
+use Rattle.table.specs.Claims.{RefusalLeaves, KeepsSound, NamespaceFixed, SignalFinds, SubtreeFalls, OutsideLeaves, Sameness, AnswersListed, NumbersKept}
 
 -- A refusal leaves the whole table unchanged and tells the host no slot.
 pub refusal-leaves : RefusalLeaves
@@ -33,3 +35,11 @@ outside-leaves = Demand3.outside-leaves
 -- Demand 3: what inside calls answer and leave is the same on two tables whose sheets are equal.
 pub sameness : Sameness
 sameness = Demand3.sameness
+
+-- Each negative number is given exactly when its line says so and no earlier line does.
+pub answers-listed : AnswersListed
+answers-listed = Lines.answers-listed
+
+-- A process that stays in the table keeps its numbers at all levels and its own namespace.
+pub numbers-kept : NumbersKept
+numbers-kept = Numbers.numbers-kept

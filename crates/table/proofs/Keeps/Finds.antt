@@ -59,7 +59,7 @@ module _ (v : View) (f : Facts v) (c : ℕ) (here : Taken v c) where
   named-meant zero i o e = absurd (o refl)
   named-meant (suc k) i o e = rw e (⊎-elim (λ x. (x .0, x .1)) (λ x. absurd (o (x .0))) (find-cases v (v .own c) (suc k)))
 
-  meant-named : (n i : ℕ) → Seen v (v .own c) i → pid-to v c i ≡ n → named v c (pos n) ≡ i
+  pub meant-named : (n i : ℕ) → Seen v (v .own c) i → pid-to v c i ≡ n → named v c (pos n) ≡ i
   unfolding named
   meant-named zero i h e = absurd (counted i h e)
   meant-named (suc k) i h e = ap (find v (v .own c)) (sym e) ∙ finds v f (v .own c) i place h
