@@ -21,3 +21,4 @@ pub mod Finds
 pub mod Refusals
 pub mod Numbers
 pub mod Lines
+pub mod Fresh

@@ -2,11 +2,12 @@
 use Rattle.table.proofs.Keeps.Changes as Changes
 use Rattle.table.proofs.Keeps.Fixed as Fixed
 use Rattle.table.proofs.Keeps.Finds as Finds
+use Rattle.table.proofs.Keeps.Fresh as Fresh
 use Rattle.table.proofs.Keeps.Lines as Lines
 use Rattle.table.proofs.Keeps.Numbers as Numbers
 use Rattle.table.proofs.Keeps.Refusals as Refusals
 use Rattle.table.proofs.Sameness.Demand3 as Demand3
-use Rattle.table.specs.Claims.{RefusalLeaves, KeepsSound, NamespaceFixed, SignalFinds, SubtreeFalls, OutsideLeaves, Sameness, AnswersListed, NumbersKept}
+use Rattle.table.specs.Claims.{RefusalLeaves, KeepsSound, NamespaceFixed, SignalFinds, SubtreeFalls, OutsideLeaves, Sameness, AnswersListed, NumbersKept, NumberFresh}
 
 -- A refusal leaves the whole table unchanged and tells the host no slot.
 pub refusal-leaves : RefusalLeaves
@@ -43,3 +44,7 @@ answers-listed = Lines.answers-listed
 -- A process that stays in the table keeps its numbers at all levels and its own namespace.
 pub numbers-kept : NumbersKept
 numbers-kept = Numbers.numbers-kept
+
+-- A newborn has in its own namespace and in each above it the next number there, which nobody had; it becomes the last.
+pub number-fresh : NumberFresh
+number-fresh = Fresh.number-fresh

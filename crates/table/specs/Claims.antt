@@ -1,8 +1,8 @@
 -- The promises, as types: a value of such a type is a proof.
-use Prim.Native.Nat.{ℕ, _<_}
+use Prim.Native.Nat.{ℕ, _<_, _≤_}
 use mathlib.Core.Bool.{Bool, true, false, not, So}
 use mathlib.Core.List.{List, [], _∷_}
-use mathlib.Core.Logic.{_↔_}
+use mathlib.Core.Logic.{_↔_, _⊎_}
 use mathlib.Core.Option.{Option, none, some}
 use mathlib.Core.Path.{_≡_}
 use lib.Dec.{eqb, ltb}
@@ -11,7 +11,7 @@ use Rattle.table.specs.Answers.{is-no-room}
 use Rattle.table.specs.Calls.{targets, pid-to, within, natural, names-group}
 use Rattle.table.specs.Events.{Place, at, Event, inside, outside, sheet-of, inside-calls, happens, answer-of, next-table, next-place}
 use Rattle.table.specs.Limits.{no-slot, process-slots, namespace-slots, signals}
-use Rattle.table.specs.Read.{View, view, process, taken, living, namespace-taken, alive, dead, init, below, seen, is-running, child-of}
+use Rattle.table.specs.Read.{View, view, process, taken, living, namespace-taken, alive, dead, init, below, seen, pid-seen, is-running, child-of}
 use Rattle.table.specs.Sheet.{Sheet, sheet}
 use Rattle.table.specs.Sound.{SoundTable, sound, shaped}
 use Rattle.table.specs.Step.{step, runs}
@@ -279,3 +279,26 @@ NumbersKept =
     (t : Table) (c i : ℕ) (call : Call) → SoundTable t → So (taken (view t) i) → So (taken (view (step t c call .table)) i)
     → ((l : ℕ) → view (step t c call .table) .pid i l ≡ view t .pid i l)
     × (view (step t c call .table) .own i ≡ view t .own i)
+
+-- no process in the table, ended or not, has the number k in n
+unfoldable pub Unused : View → ℕ → ℕ → Type 0
+Unused v n k = (i : ℕ) → So (seen v n i) → pid-seen v n i ≡ k → ⊥
+
+-- "A number": the lowest free number above the namespace's last; if there is none up to 32,767, the lowest free from
+-- 300 (as Linux). An ended process keeps its numbers until removed.
+pub record NextNumber (v : View) (n k : ℕ) : Type 0 where
+  pub unused : Unused v n k
+  pub within : (1 ≤ k) × (k ≤ 32767)
+  pub lowest :
+      ((v .last n < k) × ((j : ℕ) → v .last n < j → j < k → Unused v n j → ⊥))
+      ⊎ (((j : ℕ) → v .last n < j → j ≤ 32767 → Unused v n j → ⊥) × (300 ≤ k) × ((j : ℕ) → 300 ≤ j → j < k → Unused v n j → ⊥))
+
+-- Whoever is in the table after a call and was not before, a child that clone bore, has in its own namespace and in
+-- each above it the next number there, which no process had before; and it becomes the last.
+unfoldable pub NumberFresh : Type 0
+NumberFresh =
+    (t : Table) (c i : ℕ) (call : Call) → SoundTable t → (So (taken (view t) i) → ⊥)
+    → So (taken (view (step t c call .table)) i)
+    → (n : ℕ) → So (below (view (step t c call .table)) (view (step t c call .table) .own i) n)
+    → NextNumber (view t) n (pid-seen (view (step t c call .table)) n i)
+    × (view (step t c call .table) .last n ≡ pid-seen (view (step t c call .table)) n i)
