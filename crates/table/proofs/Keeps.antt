@@ -22,3 +22,4 @@ pub mod Refusals
 pub mod Numbers
 pub mod Lines
 pub mod Fresh
+pub mod Exact

@@ -8,10 +8,10 @@ use mathlib.Core.Path.{_≡_}
 use lib.Dec.{eqb, ltb}
 use lib.IntN.{ℤ, pos, negsuc}
 use Rattle.table.specs.Answers.{is-no-room}
-use Rattle.table.specs.Calls.{targets, pid-to, within, natural, names-group}
+use Rattle.table.specs.Calls.{targets, pid-to, within, natural, names-group, status}
 use Rattle.table.specs.Events.{Place, at, Event, inside, outside, sheet-of, inside-calls, happens, answer-of, next-table, next-place}
 use Rattle.table.specs.Limits.{no-slot, process-slots, namespace-slots, signals}
-use Rattle.table.specs.Read.{View, view, process, taken, living, namespace-taken, alive, dead, init, below, seen, pid-seen, is-running, child-of}
+use Rattle.table.specs.Read.{View, view, process, taken, living, namespace-taken, alive, dead, init, is-init, below, seen, pid-seen, is-running, child-of}
 use Rattle.table.specs.Sheet.{Sheet, sheet}
 use Rattle.table.specs.Sound.{SoundTable, sound, shaped}
 use Rattle.table.specs.Step.{step, runs}
@@ -21,8 +21,11 @@ use Rattle.table.specs.declared.Answer.{Answer}
 use Rattle.table.specs.declared.Answer.the-variants.{Refused}
 use Rattle.table.specs.declared.Call.{Call}
 use Rattle.table.specs.declared.Call.the-variants.{Clone, CloneNew, Unshare, Setns, Kill, Exit, Wait, Getpid, Getppid, Handle, Poll}
+use Rattle.table.specs.declared.End.{End}
+use Rattle.table.specs.declared.End.the-variants.{Exited, Signaled}
 use Rattle.table.specs.declared.Refusal.{Refusal}
 use Rattle.table.specs.declared.Refusal.the-variants.{Unsound, NotRunning, Einval, Enosys, Esrch, Ebusy, Echild, Enospc, Enomem, Eagain}
+use Rattle.table.specs.declared.State.the-variants.{Ended}
 use Rattle.table.specs.declared.Table.{Table}
 
 -- ---- demand 1
@@ -302,3 +305,28 @@ NumberFresh =
     → (n : ℕ) → So (below (view (step t c call .table)) (view (step t c call .table) .own i) n)
     → NextNumber (view t) n (pid-seen (view (step t c call .table)) n i)
     × (view (step t c call .table) .last n ≡ pid-seen (view (step t c call .table)) n i)
+
+-- "An end", of the init at c, for the reason e, by a call that took t to u.
+pub record EndsExactly (t u : Table) (c : ℕ) (e : End) : Type 0 where
+  -- Removed are exactly those of the subtree whose parent lies in the subtree, ended before or now.
+  pub removed :
+      (i : ℕ) → So (taken (view t) i)
+      → (So (taken (view u) i) → ⊥)
+      ↔ (So (seen (view t) (view t .own c) i) × So (seen (view t) (view t .own c) (view t .parent i)))
+  -- The others of the subtree stay for their outside parent, ended: the init for its own reason, one that had ended
+  -- before for the reason it had, and each other by signal 9.
+  pub left :
+      (i : ℕ) → So (seen (view t) (view t .own c) i) → (So (seen (view t) (view t .own c) (view t .parent i)) → ⊥)
+      → view u .state i ≡ (if eqb i c then Ended e else (if view t .ended i then view t .state i else Ended (Signaled 9)))
+  -- Nobody outside the subtree is ended, or changed at all.
+  pub outside : (i : ℕ) → (So (seen (view t) (view t .own c) i) → ⊥) → process u i ≡ process t i
+
+-- An init other than the root's ends so by its exit, and by a signal 9 that one in a namespace above sends it by number.
+pub record EndExact : Type 0 where
+  pub by-exit :
+      (t : Table) (c : ℕ) (s : ℤ) → SoundTable t → So (runs (view t) c) → So (is-init (view t) c) → (c ≡ 0 → ⊥)
+      → EndsExactly t (step t c (Exit s) .table) c (Exited (status s))
+  pub by-signal :
+      (t : Table) (c i : ℕ) → SoundTable t → So (runs (view t) c) → So (living (view t) i) → So (is-init (view t) i)
+      → So (seen (view t) (view t .own c) i) → (view t .own i ≡ view t .own c → ⊥)
+      → EndsExactly t (step t c (Kill (pos (pid-to (view t) c i)) (pos 9)) .table) i (Signaled 9)
