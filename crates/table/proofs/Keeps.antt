@@ -19,3 +19,7 @@ pub mod Changes
 pub mod Fixed
 pub mod Finds
 pub mod Refusals
+pub mod Numbers
+pub mod Lines
+pub mod Fresh
+pub mod Exact

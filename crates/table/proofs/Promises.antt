@@ -1,10 +1,14 @@
 -- The promises of specs/Claims.antt, each proved.
 use Rattle.table.proofs.Keeps.Changes as Changes
+use Rattle.table.proofs.Keeps.Exact as Exact
 use Rattle.table.proofs.Keeps.Fixed as Fixed
 use Rattle.table.proofs.Keeps.Finds as Finds
+use Rattle.table.proofs.Keeps.Fresh as Fresh
+use Rattle.table.proofs.Keeps.Lines as Lines
+use Rattle.table.proofs.Keeps.Numbers as Numbers
 use Rattle.table.proofs.Keeps.Refusals as Refusals
 use Rattle.table.proofs.Sameness.Demand3 as Demand3
-use Rattle.table.specs.Claims.{RefusalLeaves, KeepsSound, NamespaceFixed, SignalFinds, SubtreeFalls, OutsideLeaves, Sameness}
+use Rattle.table.specs.Claims.{RefusalLeaves, KeepsSound, NamespaceFixed, SignalFinds, SubtreeFalls, OutsideLeaves, Sameness, AnswersListed, NumbersKept, NumberFresh, EndExact}
 
 -- A refusal leaves the whole table unchanged and tells the host no slot.
 pub refusal-leaves : RefusalLeaves
@@ -33,3 +37,19 @@ outside-leaves = Demand3.outside-leaves
 -- Demand 3: what inside calls answer and leave is the same on two tables whose sheets are equal.
 pub sameness : Sameness
 sameness = Demand3.sameness
+
+-- Each negative number is given exactly when its line says so and no earlier line does.
+pub answers-listed : AnswersListed
+answers-listed = Lines.answers-listed
+
+-- A process that stays in the table keeps its numbers at all levels and its own namespace.
+pub numbers-kept : NumbersKept
+numbers-kept = Numbers.numbers-kept
+
+-- A newborn has in its own namespace and in each above it the next number there, which nobody had; it becomes the last.
+pub number-fresh : NumberFresh
+number-fresh = Fresh.number-fresh
+
+-- The end of an init removes exactly those of its subtree whose parent lies there, and leaves all outside as they were.
+pub end-exact : EndExact
+end-exact = Exact.end-exact

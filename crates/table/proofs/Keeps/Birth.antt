@@ -60,10 +60,10 @@ pub record Fresh (v : View) (n k : ℕ) : Type 0 where
 
 -- The number that the search gives, in any table: 64 processes cannot hold all that it tries.
 module _ (v : View) (n : ℕ) where
-  abbrev low : ℕ
+  abbrev pub low : ℕ
   low = lowest (free-pid v n) (greatest-pid - v .last n) (suc (v .last n))
 
-  abbrev again : ℕ
+  abbrev pub again : ℕ
   again = lowest (free-pid v n) (suc greatest-pid - restart-pid) restart-pid
 
   -- 65 numbers are not all held by 64 processes

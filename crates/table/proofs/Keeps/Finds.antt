@@ -50,7 +50,7 @@ module _ (v : View) (f : Facts v) (c : ℕ) (here : Taken v c) where
   place = f .members c here .0 .0
 
   -- who is seen has a number there, from 1
-  counted : (i : ℕ) → Seen v (v .own c) i → pid-to v c i ≡ 0 → ⊥
+  pub counted : (i : ℕ) → Seen v (v .own c) i → pid-to v c i ≡ 0 → ⊥
   unfolding pid-seen
   counted i h e = omega (arith, pid-pos v f i (v .level (v .own c)) (seen-taken v _ i h) (below-level v f _ _ (seen-below v _ i h)))
 
@@ -59,7 +59,7 @@ module _ (v : View) (f : Facts v) (c : ℕ) (here : Taken v c) where
   named-meant zero i o e = absurd (o refl)
   named-meant (suc k) i o e = rw e (⊎-elim (λ x. (x .0, x .1)) (λ x. absurd (o (x .0))) (find-cases v (v .own c) (suc k)))
 
-  meant-named : (n i : ℕ) → Seen v (v .own c) i → pid-to v c i ≡ n → named v c (pos n) ≡ i
+  pub meant-named : (n i : ℕ) → Seen v (v .own c) i → pid-to v c i ≡ n → named v c (pos n) ≡ i
   unfolding named
   meant-named zero i h e = absurd (counted i h e)
   meant-named (suc k) i h e = ap (find v (v .own c)) (sym e) ∙ finds v f (v .own c) i place h
@@ -88,7 +88,7 @@ module _ (v : View) (f : Facts v) (c : ℕ) (here : Taken v c) where
 -- ---- what a change leaves
 
 -- the processes that are not seen from n are as they were
-abbrev Leaves : ℕ → Table → Table → Type 0
+abbrev pub Leaves : ℕ → Table → Table → Type 0
 Leaves n t u = (i : ℕ) → (Seen (view t) n i → ⊥) → process u i ≡ process t i
 
 put-leaves : (t : Table) → So (shaped t) → (n j : ℕ) (x : Process) → Seen (view t) n j → j < process-slots → Leaves n t (put t j x)
@@ -133,7 +133,7 @@ module _ (t : Table) (s : Sane t) (n p : ℕ) (e : End) (seen-p : Seen (view t) 
   unfolding member-ends
   member-same i o q = rw (not-p i o, no-child i o)
 
-  end-leaves : Leaves n t (end t p e)
+  pub end-leaves : Leaves n t (end t p e)
   unfolding end
   end-leaves = go (is-init v p) refl
     where
@@ -191,7 +191,7 @@ deliver-all-leaves t n u s m x from k l (i ∷ is) h y =
     deliver-all-leaves t n (deliver u from i k) (deliver-sane u s i k l from (h .0)) (same-trans (view t) (view u) (view (deliver u from i k)) m (apply-same u s i k l (action-on (view u) from i k) g))
     (λ j o. d j (λ z. o (seen-back (view t) (view u) m n j z)) ∙ x j o) from k l is (h .1) (y .1)
 
-freed-leaves : (t : Table) → So (shaped t) → (i : ℕ) → process (freed t) i ≡ process t i
+pub freed-leaves : (t : Table) → So (shaped t) → (i : ℕ) → process (freed t) i ≡ process t i
 unfolding freed
 freed-leaves t g = changed-at (λ i p. p) no-process process-slots (t .processes) (process-count t g) (λ i l. refl)
 

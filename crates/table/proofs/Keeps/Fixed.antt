@@ -71,7 +71,7 @@ change-shrinks t u s (turns c m mark l k) = subst (Shrinks (view t)) (sym (light
 change-shrinks t u s (reaps d o) = subst (Shrinks (view t)) (sym (reaped-view t s d o)) (without-shrinks (view t) d)
 change-shrinks t u s (makes-namespace c l a b) = subst (Shrinks (view t)) (sym (new-namespace-view t (s .shape-of) c (K.free-namespace-is (view t) b .0))) (λ j y. (y, refl))
 
-freed-shrinks : (t : Table) → Sane t → Shrinks (view t) (view (freed t))
+pub freed-shrinks : (t : Table) → Sane t → Shrinks (view t) (view (freed t))
 unfolding taken
 freed-shrinks t s = subst (Shrinks (view t)) (sym (freed-view t (s .shape-of))) (λ j y. (y, refl))
 

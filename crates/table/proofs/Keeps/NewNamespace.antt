@@ -81,14 +81,14 @@ module _ (v : View) (f : Facts v) (a j : ℕ) (a-namespace : Stands v a) (low : 
   own-namespace : (i : ℕ) → Taken v i → Stands v (v .own i)
   own-namespace i t = f .members i t .0 .0
 
-  was-seen : (m i : ℕ) → Seen w m i → Seen v m i
+  pub was-seen : (m i : ℕ) → Seen w m i → Seen v m i
   unfolding seen taken
   was-seen m i h = both _ _ (left _ _ h) (sym (below-old (v .own i) m (own-namespace i (left _ _ h))) ∙ right _ _ h)
 
   not-j : (m : ℕ) → Stands v m → m ≡ j → ⊥
   not-j m s x = j-free (subst (Stands v) x s)
 
-  none-seen : (m i : ℕ) → m ≡ j → Seen w m i → ⊥
+  pub none-seen : (m i : ℕ) → m ≡ j → Seen w m i → ⊥
   none-seen m i x h = not-j m (below-taken v f _ m (own-namespace i (seen-taken v m i (was-seen m i h))) (seen-below v m i (was-seen m i h))) x
 
   none-held : (m i : ℕ) → m ≡ j → Taken v i → v .children i ≡ m → ⊥
@@ -98,7 +98,7 @@ module _ (v : View) (f : Facts v) (a j : ℕ) (a-namespace : Stands v a) (low : 
   unfolding zero-namespace
   empty-namespace-w m o = ⊎-elim (λ x. absurd (o (subst (Stands w) (sym x) j-namespace))) (λ y. rw y (f .empty-namespace m (λ s. o (is-namespace m s)))) (same-or m j)
 
-  same-pid : (m i : ℕ) → eqb m j ≡ false → pid-seen w m i ≡ pid-seen v m i
+  pub same-pid : (m i : ℕ) → eqb m j ≡ false → pid-seen w m i ≡ pid-seen v m i
   unfolding pid-seen
   same-pid m i y = ap (v .pid i) (rw y)
 

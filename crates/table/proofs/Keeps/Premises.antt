@@ -40,7 +40,7 @@ free-namespace-is v o = let r = lowest-is (λ i. not (namespace-taken v i)) name
 
 -- ---- whom a number names
 
-safe-seen : (v : View) → Facts v → (n i : ℕ) → Seen v n i → i ≡ 0 → n ≡ 0
+pub safe-seen : (v : View) → Facts v → (n i : ℕ) → Seen v n i → i ≡ 0 → n ≡ 0
 safe-seen v f n i h z = sym (shallow-below v 0 n (f .root-level) (subst (λ m. Below v m n) (ap (v .own) z ∙ f .root-own) (seen-below v n i h)))
 
 -- the root init is found from the root alone
