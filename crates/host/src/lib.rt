@@ -2,7 +2,6 @@
 use image::IMAGE_WORDS;
 use image::table;
 use sound::is_sound;
-
 ghost use mathlib.Core.Path.{_≡_};
 ghost use Rattle.host.specs.Verdict.{verdict};
 
