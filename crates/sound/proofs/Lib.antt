@@ -1,1 +1,9 @@
+pub mod Rows
+pub mod Masks
+pub mod Ranges
+pub mod Fills
+pub mod Marks
+pub mod Reaches
+pub mod Records
+pub mod Keys
 pub mod Same

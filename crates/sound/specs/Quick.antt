@@ -1,91 +1,248 @@
--- The way in which the code decides whether a table is sound: each process once, each namespace once, and the numbers by
--- one key for each process and level. proofs/Same.antt shows that it says what specs/Sound.antt of the table says.
-use Prim.Native.Nat.{ℕ, suc, _+_, _*_}
+-- The way in which the code decides whether a table is sound: each process once with the namespaces and the parent that it
+-- names, each namespace once with its parent and its init, and the numbers by one key for each process and level.
+-- proofs/Same.antt shows that it says what specs/Sound.antt of the table says.
+use Prim.Native.Nat.{ℕ, zero, suc, _+_, _*_, _-_, _<_}
 use mathlib.Core.Bool.{Bool, true, false, not}
-use lib.Dec.{eqb, leb}
+use mathlib.Core.List.{List}
+use mathlib.Core.Path.{_≡_}
+use lib.Dec.{eqb, leb, ltb}
+use lib.ListN.{getD, set, length}
 use Rattle.table.specs.Limits.{process-slots, namespace-slots, levels, deepest, greatest-pid, no-slot, signals, sigkill, sigstop}
-use Rattle.table.specs.Read.{View, view, taken, living, namespace-taken, unborn, alive, dead, init, below, above-at, pid-seen}
+use Rattle.table.specs.Read.{View, taken, namespace-taken, no-namespace, pid-at, climb, is-running, is-ended, is-unborn, is-alive, is-dead, init-of}
 use Rattle.table.specs.SignalSets.{has}
-use Rattle.table.specs.Sound.{root-process, root-namespace, zero-process, zero-namespace, unborn-namespace, reaches-root, kept-end, held}
-use Rattle.table.specs.Tests.{_and_, _or_, _implies_, agree, if_then_else_, all}
-use Rattle.table.specs.declared.Table.{Table}
+use Rattle.table.specs.Sound.{root-process, root-namespace, reaches-root, kept-end, holds, held}
+use Rattle.table.specs.Tests.{_and_, _or_, _implies_, agree, if_then_else_, all, any}
+use Rattle.table.specs.declared.Life.{Life}
+use Rattle.table.specs.declared.Namespace.{Namespace}
+use Rattle.table.specs.declared.ProcSlot.{ProcSlot}
+use Rattle.table.specs.declared.Process.{Process}
+use Rattle.table.specs.declared.State.{State}
+
+-- ---- one slot: of a view, and of what the code has read
+
+pub record ProcessRow : Type 0 where
+  pub taken : Bool
+  pub own : ℕ
+  pub children : ℕ
+  pub parent : ℕ
+  pub state : State
+  pub ended : Bool
+  pub handled : ℕ
+  pub pending : ℕ
+  pub unshared : Bool
+  pub pid : ℕ → ℕ
+
+pub record NamespaceRow : Type 0 where
+  pub taken : Bool
+  pub up : ℕ
+  pub level : ℕ
+  pub last : ℕ
+  pub life : Life
+
+abbrev pub process-at : View → ℕ → ProcessRow
+process-at v i =
+    record {
+      taken = taken v i;
+      own = v .own i;
+      children = v .children i;
+      parent = v .parent i;
+      state = v .state i;
+      ended = v .ended i;
+      handled = v .handled i;
+      pending = v .pending i;
+      unshared = v .unshared i;
+      pid = v .pid i;
+    }
+
+abbrev pub process-row : Process → ProcessRow
+process-row p =
+    record {
+      taken = not (eqb (pid-at p 0) 0);
+      own = p .own .0;
+      children = p .children .0;
+      parent = p .parent .0;
+      state = p .state;
+      ended = is-ended (p .state);
+      handled = p .handled;
+      pending = p .pending;
+      unshared = p .unshared;
+      pid = pid-at p;
+    }
+
+abbrev pub namespace-at : View → ℕ → NamespaceRow
+namespace-at v n = record { taken = namespace-taken v n; up = v .up n; level = v .level n; last = v .last n; life = v .life n }
+
+abbrev pub namespace-row : ℕ → Namespace → NamespaceRow
+namespace-row n s =
+    record { taken = eqb n 0 or not (eqb (s .level) 0); up = s .parent .0; level = s .level; last = s .last .0; life = s .life }
 
 -- ---- a process by itself
 
--- what an ended process has left, and what a living one may have for its children
-unfoldable pub ended-ok : View → ℕ → Bool
-ended-ok v i = eqb (v .children i) no-slot and eqb (v .handled i) 0 and eqb (v .pending i) 0 and not (v .unshared i)
+-- what an ended process has left
+unfoldable pub ended-ok : ProcessRow → Bool
+ended-ok p = eqb (p .children) no-slot and eqb (p .handled) 0 and eqb (p .pending) 0 and not (p .unshared)
 
-unfoldable pub living-ok : View → ℕ → Bool
-living-ok v i = not (dead v (v .own i)) and namespace-taken v (v .children i) and below v (v .children i) (v .own i)
+-- what a living one may have for its children; an unborn namespace only right below its own
+unfoldable pub living-ok : (ℕ → ℕ) → ProcessRow → NamespaceRow → NamespaceRow → Bool
+living-ok up p home inner =
+    not (is-dead (home .life)) and inner .taken and climb up (inner .level) (p .children) (p .own)
+    and (is-unborn (inner .life) implies eqb (p .own) (inner .up))
 
-unfoldable pub state-ok : View → ℕ → Bool
-state-ok v i = (v .ended i implies ended-ok v i) and (not (v .ended i) implies living-ok v i)
+unfoldable pub state-ok : (ℕ → ℕ) → ProcessRow → NamespaceRow → NamespaceRow → Bool
+state-ok up p home inner = (p .ended implies ended-ok p) and (p .ended or living-ok up p home inner)
 
 -- handled signals but 0, 9 and 19, and pending ones among them
-unfoldable pub signals-ok : View → ℕ → Bool
-signals-ok v i =
-    not (has (v .handled i) 0) and not (has (v .handled i) sigkill) and not (has (v .handled i) sigstop)
-    and all signals (λ s. has (v .pending i) s implies has (v .handled i) s)
+unfoldable pub signals-ok : ℕ → ℕ → Bool
+signals-ok handled pending =
+    not (has handled 0) and not (has handled sigkill) and not (has handled sigstop)
+    and all signals (λ s. has pending s implies has handled s)
 
 -- numbers up to the own level, and none beyond
-unfoldable pub pids-ok : View → ℕ → Bool
-pids-ok v i =
-    all levels
-    (λ l. if leb l (v .level (v .own i)) then leb 1 (v .pid i l) and leb (v .pid i l) greatest-pid else eqb (v .pid i l) 0)
+abbrev pub pid-ok : ℕ → ℕ → ℕ → Bool
+pid-ok pid l level = if leb l level then leb 1 pid and leb pid greatest-pid else eqb pid 0
 
-unfoldable pub member-ok : View → ℕ → Bool
-member-ok v i =
-    namespace-taken v (v .own i) and not (unborn v (v .own i)) and kept-end (v .state i) and signals-ok v i and pids-ok v i
-    and state-ok v i
+unfoldable pub pids-ok : (ℕ → ℕ) → ℕ → Bool
+pids-ok pid level = all levels (λ l. pid-ok (pid l) l level)
+
+unfoldable pub member-ok : (ℕ → ℕ) → ProcessRow → NamespaceRow → NamespaceRow → Bool
+member-ok up p home inner =
+    home .taken and not (is-unborn (home .life)) and kept-end (p .state) and signals-ok (p .handled) (p .pending)
+    and pids-ok (p .pid) (home .level) and state-ok up p home inner
 
 -- ---- a process and its parent
 
-unfoldable pub parent-ok : View → ℕ → Bool
-parent-ok v i =
-    taken v (v .parent i) and not (v .ended (v .parent i)) and below v (v .own i) (v .own (v .parent i))
-    and (eqb (pid-seen v (v .own i) i) 1 implies eqb (v .own (v .parent i)) (v .up (v .own i)))
+unfoldable pub parent-ok : (ℕ → ℕ) → ProcessRow → NamespaceRow → ProcessRow → Bool
+parent-ok up p home parent =
+    parent .taken and not (parent .ended) and climb up (home .level) (p .own) (parent .own)
+    and (eqb (p .pid (home .level)) 1 implies eqb (parent .own) (home .up))
 
-unfoldable pub process-ok : View → ℕ → Bool
-process-ok v i =
-    (taken v i implies member-ok v i and (eqb i 0 or parent-ok v i)) and (taken v i or zero-process v i)
+-- an empty slot
+unfoldable pub blank : ProcessRow → Bool
+blank p =
+    eqb (p .own) 0 and eqb (p .children) 0 and eqb (p .parent) 0 and is-running (p .state) and eqb (p .handled) 0
+    and eqb (p .pending) 0 and not (p .unshared) and all levels (λ l. eqb (p .pid l) 0)
+
+unfoldable pub process-ok : (ℕ → ℕ) → ℕ → ProcessRow → NamespaceRow → NamespaceRow → ProcessRow → Bool
+process-ok up i p home inner parent =
+    (p .taken implies member-ok up p home inner and (eqb i 0 or parent-ok up p home parent)) and (p .taken or blank p)
+
+unfoldable pub processes-ok : View → Bool
+processes-ok v =
+    all process-slots
+    (λ i. process-ok (v .up) i (process-at v i) (namespace-at v (v .own i)) (namespace-at v (v .children i)) (process-at v (v .parent i)))
+
+abbrev pub process-in : List ProcSlot → ℕ → ℕ
+process-in slots i = getD slots i (record { 0 = 0 }) .0
 
 -- an empty slot has slot 0 for its parent, so it reaches slot 0 too
-unfoldable pub reach-ok : View → Bool
-reach-ok v = all process-slots (reaches-root (v .parent) process-slots)
+unfoldable pub reach-ok : (ℕ → ℕ) → Bool
+reach-ok parent = all process-slots (reaches-root parent process-slots)
 
 -- ---- a namespace
 
-unfoldable pub alive-ok : View → ℕ → Bool
-alive-ok v n = living v (init v n) and eqb (v .own (init v n)) n and eqb (pid-seen v n (init v n)) 1
+unfoldable pub init-ok : ℕ → NamespaceRow → ProcessRow → Bool
+init-ok n s init = init .taken and not (init .ended) and eqb (init .own) n and eqb (init .pid (s .level)) 1
 
-unfoldable pub life-ok : View → ℕ → Bool
-life-ok v n = (alive v n implies alive-ok v n) and (unborn v n implies unborn-namespace v n)
+unfoldable pub life-ok : ℕ → NamespaceRow → ProcessRow → Bool
+life-ok n s init =
+    (is-alive (s .life) implies init-ok n s init) and (is-alive (s .life) or (is-unborn (s .life) implies eqb (s .last) 0))
 
 -- its place below its parent
-unfoldable pub place-ok : View → ℕ → Bool
-place-ok v n =
-    namespace-taken v (v .up n) and eqb (v .level n) (suc (v .level (v .up n))) and leb (v .level n) deepest
-    and (dead v (v .up n) implies dead v n)
+unfoldable pub place-ok : NamespaceRow → NamespaceRow → Bool
+place-ok s above =
+    above .taken and eqb (s .level) (suc (above .level)) and leb (s .level) deepest and not (is-unborn (above .life))
+    and (is-dead (above .life) implies is-dead (s .life))
 
-unfoldable pub namespace-ok : View → ℕ → Bool
-namespace-ok v n =
-    leb (v .last n) greatest-pid and agree (namespace-taken v n) (held v n)
-    and (namespace-taken v n implies life-ok v n and (eqb n 0 or place-ok v n)) and (namespace-taken v n or zero-namespace v n)
+unfoldable pub blank-namespace : NamespaceRow → Bool
+blank-namespace s = eqb (s .up) 0 and eqb (s .level) 0 and eqb (s .last) 0 and is-unborn (s .life)
 
--- ---- the numbers
+unfoldable pub filled-ok : ℕ → NamespaceRow → NamespaceRow → ProcessRow → Bool
+filled-ok n s above init =
+    (s .taken implies life-ok n s init and (eqb n 0 or place-ok s above)) and (s .taken or blank-namespace s)
 
--- the namespace at level l and the number there as one key, 0 where there is no number
-unfoldable pub key : View → ℕ → ℕ → ℕ
-key v l i = if eqb (v .pid i l) 0 then 0 else above-at v (v .own i) l * 65536 + v .pid i l
+-- h says whether something holds it
+unfoldable pub namespace-ok : ℕ → Bool → NamespaceRow → NamespaceRow → ProcessRow → Bool
+namespace-ok n h s above init = leb (s .last) greatest-pid and agree (s .taken) h and filled-ok n s above init
 
--- no two keys but 0 are equal
-unfoldable pub keys-differ : View → ℕ → Bool
-keys-differ v l = all process-slots (λ i. eqb (key v l i) 0 or all i (λ j. not (eqb (key v l j) (key v l i))))
+unfoldable pub namespaces-ok : View → Bool
+namespaces-ok v =
+    all namespace-slots
+    (λ n. namespace-ok n (held v n) (namespace-at v n) (namespace-at v (v .up n)) (process-at v (init-of (v .life n))))
+
+-- ---- which namespaces something holds, as marks
+
+abbrev pub mark-process : List Bool → ProcessRow → List Bool
+mark-process m p = if p .taken then set (set m (p .own) true) (p .children) true else m
+
+abbrev pub mark-namespace : List Bool → ℕ → NamespaceRow → List Bool
+mark-namespace m n s = if not (eqb n 0) and s .taken then set m (s .up) true else m
+
+-- the marks say of each namespace slot whether f holds
+pub record Marks (m : List Bool) (f : ℕ → Bool) : Type 0 where
+  pub long : length m ≡ namespace-slots
+  pub says : (n : ℕ) → n < namespace-slots → getD m n false ≡ f n
+
+-- the root is held, and what a process has as its own namespace or for its children
+unfoldable pub held-by-processes : View → ℕ → Bool
+held-by-processes v n =
+    eqb n 0 or any process-slots (λ i. taken v i and eqb (v .own i) n) or any process-slots (holds v n)
+
+-- and what is the parent of a namespace but the root
+unfoldable pub held-by-children : List Namespace → ℕ → Bool
+held-by-children s n =
+    any namespace-slots
+    (λ m. not (eqb m 0) and namespace-row m (getD s m no-namespace) .taken and eqb (getD s m no-namespace .parent .0) n)
+
+-- ---- keys, one for each process, of which no two may be equal but where they are 0
+
+abbrev pub key-in : List ℕ → ℕ → ℕ
+key-in keys i = getD keys i 0
+
+abbrev pub differs-at : (ℕ → ℕ) → ℕ → Bool
+differs-at key i = eqb (key i) 0 or all i (λ j. not (eqb (key j) (key i)))
+
+unfoldable pub differ : (ℕ → ℕ) → Bool
+differ key = all process-slots (differs-at key)
+
+-- the unborn namespace that a process holds
+unfoldable pub unborn-key : ProcessRow → NamespaceRow → ℕ
+unborn-key p inner = if p .taken and inner .taken and is-unborn (inner .life) then p .children else 0
+
+abbrev pub unborn-keys : View → ℕ → ℕ
+unborn-keys v i = unborn-key (process-at v i) (namespace-at v (v .children i))
+
+-- each namespace itself, and those below a level one up
+unfoldable pub itself : ℕ → ℕ
+itself n = if ltb n namespace-slots then n else 0
+
+unfoldable pub raised : (ℕ → ℕ) → (ℕ → ℕ) → ℕ → (ℕ → ℕ) → ℕ → ℕ
+raised up level l top n = if ltb l (level n) then up (top n) else top n
+
+-- The namespace at the level 8 - k that is n or above it, where n is at most at level 8: at each turn those below the next
+-- level go one up.
+unfoldable pub top : (ℕ → ℕ) → (ℕ → ℕ) → ℕ → ℕ → ℕ
+top up level zero = itself
+top up level (suc k) = raised up level (deepest - k) (top up level k)
+
+-- the namespace at a level and the number there as one key
+unfoldable pub pid-key : (ℕ → ℕ) → ℕ → ProcessRow → ℕ
+pid-key top l p = if eqb (p .pid l) 0 then 0 else top (p .own) * 65536 + p .pid l
+
+abbrev pub pid-keys : View → ℕ → ℕ → ℕ
+pid-keys v k i = pid-key (top (v .up) (v .level) (suc k)) (deepest - k) (process-at v i)
+
+-- ---- the root
+
+unfoldable pub root-process-ok : ProcessRow → NamespaceRow → Bool
+root-process-ok p n =
+    eqb (init-of (n .life)) 0 and (p .taken and not (p .ended)) and eqb (p .own) 0 and eqb (p .pid 0) 1 and eqb (p .parent) no-slot
+
+unfoldable pub root-namespace-ok : NamespaceRow → Bool
+root-namespace-ok n = is-alive (n .life) and eqb (n .level) 0 and eqb (n .up) no-slot
 
 -- ---- all of it
 
 unfoldable pub quick : View → Bool
 quick v =
-    root-process v and root-namespace v and all process-slots (process-ok v) and all namespace-slots (namespace-ok v)
-    and reach-ok v and all levels (keys-differ v)
+    root-process v and root-namespace v and processes-ok v and namespaces-ok v and reach-ok (v .parent)
+    and differ (unborn-keys v) and all levels (λ k. differ (pid-keys v k))

@@ -1,0 +1,67 @@
+-- What the code reads of a table at a slot, past the last slot too, against the rows of a view.
+use Prim.Native.Nat.{ℕ, zero, suc, _<_}
+use mathlib.Core.Bool.{Bool, false, not}
+use mathlib.Core.List.{List, []}
+use mathlib.Core.Path.{_≡_, refl, sym, ap, subst, fun-ext, _∙_}
+use lib.Dec.{eqb}
+use lib.ListN.{length, getD, replicate, List·getD-eq-default}
+use native.Mathlib.Omega.{arith}
+use Rattle.table.proofs.Laws.Facts.{Past}
+use Rattle.table.specs.Fresh.{empty-process}
+use Rattle.table.specs.Limits.{levels, process-slots, namespace-slots}
+use Rattle.table.specs.Read.{view, process, namespace, no-pid, no-process, no-namespace, taken, namespace-taken, init-of}
+use Rattle.table.specs.Sound.{held, zero-process, zero-namespace}
+use Rattle.table.specs.Tests.{_and_, all}
+use Rattle.table.specs.declared.Namespace.{Namespace}
+use Rattle.table.specs.declared.Pid.{Pid}
+use Rattle.table.specs.declared.Process.{Process}
+use Rattle.table.specs.declared.State.the-variants.{Running}
+use Rattle.table.specs.declared.Table.{Table}
+use Rattle.sound.specs.Quick.{ProcessRow, process-row, namespace-row, process-at, namespace-at, process-ok, namespace-ok, blank, blank-namespace}
+
+no-pids : (n l : ℕ) → getD (replicate n no-pid) l no-pid .0 ≡ 0
+no-pids zero l = refl
+no-pids (suc n) zero = refl
+no-pids (suc n) (suc l) = no-pids n l
+
+-- an empty slot and what lies past the last one read alike
+pub empty-row : process-row empty-process ≡ process-row no-process
+empty-row =
+    ap (λ (f : ℕ → ℕ). record { taken = false; own = 0; children = 0; parent = 0; state = Running; ended = false; handled = 0; pending = 0; unshared = false; pid = f })
+    (fun-ext (λ l. no-pids levels l))
+
+module _ (t : Table) where
+  pub process-reads :
+      (i : ℕ) (up : ℕ → ℕ) (home inner : Namespace) (parent : ProcessRow) (r : Bool)
+      → up ≡ view t .up → home ≡ namespace t (process t i .own .0) → inner ≡ namespace t (process t i .children .0)
+      → parent ≡ process-row (process t (process t i .parent .0))
+      → r ≡ process-ok up i (process-row (process t i)) (namespace-row (process t i .own .0) home) (namespace-row (process t i .children .0) inner) parent
+      → r ≡ process-ok (view t .up) i (process-at (view t) i) (namespace-at (view t) (view t .own i)) (namespace-at (view t) (view t .children i)) (process-at (view t) (view t .parent i))
+  unfolding taken namespace-taken
+  process-reads i up home inner parent r a b c d e =
+      e
+      ∙ ap (λ u. process-ok u i (process-row (process t i)) (namespace-row (process t i .own .0) home) (namespace-row (process t i .children .0) inner) parent) a
+      ∙ ap (λ u. process-ok (view t .up) i (process-row (process t i)) (namespace-row (process t i .own .0) u) (namespace-row (process t i .children .0) inner) parent) b
+      ∙ ap (λ u. process-ok (view t .up) i (process-row (process t i)) (namespace-row (process t i .own .0) (namespace t (process t i .own .0))) (namespace-row (process t i .children .0) u) parent) c
+      ∙ ap (λ u. process-ok (view t .up) i (process-row (process t i)) (namespace-row (process t i .own .0) (namespace t (process t i .own .0))) (namespace-row (process t i .children .0) (namespace t (process t i .children .0))) u) d
+
+  pub namespace-reads :
+      (n : ℕ) (h : Bool) (above : Namespace) (init : ProcessRow) (r : Bool)
+      → h ≡ held (view t) n → above ≡ namespace t (namespace t n .parent .0) → init ≡ process-row (process t (init-of (namespace t n .life)))
+      → r ≡ namespace-ok n h (namespace-row n (namespace t n)) (namespace-row (namespace t n .parent .0) above) init
+      → r ≡ namespace-ok n (held (view t) n) (namespace-at (view t) n) (namespace-at (view t) (view t .up n)) (process-at (view t) (init-of (view t .life n)))
+  unfolding taken namespace-taken
+  namespace-reads n h above init r a b c e =
+      e
+      ∙ ap (λ u. namespace-ok n u (namespace-row n (namespace t n)) (namespace-row (namespace t n .parent .0) above) init) a
+      ∙ ap (λ u. namespace-ok n (held (view t) n) (namespace-row n (namespace t n)) (namespace-row (namespace t n .parent .0) u) init) b
+      ∙ ap (λ u. namespace-ok n (held (view t) n) (namespace-row n (namespace t n)) (namespace-row (namespace t n .parent .0) (namespace t (namespace t n .parent .0))) u) c
+
+-- Past the last slot all is zero: the arrays have the lengths of their types.
+pub past-from : (t : Table) → length (t .processes) ≡ process-slots → length (t .namespaces) ≡ namespace-slots → Past (view t)
+unfolding zero-process zero-namespace blank blank-namespace all _and_
+past-from t a b =
+    record {
+      past = λ i h. ap (λ p. blank (process-row p)) (List·getD-eq-default (t .processes) no-process (omega arith));
+      past-namespaces = λ n h. ap (λ s. blank-namespace (namespace-row 0 s)) (List·getD-eq-default (t .namespaces) no-namespace (omega arith));
+    }

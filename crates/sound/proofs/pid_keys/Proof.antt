@@ -1,0 +1,73 @@
+-- Each key at its place.
+use mathlib.Core.Path.{_≡_}
+use lib.ListN.{getD}
+use mathlib.Core.Path.{ap}
+use Rattle.table.proofs.Slots.{field-past}
+use Rattle.table.specs.Read.{no-process, taken}
+use Rattle.sound.proofs.Fills.{blank-keys}
+use Rattle.sound.specs.Quick.{process-row}
+use borrow.Author.Needs.{needs}
+use Prim.Native.Nat.{ℕ, _-_}
+use mathlib.Core.Path.{refl}
+use Rattle.sound.proofs.Fills.{Filling, fill-starts, fill-goes-on, fill-stays, fill-done}
+use Rattle.table.specs.Limits.{process-slots}
+use Rattle.table.specs.Read.{view}
+use Rattle.tree.specs.Tree.{slot-in}
+use Rattle.sound.specs.Quick.{process-at, pid-key}
+use Rattle.sound.proofs.pid_keys.Statement.{statement}
+use Rattle.sound.proofs.pid_keys.Tie as tie
+
+abbrev Inv-loop : tie.InvT-loop
+Inv-loop tops level t keys₀ i₀ keys i = Filling process-slots (λ (k : ℕ). k) 0 (λ k. pid-key (slot-in tops) level (process-at (view t) k)) (λ k. 0) keys i
+
+abbrev μ-loop : tie.MeasureT-loop
+μ-loop tops level t keys₀ i₀ keys i = process-slots - i
+
+loop-holds : tie.Need-loop-holds Inv-loop μ-loop
+loop-holds c = fill-starts process-slots (λ (k : ℕ). k) 0 _ (λ k. 0) _ refl (blank-keys process-slots)
+
+mul-p : tie.Need-mul-p Inv-loop μ-loop
+mul-p c = search needs
+
+element-copy-out-p : tie.Need-element-copy-out-p Inv-loop μ-loop
+element-copy-out-p c = search needs
+
+pid-key-requires : tie.Need-pid-key-requires Inv-loop μ-loop
+pid-key-requires c κs = search needs
+
+mul-keys : tie.Need-mul-keys Inv-loop μ-loop
+mul-keys c = search needs
+
+array-write-keys : tie.Need-array-write-keys Inv-loop μ-loop
+array-write-keys c = search needs
+
+add-i : tie.Need-add-i Inv-loop μ-loop
+add-i c = search needs
+
+loop-less : tie.Need-loop-less Inv-loop μ-loop
+loop-less c = search needs
+
+loop-again : tie.Need-loop-again Inv-loop μ-loop
+unfolding taken
+loop-again c = fill-goes-on process-slots (λ (k : ℕ). k) 0 _ (λ k. 0) _ _ _ (c .before .before .before .loop .inv) (search needs) (c .pid-key .ensures)
+
+returns : tie.Need-returns Inv-loop μ-loop
+unfolding taken pid-key
+returns c = let a = c .before .before .args in fill-done process-slots (λ (k : ℕ). k) 0 _ (λ k. 0) _ _ (c .before .loop .inv) (search needs) (λ k h. let e : no-process ≡ getD (a .t1 .processes) k no-process = search field-past in ap (λ p. pid-key (slot-in (a .tops)) (a .level) (process-row p)) e)
+
+pub pid-keys-spec : {M : Type 1} → statement M
+pid-keys-spec =
+    tie.close
+    (tie.spec
+    Inv-loop
+    μ-loop
+    loop-holds
+    mul-p
+    element-copy-out-p
+    pid-key-requires
+    mul-keys
+    array-write-keys
+    add-i
+    loop-less
+    loop-again
+    returns)
