@@ -1,4 +1,5 @@
-// The ten calls, by a caller that may call. Each tests for its refusals in document 01's order.
+// The ten calls, by a caller that may call, and `step`: one call on any table, by any caller. Each call tests for its
+// refusals in document 01's order.
 use arguments::cannot_handle;
 use arguments::exit_status;
 use arguments::is_signal;
@@ -19,6 +20,7 @@ use signals::SIGNALS;
 use signals::lowest_signal;
 use signals::with_signal;
 use signals::without_signal;
+use sound::is_sound;
 use table::Answer;
 use table::Call;
 use table::End;
@@ -56,7 +58,7 @@ ghost use Rattle.table.specs.Pids.{free-slot};
 ghost use Rattle.table.specs.Read.{view, pid-at, is-ended, child-of};
 ghost use Rattle.table.specs.Records.{put};
 ghost use Rattle.table.specs.Sound.{sound};
-ghost use Rattle.table.specs.Step.{runs, make as make-of};
+ghost use Rattle.table.specs.Step.{runs, make as make-of, step as step-of};
 ghost use Rattle.table.specs.Tests.{_and_, _or_, if_then_else_, any, least};
 
 // The level of a namespace that has none below it.
@@ -469,4 +471,21 @@ fn make(t: Table, caller: ProcSlot, call: Call) -> Outcome
         Call::Handle(s, on) => handle(t, caller, s, on),
         Call::Poll => poll(t, caller),
     }
+}
+
+// One call on any table, by any caller.
+pub fn step(t: Table, caller: ProcSlot, call: Call) -> Outcome
+    ensures { λ r. ⌜ r ≡ step-of t (caller .0) call ⌝ }
+{
+    if !is_sound(t) {
+        return refused(t, Refusal::Unsound);
+    }
+    let p = t.process(caller);
+    if !p.is_taken() {
+        return refused(t, Refusal::NotRunning);
+    }
+    if !p.is_running() {
+        return refused(t, Refusal::NotRunning);
+    }
+    make(t, caller, call)
 }
