@@ -1,11 +1,11 @@
 -- What the end of an init removes, ends and leaves.
-use Prim.Native.Nat.{ℕ, _<_}
+use Prim.Native.Nat.{ℕ}
 use native.Mathlib.Omega.{arith}
-use mathlib.Core.Bool.{Bool, true, false, So, not, false≢true}
+use mathlib.Core.Bool.{false, So, false≢true}
 use mathlib.Core.List.{_∷_, []}
 use mathlib.Core.Logic.{_↔_, ⊎-elim}
 use mathlib.Core.Path.{_≡_, refl, sym, _∙_, ap, subst}
-use borrow.Author.Tests.{eq-eqb, ne-eqb}
+use borrow.Author.Tests.{ne-eqb}
 use lib.Dec.{eqb}
 use lib.IntN.{ℤ, pos}
 use Rattle.table.proofs.Keeps.End.{end-view, end-sane}
@@ -13,18 +13,18 @@ use Rattle.table.proofs.Keeps.Finds.{counted, meant-named, end-leaves, 
 use Rattle.table.proofs.Keeps.Freed.{freed-view}
 use Rattle.table.proofs.Keeps.InitEnds.{gone, subtree-gone}
 use Rattle.table.proofs.Keeps.Premises as K
-use Rattle.table.proofs.Laws.Facts.{seen-taken, Facts, Taken, Lives, Seen, Other, lives-taken, not-ended, is-seen, Sane, sane, facts}
+use Rattle.table.proofs.Laws.Facts.{seen-taken, Facts, Taken, Lives, Seen, Other, lives-taken, is-seen, Sane, sane, facts}
 use Rattle.table.proofs.Laws.Steps.{step-made, runs-lives, remainder}
-use Rattle.table.proofs.Laws.Tests.{yes-or-no, isnt-so, no-so, choose, left, right, both, false-and, and-not}
+use Rattle.table.proofs.Laws.Tests.{yes-or-no, isnt-so, no-so, choose, left, right, both, and-not}
 use Rattle.table.proofs.Laws.Tree.{below-refl}
-use Rattle.table.specs.Answers.{answers, granted, refused}
+use Rattle.table.specs.Answers.{answers, granted}
 use Rattle.table.specs.Calls.{exit, kill, named, pid-to, status, targets}
 use Rattle.table.specs.Claims.{EndsExactly, EndExact}
 use Rattle.table.specs.Delivery.{act, action-on, default-action, deliver, deliver-all}
 use Rattle.table.specs.Ends.{end}
 use Rattle.table.specs.Freeing.{freed}
 use Rattle.table.specs.Limits.{process-slots}
-use Rattle.table.specs.Read.{View, is-init, process, seen, taken, view}
+use Rattle.table.specs.Read.{View, is-init, seen, taken, view}
 use Rattle.table.specs.Sound.{SoundTable, kept-end}
 use Rattle.table.specs.Step.{make, runs, step}
 use Rattle.table.specs.Tests.{_and_, _or_, if_then_else_}

@@ -2,13 +2,13 @@
 use Prim.Native.Nat.{ℕ, suc, _<_, _≤_, _-_}
 use native.Mathlib.Decide.{decLt}
 use native.Mathlib.Omega.{arith}
-use mathlib.Core.Bool.{Bool, true, false, So, false≢true}
+use mathlib.Core.Bool.{Bool, true, false, So}
 use mathlib.Core.Logic.{_⊎_, inl, inr, ⊎-elim}
 use mathlib.Core.Path.{_≡_, refl, sym, _∙_, ap, subst}
-use borrow.Author.Tests.{eq-eqb, ne-eqb, le-leb, eqb-true}
+use borrow.Author.Tests.{eq-eqb, le-leb}
 use lib.Dec.{eqb, leb}
 use Rattle.table.proofs.Keeps.Birth.{with-born, birth-view, free-is, is-free, next-fresh, low, again}
-use Rattle.table.proofs.Keeps.Changes.{Change, signals-of, change-sane, run-sane, MayBear, Made, nothing-done, freed-after, signalled, born, born-in-new, call-made}
+use Rattle.table.proofs.Keeps.Changes.{signals-of, change-sane, run-sane, MayBear, Made, nothing-done, freed-after, signalled, born, born-in-new, call-made}
 use Rattle.table.proofs.Keeps.Fixed.{change-shrinks, run-shrinks, freed-shrinks}
 use Rattle.table.proofs.Keeps.NewNamespace as N
 use Rattle.table.proofs.Keeps.NewNamespace.{with-namespace}
@@ -22,7 +22,6 @@ use Rattle.table.proofs.Laws.Tests.{no-so, isnt-so, same-or, tests}
 use Rattle.table.specs.Births.{birth}
 use Rattle.table.specs.Calls.{new-namespace}
 use Rattle.table.specs.Claims.{NumberFresh, NextNumber, Unused}
-use Rattle.table.specs.Freeing.{freed}
 use Rattle.table.specs.Limits.{deepest, namespace-slots, greatest-pid, restart-pid}
 use Rattle.table.specs.Pids.{free-pid, free-namespace-slot, free-slot, next-pid}
 use Rattle.table.specs.Read.{View, below, dead, living, pid-seen, seen, taken, unborn, view}

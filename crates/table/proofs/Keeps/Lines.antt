@@ -1,26 +1,26 @@
 -- Each negative number is given exactly when its line of the table says so and no earlier line does.
-use Prim.Native.Nat.{ℕ, _<_, _≤_, zero, suc}
+use Prim.Native.Nat.{ℕ, _<_, zero, suc}
 use native.Mathlib.Decide.{decLt}
 use native.Mathlib.Omega.{arith}
 use mathlib.Core.Bool.{Bool, true, false, not, So, false≢true}
 use mathlib.Core.List.{List, [], _∷_}
-use mathlib.Core.Logic.{_↔_, _⊎_, inl, inr, ⊎-elim}
+use mathlib.Core.Logic.{_↔_, ⊎-elim}
 use mathlib.Core.Path.{_≡_, refl, sym, _∙_, ap, ap₂, subst}
-use borrow.Author.Tests.{eqb-true, eq-eqb, eqb-false, ne-eqb, lt-ltb}
+use borrow.Author.Tests.{eqb-true, eq-eqb, ne-eqb, lt-ltb}
 use lib.Dec.{eqb, ltb}
 use lib.IntN.{ℤ, pos, negsuc}
 use lib.ListN.{length}
 use Rattle.table.proofs.Keeps.Finds.{targets-meant, meant-named}
-use Rattle.table.proofs.Laws.Facts.{Facts, Taken, Seen, seen-taken, lives-taken, facts}
+use Rattle.table.proofs.Laws.Facts.{Facts, Taken, seen-taken, lives-taken, facts}
 use Rattle.table.proofs.Laws.Find.{Lowest, lowest-is, named-seen, find-cases}
 use Rattle.table.proofs.Laws.Steps.{runs-lives}
-use Rattle.table.proofs.Laws.Tests.{isnt-so, no-so, left, right, both, isnt, isnt-not, not-iff, or-iff, cases, or-left, or-right, or-false-left, or-false-right, any-elim, any-intro, all-elim, all-intro, choose}
+use Rattle.table.proofs.Laws.Tests.{isnt-so, no-so, left, right, both, isnt-not, not-iff, or-iff, cases, or-left, or-right, any-elim, any-intro, all-elim, all-intro, choose}
 use Rattle.table.specs.Answers.{refused, granted, answers}
-use Rattle.table.specs.Calls.{clone, clone-new, exit, first-ended, getpid, getppid, handle, kill, named, names-group, natural, own-level, pid-to, poll, reap, setns, targets, unshare, wait, within, processes-full, namespaces-full}
+use Rattle.table.specs.Calls.{clone, clone-new, exit, first-ended, getpid, getppid, handle, kill, named, names-group, own-level, poll, reap, setns, targets, unshare, wait, within, processes-full, namespaces-full}
 use Rattle.table.specs.Claims.{AnswersListed, line, line-1001, line-22, line-38, line-3, line-16, line-10, line-28, line-12, line-11, place, numbered, meant}
 use Rattle.table.specs.Limits.{namespace-slots, process-slots, signals}
 use Rattle.table.specs.Pids.{free-namespace-slot, free-slot}
-use Rattle.table.specs.Read.{View, child-of, dead, is-running, namespace-taken, process, seen, taken, view}
+use Rattle.table.specs.Read.{View, child-of, dead, is-running, namespace-taken, process, taken, view}
 use Rattle.table.specs.SignalSets.{lowest-signal}
 use Rattle.table.specs.Sound.{SoundTable, sound, shaped}
 use Rattle.table.specs.Step.{make, runs, step}
