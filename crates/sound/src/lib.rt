@@ -1,7 +1,6 @@
 // The check of a whole table. Each pass over the table takes the table once; what it does at a slot takes records.
 use table::End;
 use table::LEVELS;
-use table::Life;
 use table::NAMESPACE_SLOTS;
 use table::NO_SLOT;
 use table::Namespace;
@@ -663,9 +662,9 @@ fn unborn_keys(t: Table) -> [u32; PROCESS_SLOTS]
     let mut i: usize = 0;
     while i < PROCESS_SLOTS {
         let p = t.processes[i];
-        let c = p.children.0 as usize;
-        let inner = if c < NAMESPACE_SLOTS {
-            t.namespaces[c]
+        let children = p.children.0 as usize;
+        let inner = if children < NAMESPACE_SLOTS {
+            t.namespaces[children]
         } else {
             empty_namespace()
         };
@@ -732,21 +731,21 @@ fn processes_ok(t: Table) -> bool
     let mut i: usize = 0;
     while i < PROCESS_SLOTS {
         let p = t.processes[i];
-        let a = p.own.0 as usize;
-        let home = if a < NAMESPACE_SLOTS {
-            t.namespaces[a]
+        let own = p.own.0 as usize;
+        let home = if own < NAMESPACE_SLOTS {
+            t.namespaces[own]
         } else {
             empty_namespace()
         };
-        let b = p.children.0 as usize;
-        let inner = if b < NAMESPACE_SLOTS {
-            t.namespaces[b]
+        let children = p.children.0 as usize;
+        let inner = if children < NAMESPACE_SLOTS {
+            t.namespaces[children]
         } else {
             empty_namespace()
         };
-        let c = p.parent.0 as usize;
-        let parent = if c < PROCESS_SLOTS {
-            t.processes[c]
+        let above = p.parent.0 as usize;
+        let parent = if above < PROCESS_SLOTS {
+            t.processes[above]
         } else {
             empty_process()
         };
@@ -767,15 +766,15 @@ fn namespaces_ok(t: Table) -> bool
     let mut i: usize = 0;
     while i < NAMESPACE_SLOTS {
         let s = t.namespaces[i];
-        let a = s.parent.0 as usize;
-        let above = if a < NAMESPACE_SLOTS {
-            t.namespaces[a]
+        let up = s.parent.0 as usize;
+        let above = if up < NAMESPACE_SLOTS {
+            t.namespaces[up]
         } else {
             empty_namespace()
         };
-        let b = s.init().0 as usize;
-        let init = if b < PROCESS_SLOTS {
-            t.processes[b]
+        let first = s.init().0 as usize;
+        let init = if first < PROCESS_SLOTS {
+            t.processes[first]
         } else {
             empty_process()
         };

@@ -39,8 +39,8 @@ mul-s c = search needs
 element-copy-out-s : tie.Need-element-copy-out-s Inv-loop μ-loop
 element-copy-out-s c = search needs
 
-cast-a : tie.Need-cast-a Inv-loop μ-loop
-cast-a c = search needs
+cast-up : tie.Need-cast-up Inv-loop μ-loop
+cast-up c = search needs
 
 mul-above : tie.Need-mul-above Inv-loop μ-loop
 mul-above c = search needs
@@ -54,8 +54,8 @@ empty-namespace-requires c κs = search needs
 init-requires : tie.Need-init-requires Inv-loop μ-loop
 init-requires c κs = search needs
 
-cast-b : tie.Need-cast-b Inv-loop μ-loop
-cast-b c = search needs
+cast-first : tie.Need-cast-first Inv-loop μ-loop
+cast-first c = search needs
 
 mul-init : tie.Need-mul-init Inv-loop μ-loop
 mul-init c = search needs
@@ -109,12 +109,12 @@ namespaces-ok-spec =
     loop-holds
     mul-s
     element-copy-out-s
-    cast-a
+    cast-up
     mul-above
     element-copy-out-above
     empty-namespace-requires
     init-requires
-    cast-b
+    cast-first
     mul-init
     element-copy-out-init
     empty-process-requires

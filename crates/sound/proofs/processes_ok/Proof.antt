@@ -32,8 +32,8 @@ mul-p c = search needs
 element-copy-out-p : tie.Need-element-copy-out-p Inv-loop μ-loop
 element-copy-out-p c = search needs
 
-cast-a : tie.Need-cast-a Inv-loop μ-loop
-cast-a c = search needs
+cast-own : tie.Need-cast-own Inv-loop μ-loop
+cast-own c = search needs
 
 mul-home : tie.Need-mul-home Inv-loop μ-loop
 mul-home c = search needs
@@ -44,8 +44,8 @@ element-copy-out-home c = search needs
 empty-namespace-requires : tie.Need-empty-namespace-requires Inv-loop μ-loop
 empty-namespace-requires c κs = search needs
 
-cast-b : tie.Need-cast-b Inv-loop μ-loop
-cast-b c = search needs
+cast-children : tie.Need-cast-children Inv-loop μ-loop
+cast-children c = search needs
 
 mul-inner : tie.Need-mul-inner Inv-loop μ-loop
 mul-inner c = search needs
@@ -56,8 +56,8 @@ element-copy-out-inner c = search needs
 empty-namespace-requires-2 : tie.Need-empty-namespace-requires-2 Inv-loop μ-loop
 empty-namespace-requires-2 c κs = search needs
 
-cast-c : tie.Need-cast-c Inv-loop μ-loop
-cast-c c = search needs
+cast-above : tie.Need-cast-above Inv-loop μ-loop
+cast-above c = search needs
 
 mul-parent : tie.Need-mul-parent Inv-loop μ-loop
 mul-parent c = search needs
@@ -98,15 +98,15 @@ processes-ok-spec =
     loop-holds
     mul-p
     element-copy-out-p
-    cast-a
+    cast-own
     mul-home
     element-copy-out-home
     empty-namespace-requires
-    cast-b
+    cast-children
     mul-inner
     element-copy-out-inner
     empty-namespace-requires-2
-    cast-c
+    cast-above
     mul-parent
     element-copy-out-parent
     empty-process-requires

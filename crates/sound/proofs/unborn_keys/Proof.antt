@@ -30,8 +30,8 @@ mul-p c = search needs
 element-copy-out-p : tie.Need-element-copy-out-p Inv-loop μ-loop
 element-copy-out-p c = search needs
 
-cast-c : tie.Need-cast-c Inv-loop μ-loop
-cast-c c = search needs
+cast-children : tie.Need-cast-children Inv-loop μ-loop
+cast-children c = search needs
 
 mul-inner : tie.Need-mul-inner Inv-loop μ-loop
 mul-inner c = search needs
@@ -74,7 +74,7 @@ unborn-keys-spec =
     loop-holds
     mul-p
     element-copy-out-p
-    cast-c
+    cast-children
     mul-inner
     element-copy-out-inner
     empty-namespace-requires
