@@ -1,6 +1,8 @@
-//! compare RECORDER: plays scripts of several kinds to the proved recorder and to the reference, and stops at the first
+//! compare tables: holds the proved check of a table against the reference on tables damaged in one field each.
+//! compare scripts RECORDER: plays scripts of several kinds to a recorder and to the reference, and stops at the first
 //! difference, which it shows on the shortest script that it finds.
 
+mod damage;
 mod generate;
 mod random;
 
@@ -9,25 +11,59 @@ use reference::table::Table;
 use std::io::{self, Write};
 use std::process::{exit, Command, Stdio};
 
+extern "C" {
+    /// 1 for a sound table, 0 for any other, 2 where there are not as many words as an image has.
+    fn lampfunnel_is_sound(words: *const u32, len: usize) -> u8;
+}
+
+/// The verdict of the proved check.
+fn verdict(words: &[u32]) -> u8 {
+    // A slice passes as its address and its length; the function reads no further and keeps nothing.
+    unsafe { lampfunnel_is_sound(words.as_ptr(), words.len()) }
+}
+
 fn main() -> io::Result<()> {
-    let Some(recorder) = std::env::args().nth(1) else {
-        eprintln!("usage: compare RECORDER");
-        exit(2);
-    };
+    let arguments: Vec<String> = std::env::args().skip(1).collect();
+    match arguments.iter().map(String::as_str).collect::<Vec<_>>()[..] {
+        ["tables"] => tables(),
+        ["scripts", recorder] => scripts(recorder)?,
+        _ => {
+            eprintln!("usage: compare tables | compare scripts RECORDER");
+            exit(2);
+        }
+    }
+    Ok(())
+}
+
+fn tables() {
+    if verdict(&[]) != 2 || verdict(&[0; damage::IMAGE_WORDS + 1]) != 2 {
+        println!("compare: another count of words is not refused");
+        exit(1);
+    }
+    match damage::hold(|words| verdict(words) == 1) {
+        Ok((held, sound)) => println!("compare: {held} tables, {sound} of them sound, no difference"),
+        Err(words) => {
+            println!("compare: the two differ on the table {words:?}");
+            exit(1);
+        }
+    }
+}
+
+fn scripts(recorder: &str) -> io::Result<()> {
     let mut lines = 0;
     for kind in &generate::KINDS {
         for seed in 1..=20 {
-            lines += hold(&recorder, kind.name, &generate::script(kind, seed, if seed % 4 == 0 { 3000 } else { 400 }))?;
+            lines += hold(recorder, kind.name, &generate::script(kind, seed, if seed % 4 == 0 { 3000 } else { 400 }))?;
         }
     }
     for seed in 1..=40 {
-        lines += hold(&recorder, "any bytes", &generate::bytes(seed, 600))?;
+        lines += hold(recorder, "any bytes", &generate::bytes(seed, 600))?;
     }
     for seed in 1..=3 {
-        lines += hold(&recorder, "numbers going round", &generate::round(seed))?;
+        lines += hold(recorder, "numbers going round", &generate::round(seed))?;
     }
     for script in [&b""[..], b"\n", b"0 getpid", b"0 getpid\n\n", &[b'0'; 100_000]] {
-        lines += hold(&recorder, "short and long", script)?;
+        lines += hold(recorder, "short and long", script)?;
     }
     println!("compare: {lines} lines, no difference");
     Ok(())
