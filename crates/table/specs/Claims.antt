@@ -10,7 +10,7 @@ use lib.IntN.{ℤ, pos, negsuc}
 use Rattle.table.specs.Answers.{is-no-room}
 use Rattle.table.specs.Calls.{targets, pid-to, within, natural, names-group, status}
 use Rattle.table.specs.Events.{Place, at, Event, inside, outside, sheet-of, inside-calls, happens, answer-of, next-table, next-place}
-use Rattle.table.specs.Limits.{no-slot, process-slots, namespace-slots, signals}
+use Rattle.table.specs.Limits.{no-slot, process-slots, namespace-slots, signals, deepest, greatest-pid, restart-pid, sigkill, sigstop}
 use Rattle.table.specs.Read.{View, view, process, taken, living, namespace-taken, alive, dead, init, is-init, below, seen, pid-seen, is-running, child-of}
 use Rattle.table.specs.Sheet.{Sheet, sheet}
 use Rattle.table.specs.Sound.{SoundTable, sound, shaped}
@@ -156,7 +156,7 @@ line-22 v c (Exit s) = false
 line-22 v c Wait = false
 line-22 v c Getpid = false
 line-22 v c Getppid = false
-line-22 v c (Handle s on) = not (within 1 signals s) or eqb (natural s) 9 or eqb (natural s) 19
+line-22 v c (Handle s on) = not (within 1 signals s) or eqb (natural s) sigkill or eqb (natural s) sigstop
 line-22 v c Poll = false
 
 -- -38: kill: number 0 or below -1
@@ -218,8 +218,8 @@ line-10 v c Poll = false
 -- -28: clone new, unshare: own level is 7
 unfoldable pub line-28 : View → ℕ → Call → Bool
 line-28 v c Clone = false
-line-28 v c CloneNew = eqb (v .level (v .own c)) 7
-line-28 v c Unshare = eqb (v .level (v .own c)) 7
+line-28 v c CloneNew = eqb (v .level (v .own c)) deepest
+line-28 v c Unshare = eqb (v .level (v .own c)) deepest
 line-28 v c (Setns n) = false
 line-28 v c (Kill n s) = false
 line-28 v c (Exit s) = false
@@ -306,10 +306,10 @@ Unused v n k = (i : ℕ) → So (seen v n i) → pid-seen v n i ≡ k → ⊥
 -- 300 (as Linux). An ended process keeps its numbers until removed.
 pub record NextNumber (v : View) (n k : ℕ) : Type 0 where
   pub unused : Unused v n k
-  pub within : (1 ≤ k) × (k ≤ 32767)
+  pub within : (1 ≤ k) × (k ≤ greatest-pid)
   pub lowest :
       ((v .last n < k) × ((j : ℕ) → v .last n < j → j < k → Unused v n j → ⊥))
-      ⊎ (((j : ℕ) → v .last n < j → j ≤ 32767 → Unused v n j → ⊥) × (300 ≤ k) × ((j : ℕ) → 300 ≤ j → j < k → Unused v n j → ⊥))
+      ⊎ (((j : ℕ) → v .last n < j → j ≤ greatest-pid → Unused v n j → ⊥) × (restart-pid ≤ k) × ((j : ℕ) → restart-pid ≤ j → j < k → Unused v n j → ⊥))
 
 -- Whoever is in the table after a call and was not before, a child that clone bore, has in its own namespace and in
 -- each above it the next number there, which no process had before; and it becomes the last.
@@ -332,7 +332,7 @@ pub record EndsExactly (t u : Table) (c : ℕ) (e : End) : Type 0 where
   -- before for the reason it had, and each other by signal 9.
   pub left :
       (i : ℕ) → So (seen (view t) (view t .own c) i) → (So (seen (view t) (view t .own c) (view t .parent i)) → ⊥)
-      → view u .state i ≡ (if eqb i c then Ended e else (if view t .ended i then view t .state i else Ended (Signaled 9)))
+      → view u .state i ≡ (if eqb i c then Ended e else (if view t .ended i then view t .state i else Ended (Signaled sigkill)))
   -- Nobody outside the subtree is ended, or changed at all.
   pub outside : (i : ℕ) → (So (seen (view t) (view t .own c) i) → ⊥) → process u i ≡ process t i
 
@@ -344,4 +344,4 @@ pub record EndExact : Type 0 where
   pub by-signal :
       (t : Table) (c i : ℕ) → SoundTable t → So (runs (view t) c) → So (living (view t) i) → So (is-init (view t) i)
       → So (seen (view t) (view t .own c) i) → (view t .own i ≡ view t .own c → ⊥)
-      → EndsExactly t (step t c (Kill (pos (pid-to (view t) c i)) (pos 9)) .table) i (Signaled 9)
+      → EndsExactly t (step t c (Kill (pos (pid-to (view t) c i)) (pos sigkill)) .table) i (Signaled sigkill)

@@ -52,6 +52,7 @@ act t i s Stop = put t i (with-state (process t i) Stopped)
 act t i s Finish = end t i (Signaled s)
 act t i s Pend = put t i (with-pending (process t i) s)
 
+-- signal s, sent from a namespace, to the process at i
 unfoldable pub deliver : Table → ℕ → ℕ → ℕ → Table
 deliver t from i s = act t i s (action-on (view t) from i s)
 

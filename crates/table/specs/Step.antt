@@ -12,6 +12,7 @@ use Rattle.table.specs.declared.Outcome.{Outcome}
 use Rattle.table.specs.declared.Refusal.the-variants.{Unsound, NotRunning}
 use Rattle.table.specs.declared.Table.{Table}
 
+-- the call itself, by a running caller of a sound table
 unfoldable pub make : Table → ℕ → Call → Outcome
 make t c Clone = clone t c
 make t c CloneNew = clone-new t c
