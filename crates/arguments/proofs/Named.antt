@@ -7,9 +7,9 @@ use mathlib.Core.Path.{_≡_, refl, sym, _∙_}
 use borrow.Author.Tests.{ltb-true, ltb-false, not-false}
 use lib.Dec.{eqb, leb, ltb}
 use lib.IntN.{ℤ, pos, negsuc}
-use Rattle.table.specs.Calls.{within, natural, named, targets, others, names-group}
+use Rattle.rules.specs.Calls.{within, natural, named, targets, others, names-group}
 use Rattle.table.specs.Limits.{process-slots, signals, sigkill, sigstop}
-use Rattle.table.specs.Read.{View, find}
+use Rattle.rules.specs.Read.{View, find}
 use Rattle.table.specs.Tests.{_and_, _or_, if_then_else_}
 use Rattle.arguments.specs.Arguments.{names-everyone}
 

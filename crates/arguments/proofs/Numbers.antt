@@ -11,7 +11,7 @@ use lib.Signed.{ltZ, nonNeg}
 use mir.Syntax.{w8, w32}
 use mir.Val.{Fits, SFits, toZ, ofZ}
 use mir.ValLaws.{toZ-pos}
-use Rattle.table.specs.Calls.{within, natural, status, names-group}
+use Rattle.rules.specs.Calls.{within, natural, status, names-group}
 use Rattle.table.specs.Limits.{signals, sigkill, sigstop, statuses}
 use Rattle.table.specs.Tests.{_and_, _or_}
 use Rattle.arguments.specs.Arguments.{names-everyone}

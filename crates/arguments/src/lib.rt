@@ -3,7 +3,7 @@ ghost use mathlib.Core.Bool.{not};
 ghost use mathlib.Core.Path.{_≡_};
 ghost use Prim.Native.Nat.{_<_};
 ghost use lib.Dec.{eqb, ltb};
-ghost use Rattle.table.specs.Calls.{within, natural, status, names-group};
+ghost use Rattle.rules.specs.Calls.{within, natural, status, names-group};
 ghost use Rattle.table.specs.Limits.{signals, sigkill, sigstop};
 ghost use Rattle.table.specs.Tests.{_or_};
 ghost use Rattle.arguments.specs.Arguments.{names-everyone};

@@ -8,15 +8,15 @@ use borrow.Author.Tests.{le-leb}
 use lib.Dec.{leb}
 use Rattle.births.specs.Births.{birth-at, namespace-at}
 use Rattle.table.proofs.Chains.{pick-yes}
-use Rattle.table.proofs.Laws.Below.{above-same, below-level}
-use Rattle.table.proofs.Laws.Facts.{Facts, Below}
+use Rattle.rules.proofs.Laws.Below.{above-same, below-level}
+use Rattle.rules.proofs.Laws.Facts.{Facts, Below}
 use Rattle.table.proofs.MapLoops.{changed-at}
-use Rattle.table.specs.Births.{birth, newborn, new-pids}
-use Rattle.table.specs.Calls.{new-namespace, own-level}
+use Rattle.rules.specs.Births.{birth, newborn, new-pids}
+use Rattle.rules.specs.Calls.{new-namespace, own-level}
 use Rattle.table.specs.Limits.{levels}
-use Rattle.table.specs.Pids.{next-pid, free-slot, free-namespace-slot}
-use Rattle.table.specs.Read.{View, view, taken, no-pid, pid-at, above-at}
-use Rattle.table.specs.Records.{to-pid}
+use Rattle.rules.specs.Pids.{next-pid, free-slot, free-namespace-slot}
+use Rattle.table.specs.Slots.{no-pid, pid-at, to-pid}
+use Rattle.rules.specs.Read.{View, view, taken, above-at}
 use Rattle.table.specs.Tests.{if_then_else_}
 use Rattle.table.specs.declared.Pid.{Pid}
 use Rattle.table.specs.declared.Table.{Table}

@@ -8,7 +8,7 @@ use lib.Seq.{set-out}
 use native.Mathlib.Omega.{arith}
 use Rattle.births.specs.Births.{joined-by}
 use Rattle.table.proofs.Chains.{pick-yes, pick-no}
-use Rattle.table.specs.Read.{is-unborn}
+use Rattle.table.specs.Slots.{is-unborn}
 use Rattle.table.specs.declared.Life.{Life}
 use Rattle.table.specs.declared.Life.the-variants.{Alive}
 use Rattle.table.specs.declared.Namespace.{Namespace}

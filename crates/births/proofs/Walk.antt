@@ -14,11 +14,11 @@ use borrow.Author.Tests.{eqb-true, eqb-false, leb-true, leb-false}
 use Rattle.births.specs.Births.{birth-at, child-with, joined-by}
 use Rattle.table.proofs.Chains.{by-bool, pick-yes, pick-no}
 use Rattle.table.proofs.MapLoops.{changed-length, changed-at, changed-none}
-use Rattle.table.specs.Births.{new-pids, newborn, joined}
+use Rattle.rules.specs.Births.{new-pids, newborn, joined}
 use Rattle.table.specs.Limits.{levels, process-slots, namespace-slots}
-use Rattle.table.specs.Pids.{next-pid}
-use Rattle.table.specs.Read.{View, view, namespace, no-pid, no-process, no-namespace, below, climb, up-by, above-at}
-use Rattle.table.specs.Records.{to-pid, put}
+use Rattle.rules.specs.Pids.{next-pid}
+use Rattle.table.specs.Slots.{namespace, no-pid, no-process, no-namespace, to-pid, put}
+use Rattle.rules.specs.Read.{View, view, below, climb, up-by, above-at}
 use Rattle.table.specs.Tests.{if_then_else_, changed-to}
 use Rattle.table.specs.declared.Life.{Life}
 use Rattle.table.specs.declared.Life.the-variants.{Unborn, Alive, Dead}

@@ -3,9 +3,9 @@
 use Prim.Native.Nat.{ℕ}
 use mathlib.Core.Bool.{false}
 use mathlib.Core.List.{List}
-use Rattle.table.specs.Births.{newborn, joined}
-use Rattle.table.specs.Read.{view, is-unborn}
-use Rattle.table.specs.Records.{to-pid, put, put-namespace, changed}
+use Rattle.rules.specs.Births.{newborn, joined}
+use Rattle.table.specs.Slots.{is-unborn, to-pid, put, put-namespace, changed}
+use Rattle.rules.specs.Read.{view}
 use Rattle.table.specs.Tests.{if_then_else_}
 use Rattle.table.specs.declared.Life.the-variants.{Unborn, Alive}
 use Rattle.table.specs.declared.Namespace.{Namespace}

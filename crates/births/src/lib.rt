@@ -15,7 +15,7 @@ use tree::parent_of;
 use tree::ups;
 ghost use mathlib.Core.Path.{_≡_};
 ghost use lib.ListN.{getD, set};
-ghost use Rattle.table.specs.Read.{no-namespace};
+ghost use Rattle.table.specs.Slots.{no-namespace};
 ghost use Rattle.births.specs.Births.{birth-at, namespace-at, child-with, joined-by};
 
 // ---- one record

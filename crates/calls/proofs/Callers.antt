@@ -3,11 +3,12 @@ use Prim.Native.Nat.{ℕ}
 use mathlib.Core.List.{List}
 use mathlib.Core.Path.{_≡_, ap, _∙_}
 use lib.ListN.{getD}
-use Rattle.table.proofs.Slots.{read-at}
-use Rattle.table.specs.Answers.{answers}
-use Rattle.table.specs.Calls.{own-level, getpid, getppid}
+use Rattle.rules.proofs.Laws.ReadAt.{read-at}
+use Rattle.rules.specs.Answers.{answers}
+use Rattle.rules.specs.Calls.{own-level, getpid, getppid}
 use Rattle.table.specs.Fresh.{empty-process}
-use Rattle.table.specs.Read.{view, namespace, pid-at, pid-seen, pid-in}
+use Rattle.table.specs.Slots.{namespace, pid-at}
+use Rattle.rules.specs.Read.{view, pid-seen, pid-in}
 use Rattle.table.specs.declared.Namespace.{Namespace}
 use Rattle.table.specs.declared.NsSlot.{NsSlot}
 use Rattle.table.specs.declared.Outcome.{Outcome}

@@ -11,14 +11,15 @@ use mir.Val.{SFits, toZ, ofZ}
 use mir.ValLaws.{toZ-ofZ}
 use Rattle.calls.proofs.Signals.{put-changed}
 use Rattle.table.proofs.Chains.{if-yes, if-no, or-true, or-true-later, or-false}
-use Rattle.table.proofs.Slots.{read-at}
-use Rattle.table.specs.Answers.{refused, answers}
-use Rattle.table.specs.Calls.{set-children, named, setns}
-use Rattle.table.specs.Freeing.{freed}
+use Rattle.rules.proofs.Laws.ReadAt.{read-at}
+use Rattle.rules.specs.Answers.{refused, answers}
+use Rattle.rules.specs.Calls.{set-children, named, setns}
+use Rattle.rules.specs.Freeing.{freed}
 use Rattle.table.specs.Fresh.{empty-process}
 use Rattle.table.specs.Limits.{process-slots}
-use Rattle.table.specs.Read.{view, process, is-ended}
-use Rattle.table.specs.Records.{put, with-children}
+use Rattle.table.specs.Slots.{process, is-ended, put}
+use Rattle.rules.specs.Read.{view}
+use Rattle.rules.specs.Records.{with-children}
 use Rattle.table.specs.Tests.{_or_, if_then_else_}
 use Rattle.table.specs.declared.Outcome.{Outcome}
 use Rattle.table.specs.declared.Process.{Process}

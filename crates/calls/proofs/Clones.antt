@@ -13,19 +13,20 @@ use Rattle.births.proofs.Given.{birth-given, namespace-given, clone-new-given}
 use Rattle.births.specs.Births.{birth-at, namespace-at}
 use Rattle.calls.proofs.Fits.{facts-of}
 use Rattle.table.proofs.Chains.{if-yes, if-no, or-true, or-true-later, or-false}
-use Rattle.table.proofs.Laws.Below.{level-deepest}
-use Rattle.table.proofs.Laws.Tests.{left}
-use Rattle.table.proofs.Slots.{read-at}
+use Rattle.rules.proofs.Laws.Below.{level-deepest}
+use Rattle.rules.proofs.Laws.Tests.{left}
+use Rattle.rules.proofs.Laws.ReadAt.{read-at}
 use Rattle.table.proofs.Table as T
-use Rattle.table.specs.Answers.{refused, answers}
-use Rattle.table.specs.Births.{birth}
-use Rattle.table.specs.Calls.{own-level, born, clone, clone-new, new-namespace, set-children, unshare}
+use Rattle.rules.specs.Answers.{refused, answers}
+use Rattle.rules.specs.Births.{birth}
+use Rattle.rules.specs.Calls.{own-level, born, clone, clone-new, new-namespace, set-children, unshare}
 use Rattle.table.specs.Fresh.{empty-process}
 use Rattle.table.specs.Limits.{process-slots, namespace-slots, deepest}
-use Rattle.table.specs.Pids.{next-pid, free-slot, free-namespace-slot}
-use Rattle.table.specs.Read.{view, process, namespace, is-dead, dead}
-use Rattle.table.specs.Sound.{sound}
-use Rattle.table.specs.Step.{runs}
+use Rattle.rules.specs.Pids.{next-pid, free-slot, free-namespace-slot}
+use Rattle.table.specs.Slots.{process, namespace, is-dead}
+use Rattle.rules.specs.Read.{view, dead}
+use Rattle.rules.specs.Sound.{sound}
+use Rattle.rules.specs.Step.{runs}
 use Rattle.table.specs.declared.Answer.the-variants.{Number}
 use Rattle.table.specs.declared.Namespace.{Namespace}
 use Rattle.table.specs.declared.Outcome.{Outcome}

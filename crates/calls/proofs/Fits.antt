@@ -13,15 +13,16 @@ use denote.Shadow.{shadow}
 use lib.Dec.{eqb, ltb}
 use lib.ListN.{getD, length}
 use mir.Val.{Val}
-use Rattle.table.proofs.Laws.Facts.{Facts, facts}
-use Rattle.table.proofs.Laws.Tests.{both, all-intro}
+use Rattle.rules.proofs.Laws.Facts.{Facts, facts}
+use Rattle.rules.proofs.Laws.Tests.{both, all-intro}
 use Rattle.table.proofs.Pid as K
 use Rattle.table.proofs.Process as P
 use Rattle.table.proofs.Slots.{length-mapped}
 use Rattle.table.proofs.Table as T
 use Rattle.table.specs.Limits.{process-slots, namespace-slots, levels, signals}
-use Rattle.table.specs.Read.{view, no-pid, no-process, process, pid-at}
-use Rattle.table.specs.Sound.{SoundTable, shaped, sound}
+use Rattle.table.specs.Slots.{no-pid, no-process, process, pid-at}
+use Rattle.rules.specs.Read.{view}
+use Rattle.rules.specs.Sound.{SoundTable, shaped, sound}
 use Rattle.table.specs.Tests.{_and_}
 use Rattle.table.specs.declared.Pid.{Pid}
 use Rattle.table.specs.declared.Process.{Process}

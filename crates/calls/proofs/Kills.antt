@@ -20,20 +20,20 @@ use Rattle.delivery.specs.Delivery.{Delivers, DeliversAll}
 use Rattle.delivery.specs.Targets.{Lists, listed}
 use Rattle.delivery.specs.declared.Targets.{Targets}
 use Rattle.table.proofs.Chains.{if-yes, if-no, pick-yes, pick-no, not-no, not-yes, told-not, told-yes}
-use Rattle.table.proofs.Laws.Facts.{Facts}
-use Rattle.table.proofs.Laws.Steps.{runs-lives}
-use Rattle.table.proofs.Slots.{read-at}
+use Rattle.rules.proofs.Laws.Facts.{Facts}
+use Rattle.rules.proofs.Laws.Steps.{runs-lives}
+use Rattle.rules.proofs.Laws.ReadAt.{read-at}
 use Rattle.table.proofs.Table as T
-use Rattle.table.specs.Answers.{refused, answers}
-use Rattle.table.specs.Calls.{within, natural, status, named, others, targets, names-group, kill, exit}
-use Rattle.table.specs.Delivery.{deliver-all}
-use Rattle.table.specs.Ends.{end}
-use Rattle.table.specs.Freeing.{freed}
+use Rattle.rules.specs.Answers.{refused, answers}
+use Rattle.rules.specs.Calls.{within, natural, status, named, others, targets, names-group, kill, exit}
+use Rattle.rules.specs.Delivery.{deliver-all}
+use Rattle.rules.specs.Ends.{end}
+use Rattle.rules.specs.Freeing.{freed}
 use Rattle.table.specs.Fresh.{empty-process}
 use Rattle.table.specs.Limits.{process-slots, signals}
-use Rattle.table.specs.Read.{view, living}
-use Rattle.table.specs.Sound.{sound}
-use Rattle.table.specs.Step.{runs}
+use Rattle.rules.specs.Read.{view, living}
+use Rattle.rules.specs.Sound.{sound}
+use Rattle.rules.specs.Step.{runs}
 use Rattle.table.specs.declared.End.the-variants.{Exited}
 use Rattle.table.specs.declared.Outcome.{Outcome}
 use Rattle.table.specs.declared.Process.{Process}

@@ -14,13 +14,14 @@ use mir.Val.{SFits, toZ, ofZ}
 use mir.ValLaws.{toZ-ofZ}
 use Rattle.arguments.proofs.Named.{handled-below}
 use Rattle.table.proofs.Chains.{if-yes, if-no}
-use Rattle.table.proofs.Slots.{put-past, process-within, read-at}
-use Rattle.table.specs.Answers.{refused, answers}
-use Rattle.table.specs.Calls.{within, natural, handle-on, handle-off, handle, poll}
+use Rattle.table.proofs.Slots.{put-past, process-within}
+use Rattle.rules.proofs.Laws.ReadAt.{read-at}
+use Rattle.rules.specs.Answers.{refused, answers}
+use Rattle.rules.specs.Calls.{within, natural, handle-on, handle-off, handle, poll}
 use Rattle.table.specs.Fresh.{empty-process}
 use Rattle.table.specs.Limits.{signals, sigkill, sigstop}
-use Rattle.table.specs.Read.{process}
-use Rattle.table.specs.Records.{put, with-signals}
+use Rattle.table.specs.Slots.{process, put}
+use Rattle.rules.specs.Records.{with-signals}
 use Rattle.table.specs.SignalSets.{with-signal, without-signal, lowest-signal}
 use Rattle.table.specs.Tests.{_or_, if_then_else_}
 use Rattle.table.specs.declared.Outcome.{Outcome}

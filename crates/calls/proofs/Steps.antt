@@ -9,13 +9,14 @@ use mir.Syntax.{w32}
 use mir.Val.{SFits, toZ, ofZ}
 use mir.ValLaws.{toZ-ofZ}
 use Rattle.table.proofs.Chains.{if-yes, if-no, and-true, and-false, and-false-later, told-not, told-yes}
-use Rattle.table.proofs.Slots.{read-at}
-use Rattle.table.specs.Answers.{refused}
-use Rattle.table.specs.Calls.{setns, kill, exit, handle}
+use Rattle.rules.proofs.Laws.ReadAt.{read-at}
+use Rattle.rules.specs.Answers.{refused}
+use Rattle.rules.specs.Calls.{setns, kill, exit, handle}
 use Rattle.table.specs.Fresh.{empty-process}
-use Rattle.table.specs.Read.{view, pid-at, is-running, taken}
-use Rattle.table.specs.Sound.{sound}
-use Rattle.table.specs.Step.{make, runs, step}
+use Rattle.table.specs.Slots.{pid-at, is-running}
+use Rattle.rules.specs.Read.{view, taken}
+use Rattle.rules.specs.Sound.{sound}
+use Rattle.rules.specs.Step.{make, runs, step}
 use Rattle.table.specs.declared.Call.{Call}
 use Rattle.table.specs.declared.Call.the-variants.{Setns, Kill, Exit, Handle}
 use Rattle.table.specs.declared.Outcome.{Outcome}

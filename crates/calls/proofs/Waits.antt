@@ -7,14 +7,14 @@ use lib.Dec.{eqb, ltb}
 use lib.ListN.{getD}
 use Rattle.table.proofs.Chains.{by-bool, if-yes, if-no, and-true, and-goes, or-goes, told-yes, told-not, not-no, not-yes}
 use Rattle.table.proofs.FoldLoops.{Turned, better, fold-starts, fold-goes-on, fold-done, least-by-turns}
-use Rattle.table.proofs.Slots.{read-at}
-use Rattle.table.specs.Answers.{refused, granted, answers}
-use Rattle.table.specs.Calls.{own-level, first-ended, reap, wait}
-use Rattle.table.specs.Freeing.{freed}
+use Rattle.rules.proofs.Laws.ReadAt.{read-at}
+use Rattle.rules.specs.Answers.{refused, granted, answers}
+use Rattle.rules.specs.Calls.{own-level, first-ended, reap, wait}
+use Rattle.rules.specs.Freeing.{freed}
 use Rattle.table.specs.Fresh.{empty-process}
 use Rattle.table.specs.Limits.{process-slots}
-use Rattle.table.specs.Read.{view, process, pid-at, pid-seen, is-ended, taken, child-of}
-use Rattle.table.specs.Records.{to-pid, put}
+use Rattle.table.specs.Slots.{process, pid-at, is-ended, to-pid, put}
+use Rattle.rules.specs.Read.{view, pid-seen, taken, child-of}
 use Rattle.table.specs.Tests.{_and_, _or_, any, least}
 use Rattle.table.specs.declared.Answer.the-variants.{Reaped}
 use Rattle.table.specs.declared.End.{End}

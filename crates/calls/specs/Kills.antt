@@ -4,12 +4,12 @@ use mathlib.Core.List.{List, [], _∷_}
 use lib.Dec.{eqb}
 use lib.IntN.{ℤ}
 use lib.ListN.{length}
-use Rattle.table.specs.Answers.{refused, answers}
-use Rattle.table.specs.Calls.{named}
-use Rattle.table.specs.Delivery.{deliver-all}
-use Rattle.table.specs.Freeing.{freed}
+use Rattle.rules.specs.Answers.{refused, answers}
+use Rattle.rules.specs.Calls.{named}
+use Rattle.rules.specs.Delivery.{deliver-all}
+use Rattle.rules.specs.Freeing.{freed}
 use Rattle.table.specs.Limits.{process-slots}
-use Rattle.table.specs.Read.{View, view}
+use Rattle.rules.specs.Read.{View, view}
 use Rattle.table.specs.Tests.{if_then_else_}
 use Rattle.table.specs.declared.Outcome.{Outcome}
 use Rattle.table.specs.declared.Refusal.the-variants.{Esrch}

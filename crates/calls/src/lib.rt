@@ -49,16 +49,16 @@ ghost use mathlib.Core.Path.{_≡_};
 ghost use Prim.Native.Nat.{_<_};
 ghost use lib.Dec.{eqb, ltb};
 ghost use Rattle.calls.specs.Kills.{sends, named-only};
-ghost use Rattle.table.specs.Answers.{refused as refused-as, granted as granted-as, answers as answers-as};
-ghost use Rattle.table.specs.Calls.{own-level, named as named-in, born as born-of, clone as clone-of, clone-new as clone-new-of, unshare as unshare-of, set-children, setns as setns-of, others as others-of, getpid as getpid-of, getppid as getppid-of, kill as kill-of, exit as exit-of, wait as wait-of, handle-on, handle-off, handle as handle-of, poll as poll-of};
-ghost use Rattle.table.specs.Freeing.{freed};
+ghost use Rattle.rules.specs.Answers.{refused as refused-as, granted as granted-as, answers as answers-as};
+ghost use Rattle.rules.specs.Calls.{own-level, named as named-in, born as born-of, clone as clone-of, clone-new as clone-new-of, unshare as unshare-of, set-children, setns as setns-of, others as others-of, getpid as getpid-of, getppid as getppid-of, kill as kill-of, exit as exit-of, wait as wait-of, handle-on, handle-off, handle as handle-of, poll as poll-of};
+ghost use Rattle.rules.specs.Freeing.{freed};
 ghost use Rattle.table.specs.Fresh.{empty-process};
 ghost use Rattle.table.specs.Limits.{process-slots, signals};
-ghost use Rattle.table.specs.Pids.{free-slot};
-ghost use Rattle.table.specs.Read.{view, pid-at, is-ended, child-of};
-ghost use Rattle.table.specs.Records.{put};
-ghost use Rattle.table.specs.Sound.{sound};
-ghost use Rattle.table.specs.Step.{runs, make as make-of, step as step-of};
+ghost use Rattle.rules.specs.Pids.{free-slot};
+ghost use Rattle.table.specs.Slots.{pid-at, is-ended, put};
+ghost use Rattle.rules.specs.Read.{view, child-of};
+ghost use Rattle.rules.specs.Sound.{sound};
+ghost use Rattle.rules.specs.Step.{runs, make as make-of, step as step-of};
 ghost use Rattle.table.specs.Tests.{_and_, _or_, if_then_else_, any, least};
 
 // The level of a namespace that has none below it.

@@ -9,13 +9,15 @@ use native.Mathlib.Decide.{decLt}
 use native.Mathlib.Omega.{arith}
 use Rattle.ending.specs.Ending.{Ends}
 use Rattle.table.proofs.Chains.{by-bool, pick-yes, or-true-later, not-no}
-use Rattle.table.proofs.Laws.Facts.{Facts}
-use Rattle.table.proofs.Slots.{ReadAt, read-at, process-within, put-past}
-use Rattle.table.specs.Delivery.{action-on, act, deliver, resumed, with-pending}
+use Rattle.rules.proofs.Laws.Facts.{Facts}
+use Rattle.table.proofs.Slots.{process-within, put-past}
+use Rattle.rules.proofs.Laws.ReadAt.{ReadAt, read-at}
+use Rattle.rules.specs.Delivery.{action-on, act, deliver, resumed, with-pending}
 use Rattle.table.specs.Fresh.{empty-process}
 use Rattle.table.specs.Limits.{process-slots}
-use Rattle.table.specs.Read.{View, view, process, namespace, init-of, is-init, living}
-use Rattle.table.specs.Records.{put, with-state}
+use Rattle.table.specs.Slots.{process, namespace, init-of, put}
+use Rattle.rules.specs.Read.{View, view, is-init, living}
+use Rattle.rules.specs.Records.{with-state}
 use Rattle.table.specs.Tests.{_and_, _or_}
 use Rattle.table.specs.declared.Action.{Action}
 use Rattle.table.specs.declared.Action.the-variants.{Nothing, Resume, Stop, Finish, Pend}

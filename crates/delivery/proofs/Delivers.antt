@@ -7,11 +7,11 @@ use mathlib.Core.Path.{_≡_, refl, sym, ap, subst, _∙_}
 use lib.ListN.{length, getD, take}
 use native.Mathlib.Numerals.{add-one}
 use native.Mathlib.Omega.{arith}
-use Rattle.table.proofs.Keeps.Changes.{deliver-sane}
-use Rattle.table.proofs.Keeps.Deliver.{Safe}
-use Rattle.table.proofs.Laws.Facts.{Sane}
+use Rattle.rules.proofs.Keeps.Changes.{deliver-sane}
+use Rattle.rules.proofs.Keeps.Deliver.{Safe}
+use Rattle.rules.proofs.Laws.Facts.{Sane}
 use Rattle.table.proofs.Slots.{length-mapped}
-use Rattle.table.specs.Delivery.{deliver-all}
+use Rattle.rules.specs.Delivery.{deliver-all}
 use Rattle.table.specs.Limits.{signals}
 use Rattle.table.specs.declared.ProcSlot.{ProcSlot}
 use Rattle.table.specs.declared.Table.{Table}

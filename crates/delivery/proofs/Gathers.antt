@@ -8,11 +8,12 @@ use lib.Dec.{eqb}
 use lib.ListN.{length, getD}
 use native.Mathlib.Numerals.{add-one}
 use native.Mathlib.Omega.{arith}
-use Rattle.table.proofs.Slots.{read-at}
-use Rattle.table.specs.Calls.{others, pid-to}
+use Rattle.rules.proofs.Laws.ReadAt.{read-at}
+use Rattle.rules.specs.Calls.{others, pid-to}
 use Rattle.table.specs.Fresh.{empty-process}
 use Rattle.table.specs.Limits.{process-slots}
-use Rattle.table.specs.Read.{View, view, process, seen, pid-seen, all-seen}
+use Rattle.table.specs.Slots.{process}
+use Rattle.rules.specs.Read.{View, view, seen, pid-seen, all-seen}
 use Rattle.table.specs.Tests.{_and_, insert, ascending}
 use Rattle.table.specs.declared.NsSlot.{NsSlot}
 use Rattle.table.specs.declared.Pid.{Pid}

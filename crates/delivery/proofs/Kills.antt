@@ -3,13 +3,13 @@ use Prim.Native.Nat.{ℕ}
 use mathlib.Core.List.{[], _∷_}
 use mathlib.Core.Path.{_≡_, sym, ap, subst, _∙_}
 use lib.IntN.{negsuc}
-use Rattle.table.proofs.Keeps.Deliver.{Safe}
-use Rattle.table.proofs.Keeps.Premises.{targets-safe}
-use Rattle.table.proofs.Laws.Facts.{sane}
-use Rattle.table.specs.Calls.{others, targets}
-use Rattle.table.specs.Delivery.{deliver-all}
-use Rattle.table.specs.Read.{view}
-use Rattle.table.specs.Sound.{SoundTable}
+use Rattle.rules.proofs.Keeps.Deliver.{Safe}
+use Rattle.rules.proofs.Keeps.Premises.{targets-safe}
+use Rattle.rules.proofs.Laws.Facts.{sane}
+use Rattle.rules.specs.Calls.{others, targets}
+use Rattle.rules.specs.Delivery.{deliver-all}
+use Rattle.rules.specs.Read.{view}
+use Rattle.rules.specs.Sound.{SoundTable}
 use Rattle.table.specs.declared.Table.{Table}
 use Rattle.delivery.specs.Delivery.{Delivers, DeliversAll}
 use Rattle.delivery.specs.Targets.{listed, Lists}

@@ -1,7 +1,7 @@
 -- Numbers in an array.
 use Prim.Native.Nat.{ℕ}
 use mathlib.Core.Path.{_≡_, ap}
-use Rattle.table.specs.Records.{to-pid}
+use Rattle.table.specs.Slots.{to-pid}
 use Rattle.table.specs.declared.Pid.{Pid}
 
 -- k is the callee's result

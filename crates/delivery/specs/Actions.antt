@@ -3,9 +3,9 @@
 use Prim.Native.Nat.{ℕ}
 use mathlib.Core.Bool.{Bool, not}
 use lib.Dec.{eqb}
-use Rattle.table.specs.Delivery.{default-action}
+use Rattle.rules.specs.Delivery.{default-action}
 use Rattle.table.specs.Limits.{sigkill, sigcont, sigstop}
-use Rattle.table.specs.Read.{is-ended, pid-at}
+use Rattle.table.specs.Slots.{is-ended, pid-at}
 use Rattle.table.specs.SignalSets.{has}
 use Rattle.table.specs.Tests.{_and_, _or_, if_then_else_}
 use Rattle.table.specs.declared.Action.{Action}

@@ -4,11 +4,12 @@ use Prim.Native.Nat.{ℕ}
 use mathlib.Core.List.{List, [], _∷_}
 use mathlib.Core.Path.{_≡_}
 use Rattle.ending.specs.Ending.{end-process}
-use Rattle.table.proofs.Keeps.Deliver.{Safe}
-use Rattle.table.proofs.Laws.Facts.{Facts, Sane}
-use Rattle.table.specs.Delivery.{action-on, resumed, with-pending, deliver, deliver-all}
-use Rattle.table.specs.Read.{view, process}
-use Rattle.table.specs.Records.{with-state, put}
+use Rattle.rules.proofs.Keeps.Deliver.{Safe}
+use Rattle.rules.proofs.Laws.Facts.{Facts, Sane}
+use Rattle.rules.specs.Delivery.{action-on, resumed, with-pending, deliver, deliver-all}
+use Rattle.table.specs.Slots.{process, put}
+use Rattle.rules.specs.Read.{view}
+use Rattle.rules.specs.Records.{with-state}
 use Rattle.table.specs.declared.Action.{Action}
 use Rattle.table.specs.declared.Action.the-variants.{Nothing, Resume, Stop, Finish, Pend}
 use Rattle.table.specs.declared.End.the-variants.{Signaled}

@@ -6,7 +6,7 @@ use mathlib.Core.Path.{_≡_}
 use lib.Dec.{eqb}
 use lib.ListN.{getD, length, take}
 use Rattle.table.specs.Limits.{process-slots}
-use Rattle.table.specs.Read.{no-pid, no-process, pid-at}
+use Rattle.table.specs.Slots.{no-pid, no-process, pid-at}
 use Rattle.table.specs.Tests.{_and_}
 use Rattle.table.specs.declared.Pid.{Pid}
 use Rattle.table.specs.declared.ProcSlot.{ProcSlot}

@@ -10,16 +10,18 @@ use lib.Dec.{eqb}
 use lib.ListN.{length, getD, length-set, length-map, List·getD-eq-default}
 use lib.Seq.{getD-set-same, getD-set-other, ext-getD}
 use Rattle.table.proofs.Chains.{by-bool, pick-yes, pick-no, and-true, and-false, and-false-later}
-use Rattle.table.proofs.Laws.Tests.{no-so}
-use Rattle.table.proofs.Laws.Facts.{Facts, Stands, Lives, Below, Seen, lives-taken, is-seen}
-use Rattle.table.proofs.Laws.Tree.{below-refl}
+use Rattle.rules.proofs.Laws.Tests.{no-so}
+use Rattle.rules.proofs.Laws.Facts.{Facts, Stands, Lives, Below, Seen, lives-taken, is-seen}
+use Rattle.rules.proofs.Laws.Tree.{below-refl}
 use Rattle.table.proofs.MapLoops.{changed-length, changed-at}
-use Rattle.table.proofs.Slots.{field-within, read-at}
-use Rattle.table.specs.Ends.{member-ends, init-ends, namespace-dies, end}
+use Rattle.table.proofs.Slots.{field-within}
+use Rattle.rules.proofs.Laws.ReadAt.{read-at}
+use Rattle.rules.specs.Ends.{member-ends, init-ends, namespace-dies, end}
 use Rattle.table.specs.Fresh.{empty-process}
 use Rattle.table.specs.Limits.{deepest, namespace-slots, process-slots}
-use Rattle.table.specs.Read.{View, view, process, namespace, pid-at, no-process, no-namespace, is-ended, is-dead, init-of, init, is-init, taken, child-of, seen, below, climb}
-use Rattle.table.specs.Records.{as-ended, with-life, put, changed}
+use Rattle.table.specs.Slots.{process, namespace, pid-at, no-process, no-namespace, is-ended, is-dead, init-of, put, changed}
+use Rattle.rules.specs.Read.{View, view, init, is-init, taken, child-of, seen, below, climb}
+use Rattle.rules.specs.Records.{as-ended, with-life}
 use Rattle.table.specs.Tests.{_and_, if_then_else_, changed-to}
 use Rattle.table.specs.declared.End.{End}
 use Rattle.table.specs.declared.Life.the-variants.{Dead}

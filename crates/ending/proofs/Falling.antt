@@ -14,16 +14,16 @@ use lib.ListN.{length, getD, length-set}
 use lib.Seq.{getD-set-same, getD-set-other}
 use Rattle.table.proofs.Chains.{by-bool, pick-yes, pick-no}
 use Rattle.table.proofs.FoldLoops.{turns}
-use Rattle.table.proofs.Laws.Below.{below-up, last-step, below-level, below-trans, no-level, shallow-below}
-use Rattle.table.proofs.Laws.Tests.{yes-or-no, no-so, life-cases, dead-otherwise, alive-unborn, dead-unborn}
-use Rattle.table.proofs.Laws.Facts.{Facts, Taken, Stands, Lives, Below, Seen, Other, is-seen, seen-taken, seen-below, lives-or-ended}
-use Rattle.table.proofs.Laws.Tests.{left, right, both, cases, or-left, or-right}
-use Rattle.table.proofs.Laws.Slots.{alive-above, below-parent, below-same, init-own, init-taken, living-own-alive}
-use Rattle.table.proofs.Laws.Tree.{below-refl}
+use Rattle.rules.proofs.Laws.Below.{below-up, last-step, below-level, below-trans, no-level, shallow-below}
+use Rattle.rules.proofs.Laws.Tests.{yes-or-no, no-so, life-cases, dead-otherwise, alive-unborn, dead-unborn, left, right, both, cases, or-left, or-right}
+use Rattle.rules.proofs.Laws.Facts.{Facts, Taken, Stands, Lives, Below, Seen, Other, is-seen, seen-taken, seen-below, lives-or-ended}
+use Rattle.rules.proofs.Laws.Slots.{alive-above, below-parent, below-same, init-own, init-taken, living-own-alive}
+use Rattle.rules.proofs.Laws.Tree.{below-refl}
 use Rattle.table.proofs.MapLoops.{changed-length, changed-at}
 use Rattle.table.specs.Limits.{deepest, namespace-slots, process-slots}
-use Rattle.table.specs.Read.{View, view, process, namespace, pid-at, no-process, no-namespace, is-ended, is-unborn, is-alive, is-dead, init-of, alive, dead, unborn, init, taken, namespace-taken}
-use Rattle.table.specs.Records.{as-ended, with-life, put}
+use Rattle.table.specs.Slots.{process, namespace, pid-at, no-process, no-namespace, is-ended, is-unborn, is-alive, is-dead, init-of, put}
+use Rattle.rules.specs.Read.{View, view, alive, dead, unborn, init, taken, namespace-taken}
+use Rattle.rules.specs.Records.{as-ended, with-life}
 use Rattle.table.specs.Tests.{_and_, _or_, if_then_else_}
 use Rattle.table.specs.declared.Life.{Life}
 use Rattle.table.specs.declared.Life.the-variants.{Unborn, Alive, Dead}

@@ -13,18 +13,17 @@ use lib.Seq.{getD-set-same, getD-set-other}
 use Rattle.table.proofs.AnyLoops.{Unmet, any-steps, any-true, any-none}
 use Rattle.table.proofs.Chains.{and-true, and-false, and-false-later, or-true-later, or-false}
 use Rattle.table.proofs.FoldLoops.{turns}
-use Rattle.table.proofs.Keeps.Changed.{getD-replicate}
-use Rattle.table.proofs.Laws.Below.{shallow-below}
-use Rattle.table.proofs.Laws.Tests.{no-so}
-use Rattle.table.proofs.Laws.Facts.{Taken, Below}
-use Rattle.table.proofs.Laws.Tests.{left, right, both, cases, or-left, or-right, any-elim, any-intro}
+use Rattle.rules.proofs.Keeps.Changed.{getD-replicate}
+use Rattle.rules.proofs.Laws.Below.{shallow-below}
+use Rattle.rules.proofs.Laws.Tests.{no-so, left, right, both, cases, or-left, or-right, any-elim, any-intro, bool-ext}
+use Rattle.rules.proofs.Laws.Facts.{Taken, Below}
 use Rattle.table.proofs.MapLoops.{Mapped, map-done}
-use Rattle.table.proofs.Sameness.Twins.{bool-ext}
 use Rattle.table.proofs.Slots.{length-mapped}
-use Rattle.table.specs.Freeing.{kept, freed}
+use Rattle.rules.specs.Freeing.{kept, freed}
 use Rattle.table.specs.Fresh.{empty-namespace}
 use Rattle.table.specs.Limits.{namespace-slots, process-slots}
-use Rattle.table.specs.Read.{View, view, process, namespace, pid-at, no-process, no-namespace, is-unborn, taken, below, climb}
+use Rattle.table.specs.Slots.{process, namespace, pid-at, no-process, no-namespace, is-unborn}
+use Rattle.rules.specs.Read.{View, view, taken, below, climb}
 use Rattle.table.specs.Tests.{_and_, _or_, if_then_else_, any}
 use Rattle.table.specs.declared.Life.{Life}
 use Rattle.table.specs.declared.Life.the-variants.{Unborn, Alive, Dead}

@@ -13,7 +13,8 @@ use Rattle.table.proofs.Chains.{pick-yes, pick-no, and-false}
 use Rattle.table.proofs.MapLoops.{Mapped, map-done, changed-at, changed-past}
 use Rattle.table.proofs.Slots.{length-mapped}
 use Rattle.table.specs.Limits.{process-slots}
-use Rattle.table.specs.Read.{view, no-process, pid-at, taken, seen, below, climb}
+use Rattle.table.specs.Slots.{no-process, pid-at}
+use Rattle.rules.specs.Read.{view, taken, seen, below, climb}
 use Rattle.table.specs.Tests.{_and_, changed-to}
 use Rattle.table.specs.declared.Process.{Process}
 use Rattle.table.specs.declared.Table.{Table}

@@ -11,8 +11,8 @@ use Rattle.table.proofs.Chains.{pick-yes, pick-no, and-true, and-false, and-fal
 use Rattle.table.proofs.FoldLoops.{turns, Turned, fold-done}
 use Rattle.table.specs.Fresh.{empty-process}
 use Rattle.table.specs.Limits.{deepest, process-slots}
-use Rattle.table.specs.Read.{process, pid-at, no-namespace, is-ended, init-of}
-use Rattle.table.specs.Records.{as-ended, with-parent, put}
+use Rattle.table.specs.Slots.{process, pid-at, no-namespace, is-ended, init-of, put}
+use Rattle.rules.specs.Records.{as-ended, with-parent}
 use Rattle.table.specs.Tests.{_and_, if_then_else_}
 use Rattle.table.specs.declared.End.{End}
 use Rattle.table.specs.declared.Namespace.{Namespace}

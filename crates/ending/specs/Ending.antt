@@ -8,12 +8,13 @@ use mathlib.Core.Path.{_≡_}
 use lib.Dec.{eqb}
 use lib.ListN.{getD}
 use Rattle.table.proofs.FoldLoops.{turns}
-use Rattle.table.proofs.Laws.Facts.{Facts}
-use Rattle.table.specs.Ends.{end}
+use Rattle.rules.proofs.Laws.Facts.{Facts}
+use Rattle.rules.specs.Ends.{end}
 use Rattle.table.specs.Fresh.{empty-process}
 use Rattle.table.specs.Limits.{deepest, namespace-slots, process-slots, sigkill}
-use Rattle.table.specs.Read.{view, process, namespace, pid-at, no-process, no-namespace, is-ended, is-unborn, init-of, living, seen}
-use Rattle.table.specs.Records.{as-ended, with-life, with-parent, put}
+use Rattle.table.specs.Slots.{process, namespace, pid-at, no-process, no-namespace, is-ended, is-unborn, init-of, put}
+use Rattle.rules.specs.Read.{view, living, seen}
+use Rattle.rules.specs.Records.{as-ended, with-life, with-parent}
 use Rattle.table.specs.Tests.{_and_, _or_, if_then_else_, changed-to}
 use Rattle.table.specs.declared.End.{End}
 use Rattle.table.specs.declared.End.the-variants.{Signaled}

@@ -7,7 +7,8 @@ use lib.ListN.{getD, set, replicate}
 use Rattle.table.proofs.FoldLoops.{turns}
 use Rattle.table.specs.Fresh.{empty-namespace}
 use Rattle.table.specs.Limits.{namespace-slots, process-slots}
-use Rattle.table.specs.Read.{process, pid-at, is-unborn, climb}
+use Rattle.table.specs.Slots.{process, pid-at, is-unborn}
+use Rattle.rules.specs.Read.{climb}
 use Rattle.table.specs.Tests.{_and_, _or_, if_then_else_, any}
 use Rattle.table.specs.declared.Namespace.{Namespace}
 use Rattle.table.specs.declared.Process.{Process}

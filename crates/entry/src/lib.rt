@@ -4,7 +4,7 @@ use table::ProcSlot;
 use table::Reply;
 use table::Table;
 ghost use mathlib.Core.Path.{_≡_};
-ghost use Rattle.table.specs.Step.{step as step-of};
+ghost use Rattle.rules.specs.Step.{step as step-of};
 
 // One call on the table, in place. The host is told the answer, and a child's slot beside it.
 pub fn apply(t: &mut Table, caller: ProcSlot, call: Call) -> Reply

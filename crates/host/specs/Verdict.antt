@@ -5,7 +5,7 @@ use mathlib.Core.List.{List}
 use lib.Dec.{eqb}
 use lib.ListN.{length}
 use Rattle.image.specs.Image.{image-words, table-from}
-use Rattle.table.specs.Sound.{sound}
+use Rattle.rules.specs.Sound.{sound}
 use Rattle.table.specs.Tests.{if_then_else_}
 
 unfoldable pub verdict : List ℕ → ℕ

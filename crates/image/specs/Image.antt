@@ -7,7 +7,7 @@ use lib.Dec.{eqb}
 use lib.ListN.{getD, replicate}
 use Rattle.table.specs.Fresh.{empty-process, empty-namespace}
 use Rattle.table.specs.Limits.{process-slots, namespace-slots, levels}
-use Rattle.table.specs.Read.{no-pid}
+use Rattle.table.specs.Slots.{no-pid}
 use Rattle.table.specs.Tests.{if_then_else_, changed-to}
 use Rattle.table.specs.declared.End.the-variants.{Exited, Signaled}
 use Rattle.table.specs.declared.Life.{Life}

@@ -7,7 +7,7 @@ use Rattle.script.specs.Outputs.{answer-line, bad-line}
 use Rattle.script.specs.Reading.{read-line}
 use Rattle.script.specs.declared.Parsed.{Parsed}
 use Rattle.table.specs.Fresh.{fresh}
-use Rattle.table.specs.Step.{step}
+use Rattle.rules.specs.Step.{step}
 use Rattle.table.specs.declared.Table.{Table}
 
 -- what a line writes, and the table then

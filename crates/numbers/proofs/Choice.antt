@@ -7,8 +7,9 @@ use borrow.Author.Tests.{le-leb, lt-leb}
 use Rattle.table.proofs.Chains.{pick-yes, pick-no}
 use Rattle.table.proofs.FirstLoops.{lowest-end}
 use Rattle.table.specs.Limits.{greatest-pid, restart-pid}
-use Rattle.table.specs.Pids.{free-pid, next-pid}
-use Rattle.table.specs.Read.{View, view, namespace}
+use Rattle.rules.specs.Pids.{free-pid, next-pid}
+use Rattle.table.specs.Slots.{namespace}
+use Rattle.rules.specs.Read.{View, view}
 use Rattle.table.specs.Tests.{lowest}
 use Rattle.table.specs.declared.Namespace.{Namespace}
 use Rattle.table.specs.declared.Table.{Table}

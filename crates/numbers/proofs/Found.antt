@@ -2,9 +2,9 @@
 -- `next_pid` never gives the number past the greatest that its searches would give where nothing is free.
 use Prim.Native.Nat.{ℕ}
 use mathlib.Core.Path.{_≡_, sym, subst}
-use Rattle.table.proofs.Keeps.Birth.{Fresh, next-fresh}
-use Rattle.table.specs.Pids.{next-pid}
-use Rattle.table.specs.Read.{View}
+use Rattle.rules.proofs.Keeps.Birth.{Fresh, next-fresh}
+use Rattle.rules.specs.Pids.{next-pid}
+use Rattle.rules.specs.Read.{View}
 
 -- r is what `next_pid` gives
 pub always-found : (v : View) (n r : ℕ) → r ≡ next-pid v n → Fresh v n r

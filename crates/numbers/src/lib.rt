@@ -10,8 +10,8 @@ use tree::ups;
 ghost use mathlib.Core.Path.{_≡_};
 ghost use Prim.Native.Nat.{suc, _-_};
 ghost use Rattle.table.specs.Limits.{greatest-pid};
-ghost use Rattle.table.specs.Pids.{free-pid, next-pid};
-ghost use Rattle.table.specs.Read.{view};
+ghost use Rattle.rules.specs.Pids.{free-pid, next-pid};
+ghost use Rattle.rules.specs.Read.{view};
 ghost use Rattle.table.specs.Tests.{lowest};
 
 // The greatest process number, and where the search starts again.

@@ -8,7 +8,7 @@ use Rattle.script.specs.Outputs.{answer-line}
 use Rattle.script.specs.Reading.{read-line}
 use Rattle.script.specs.Texts.{bytes}
 use Rattle.script.specs.declared.Parsed.{Parsed}
-use Rattle.table.specs.Answers.{refusal-number, number-of, end-of}
+use Rattle.rules.specs.Answers.{refusal-number, number-of, end-of}
 use Rattle.table.specs.declared.Answer.the-variants.{Refused, Number, Reaped}
 use Rattle.table.specs.declared.Call.the-variants.{CloneNew, Setns, Kill, Handle}
 use Rattle.table.specs.declared.End.the-variants.{Exited, Signaled}

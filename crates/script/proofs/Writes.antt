@@ -12,7 +12,7 @@ use Rattle.script.proofs.Decimals.{decimal-one, decimal-more, decimal-s
 use Rattle.script.specs.Outputs.{text, end-text, removed-text, answer-line, bad-line, Written, Appended, Copied}
 use Rattle.script.specs.Texts.{bytes, line-feed, minus-sign, digit-0, decimal, number}
 use Rattle.script.specs.declared.Text.{Text}
-use Rattle.table.specs.Answers.{refusal-number, number-of, end-of}
+use Rattle.rules.specs.Answers.{refusal-number, number-of, end-of}
 use Rattle.table.specs.declared.Answer.{Answer}
 use Rattle.table.specs.declared.Answer.the-variants.{Refused, Number, Reaped}
 use Rattle.table.specs.declared.End.{End}

@@ -6,7 +6,7 @@ use mathlib.Core.Path.{_≡_}
 use lib.ListN.{length, take, drop}
 use Rattle.script.specs.Texts.{bytes, line-feed, decimal, number}
 use Rattle.script.specs.declared.Text.{Text}
-use Rattle.table.specs.Answers.{number-of, end-of}
+use Rattle.rules.specs.Answers.{number-of, end-of}
 use Rattle.table.specs.declared.Answer.{Answer}
 use Rattle.table.specs.declared.End.{End}
 use Rattle.table.specs.declared.End.the-variants.{Exited, Signaled}

@@ -8,7 +8,7 @@ ghost use mathlib.Core.Path.{_≡_};
 ghost use Prim.Native.Nat.{_+_, _*_, _<_, _≤_};
 ghost use mathlib.Core.List.{[], _∷_};
 ghost use lib.ListN.{length};
-ghost use Rattle.table.specs.Answers.{refusal-number};
+ghost use Rattle.rules.specs.Answers.{refusal-number};
 ghost use Rattle.script.specs.Outputs.{end-text, answer-line, bad-line, Written, Appended, Copied};
 ghost use Rattle.script.specs.Texts.{minus-sign, decimal, number as number-text};
 ghost use Rattle.script.specs.Reading.{word-length, same as same-text, natural-from, read-natural, from-zero as from-zero-to, below-zero as below-zero-to, read-number, own-call, plain-call, with-number, call-with, kill-call, handle-call, call-with-two, read-call, asked-by, after-slot, read-line};

@@ -8,7 +8,7 @@ use mathlib.Core.Path.{_≡_, sym, ap, _∙_}
 use borrow.Author.Tests.{ne-eqb}
 use lib.Dec.{T, eqb, ltb, ltb→lt}
 use lib.ListN.{getD}
-use Rattle.table.specs.Delivery.{default-action}
+use Rattle.rules.specs.Delivery.{default-action}
 use Rattle.table.specs.Limits.{signals}
 use Rattle.table.specs.Tests.{_or_}
 use Rattle.table.specs.declared.Action.the-variants.{Finish}

@@ -1,7 +1,7 @@
 // Signals by number: sets of them, and what an unhandled one does.
 ghost use mathlib.Core.Path.{_≡_};
 ghost use Prim.Native.Nat.{_<_};
-ghost use Rattle.table.specs.Delivery.{default-action};
+ghost use Rattle.rules.specs.Delivery.{default-action};
 ghost use Rattle.table.specs.Limits.{signals};
 ghost use Rattle.table.specs.SignalSets.{has, with-signal, without-signal, lowest-signal};
 use table::Action;

@@ -3,7 +3,7 @@ use Prim.Native.Nat.{ℕ, suc, _-_}
 use mathlib.Core.Bool.{Bool}
 use mathlib.Core.Path.{_≡_, ap, _∙_}
 use Rattle.table.specs.Limits.{deepest}
-use Rattle.table.specs.Read.{View}
+use Rattle.rules.specs.Read.{View}
 use Rattle.sound.specs.Quick.{process-at, raised, top, pid-key, pid-keys, differ}
 
 module _ (v : View) (k : ℕ) (next : ℕ → ℕ) where

@@ -12,8 +12,9 @@ use lib.ListN.{length, getD, set, length-set, replicate}
 use lib.Seq.{getD-set-same, getD-set-other, set-out}
 use Rattle.table.proofs.Chains.{by-bool, pick-yes, pick-no}
 use Rattle.table.specs.Limits.{process-slots, namespace-slots}
-use Rattle.table.specs.Read.{View, view, taken, namespace-taken, no-namespace}
-use Rattle.table.specs.Sound.{holds, held}
+use Rattle.table.specs.Slots.{no-namespace}
+use Rattle.rules.specs.Read.{View, view, taken, namespace-taken}
+use Rattle.rules.specs.Sound.{holds, held}
 use Rattle.table.specs.Tests.{_and_, _or_, any}
 use Rattle.table.specs.declared.Namespace.{Namespace}
 use Rattle.table.specs.declared.Table.{Table}

@@ -9,8 +9,7 @@ use borrow.Author.Tests.{eq-eqb, ne-eqb, eqb-true}
 use lib.Bits.{bitAnd, and-step, and-zero-l}
 use lib.Dec.{eqb}
 use Rattle.table.proofs.Chains.{by-bool}
-use Rattle.table.proofs.Laws.Tests.{tests}
-use Rattle.table.proofs.Laws.Tests.{all-elim}
+use Rattle.rules.proofs.Laws.Tests.{tests, all-elim}
 use Rattle.table.specs.Limits.{signals, sigkill, sigstop}
 use Rattle.table.specs.SignalSets.{has}
 use Rattle.table.specs.Tests.{_and_, _implies_, all}

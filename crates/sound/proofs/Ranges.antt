@@ -7,7 +7,7 @@ use borrow.Author.Tests.{eq-eqb, ne-eqb, le-leb, lt-leb}
 use lib.Dec.{eqb, leb, ltb}
 use Rattle.table.proofs.Chains.{if-yes, if-no, and-goes, and-false}
 use Rattle.table.specs.Limits.{greatest-pid, statuses, signals}
-use Rattle.table.specs.Sound.{kept-end}
+use Rattle.rules.specs.Sound.{kept-end}
 use Rattle.table.specs.Tests.{_and_}
 use Rattle.table.specs.declared.End.{End}
 use Rattle.table.specs.declared.End.the-variants.{Exited, Signaled}

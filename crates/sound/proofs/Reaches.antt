@@ -9,7 +9,7 @@ use borrow.Author.Tests.{eq-eqb, ne-eqb}
 use lib.ListN.{length, List·getD-eq-default}
 use Rattle.table.proofs.Chains.{pick-yes, pick-no}
 use Rattle.table.specs.Limits.{process-slots}
-use Rattle.table.specs.Sound.{reaches-root}
+use Rattle.rules.specs.Sound.{reaches-root}
 use Rattle.table.specs.declared.ProcSlot.{ProcSlot}
 use Rattle.sound.specs.Quick.{process-in}
 

@@ -6,11 +6,12 @@ use mathlib.Core.Path.{_≡_, refl, sym, ap, subst, fun-ext, _∙_}
 use lib.Dec.{eqb}
 use lib.ListN.{length, getD, replicate, List·getD-eq-default}
 use native.Mathlib.Omega.{arith}
-use Rattle.table.proofs.Laws.Facts.{Past}
+use Rattle.rules.proofs.Laws.Facts.{Past}
 use Rattle.table.specs.Fresh.{empty-process}
 use Rattle.table.specs.Limits.{levels, process-slots, namespace-slots}
-use Rattle.table.specs.Read.{view, process, namespace, no-pid, no-process, no-namespace, taken, namespace-taken, init-of}
-use Rattle.table.specs.Sound.{held, zero-process, zero-namespace}
+use Rattle.table.specs.Slots.{process, namespace, no-pid, no-process, no-namespace, init-of}
+use Rattle.rules.specs.Read.{view, taken, namespace-taken}
+use Rattle.rules.specs.Sound.{held, zero-process, zero-namespace}
 use Rattle.table.specs.Tests.{_and_, all}
 use Rattle.table.specs.declared.Namespace.{Namespace}
 use Rattle.table.specs.declared.Pid.{Pid}

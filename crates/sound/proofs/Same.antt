@@ -8,17 +8,17 @@ use mathlib.Core.Path.{_≡_, refl, sym, _∙_, ap, subst}
 use borrow.Author.Tests.{eq-eqb, ne-eqb, eqb-true, leb-true, le-leb, lt-ltb, le-ltb}
 use lib.Dec.{eqb, leb, ltb}
 use Rattle.table.proofs.Chains.{by-bool, pick-yes, pick-no}
-use Rattle.table.proofs.Laws.Below as Below
-use Rattle.table.proofs.Laws.Clauses.{sound-is, is-sound}
-use Rattle.table.proofs.Laws.Facts.{Facts, Held, Holder, root, member, for-children, child, Past, Taken, Stands, Lives, Seen, Other, SignalsOk, pid-ok, facts-of, held-of, is-sound-view, lives-taken, not-ended, is-living, seen-taken, seen-below, is-seen, holder-of, is-held, held-namespace}
-use Rattle.table.proofs.Laws.Tests.{tests, and-iff, not-iff}
-use Rattle.table.proofs.Laws.Tests.{left, right, both, cases, all-intro, all-elim}
-use Rattle.table.proofs.Laws.Reach.{reach-zero, reach-step}
-use Rattle.table.proofs.Laws.Tree.{Stepwise, below-refl, climb-cases}
+use Rattle.rules.proofs.Laws.Below as Below
+use Rattle.rules.proofs.Laws.Clauses.{sound-is, is-sound}
+use Rattle.rules.proofs.Laws.Facts.{Facts, Held, Holder, root, member, for-children, child, Past, Taken, Stands, Lives, Seen, Other, SignalsOk, pid-ok, facts-of, held-of, is-sound-view, lives-taken, not-ended, is-living, seen-taken, seen-below, is-seen, holder-of, is-held, held-namespace}
+use Rattle.rules.proofs.Laws.Tests.{tests, and-iff, not-iff, left, right, both, cases, all-intro, all-elim}
+use Rattle.rules.proofs.Laws.Reach.{reach-zero, reach-step}
+use Rattle.rules.proofs.Laws.Tree.{Stepwise, below-refl, climb-cases}
 use Rattle.table.specs.Limits.{process-slots, namespace-slots, levels, deepest, greatest-pid, no-slot}
-use Rattle.table.specs.Read.{View, taken, namespace-taken, alive, dead, unborn, init, below, climb, above-at, up-by, pid-seen, is-alive, is-unborn}
-use Rattle.table.specs.Sound.{sound-view, zero-process, zero-namespace, reaches-root, kept-end, held}
-use Rattle.table.specs.Sound as S
+use Rattle.table.specs.Slots.{is-alive, is-unborn}
+use Rattle.rules.specs.Read.{View, taken, namespace-taken, alive, dead, unborn, init, below, climb, above-at, up-by, pid-seen}
+use Rattle.rules.specs.Sound.{sound-view, zero-process, zero-namespace, reaches-root, kept-end, held}
+use Rattle.rules.specs.Sound as S
 use Rattle.table.specs.Tests.{_and_, if_then_else_, all}
 use Rattle.table.specs.declared.Life.{Life}
 use Rattle.table.specs.declared.Life.the-variants.{Unborn, Alive, Dead}

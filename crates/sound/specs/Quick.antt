@@ -8,9 +8,10 @@ use mathlib.Core.Path.{_≡_}
 use lib.Dec.{eqb, leb, ltb}
 use lib.ListN.{getD, set, length}
 use Rattle.table.specs.Limits.{process-slots, namespace-slots, levels, deepest, greatest-pid, no-slot, signals, sigkill, sigstop}
-use Rattle.table.specs.Read.{View, taken, namespace-taken, no-namespace, pid-at, climb, is-running, is-ended, is-unborn, is-alive, is-dead, init-of}
+use Rattle.table.specs.Slots.{no-namespace, pid-at, is-running, is-ended, is-unborn, is-alive, is-dead, init-of}
+use Rattle.rules.specs.Read.{View, taken, namespace-taken, climb}
 use Rattle.table.specs.SignalSets.{has}
-use Rattle.table.specs.Sound.{root-process, root-namespace, reaches-root, kept-end, holds, held}
+use Rattle.rules.specs.Sound.{root-process, root-namespace, reaches-root, kept-end, holds, held}
 use Rattle.table.specs.Tests.{_and_, _or_, _implies_, agree, if_then_else_, all, any}
 use Rattle.table.specs.declared.Life.{Life}
 use Rattle.table.specs.declared.Namespace.{Namespace}

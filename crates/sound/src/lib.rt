@@ -24,14 +24,13 @@ ghost use Prim.Native.Nat.{suc, _<_};
 ghost use lib.Dec.{eqb, ltb};
 ghost use lib.ListN.{getD, set};
 ghost use Rattle.table.specs.Limits.{levels as level-count, process-slots};
-ghost use Rattle.table.specs.Read.{view, is-unborn, is-dead, pid-at};
-ghost use Rattle.table.specs.Sound.{kept-end, reaches-root, root-process, root-namespace, sound};
+ghost use Rattle.table.specs.Slots.{is-unborn, is-dead, pid-at};
+ghost use Rattle.rules.specs.Read.{view};
+ghost use Rattle.rules.specs.Sound.{kept-end, reaches-root, root-process, root-namespace, sound};
 ghost use Rattle.table.specs.Tests.{_and_, _or_, _implies_, agree, if_then_else_, all};
 ghost use Rattle.table.specs.declared.State.the-variants.{Ended};
 ghost use Rattle.tree.specs.Tree.{slot-in, level-in};
-ghost use Rattle.sound.specs.Quick.{process-row, namespace-row, process-at, ended-ok, living-ok, state-ok, signals-ok, pid-ok, pids-ok, member-ok, parent-ok, blank, process-ok, processes-ok};
-ghost use Rattle.sound.specs.Quick.{init-ok, life-ok, place-ok, blank-namespace, filled-ok, namespace-ok, namespaces-ok, mark-process, mark-namespace, Marks, held-by-processes, held-by-children};
-ghost use Rattle.sound.specs.Quick.{process-in, reach-ok, key-in, differs-at, differ, unborn-key, unborn-keys, raised, itself, pid-key, pid-keys, root-process-ok, root-namespace-ok};
+ghost use Rattle.sound.specs.Quick.{process-row, namespace-row, process-at, ended-ok, living-ok, state-ok, signals-ok, pid-ok, pids-ok, member-ok, parent-ok, blank, process-ok, processes-ok, init-ok, life-ok, place-ok, blank-namespace, filled-ok, namespace-ok, namespaces-ok, mark-process, mark-namespace, Marks, held-by-processes, held-by-children, process-in, reach-ok, key-in, differs-at, differ, unborn-key, unborn-keys, raised, itself, pid-key, pid-keys, root-process-ok, root-namespace-ok};
 
 // ---- a process by itself
 

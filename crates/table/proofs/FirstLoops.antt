@@ -1,9 +1,9 @@
 -- For a loop that leaves with the first i below n at which f holds, and with n where there is none. The invariant is
 -- `Ahead n f i`: i is at most n, and the lowest number is the lowest from i on. `search first-loops` closes the loop's
 -- four needs.
-use Prim.Native.Nat.{ℕ, zero, suc, _<_, _≤_, _+_, _-_}
+use Prim.Native.Nat.{ℕ, suc, _<_, _≤_, _+_, _-_}
 use mathlib.Core.Bool.{Bool, true, false}
-use mathlib.Core.Path.{_≡_, refl, sym, ap, _∙_}
+use mathlib.Core.Path.{_≡_, sym, _∙_}
 use native.Mathlib.Numerals.{add-one}
 use native.Mathlib.Omega.{arith}
 use Rattle.table.proofs.Chains.{pick-yes, pick-no}

@@ -1,16 +1,3 @@
--- What is proved about the definitions, beside each function's own proof.
-pub mod Open
-pub mod Tables
-pub mod Edges
-pub mod Levels
-pub mod Refused
--- The theorems: laws, what each call keeps, demand 3, and the promises one by one.
-pub mod Laws
-pub mod Keeps
-pub mod Sameness
-pub mod Promises
-pub mod Witness
-pub mod Learnt
 -- Laws of chains of tests and of loops, each kind once.
 pub mod Chains
 pub mod AllLoops

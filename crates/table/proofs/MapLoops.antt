@@ -2,7 +2,7 @@
 -- is `Mapped n f d l₀ l i`: i is at most n, and l is l₀ with its first i elements changed. `search map-loops` closes the
 -- loop's three needs. d is what lies past the array's end.
 use Prim.Native.Nat.{ℕ, zero, suc, _<_, _≤_, _+_}
-use mathlib.Core.List.{List, [], _∷_, map}
+use mathlib.Core.List.{List, map}
 use mathlib.Core.Logic.{⊎-elim}
 use mathlib.Core.Path.{_≡_, refl, sym, ap, ap₂, subst, fun-ext, _∙_}
 use lib.ListN.{length, getD, set, length-set, length-map, List·getD-map}
@@ -11,8 +11,7 @@ use native.Mathlib.Nat.{eq-or-lt-of-le, le-of-suc-le-suc}
 use native.Mathlib.Numerals.{add-one}
 use native.Mathlib.Omega.{arith}
 use Rattle.table.specs.Limits.{process-slots, namespace-slots}
-use Rattle.table.specs.Read.{no-process, no-namespace}
-use Rattle.table.specs.Records.{changed}
+use Rattle.table.specs.Slots.{no-process, no-namespace, changed}
 use Rattle.table.specs.Tests.{changed-to}
 use Rattle.table.specs.declared.Namespace.{Namespace}
 use Rattle.table.specs.declared.Process.{Process}

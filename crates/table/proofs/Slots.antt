@@ -1,22 +1,17 @@
 -- Reading and putting past an array's end, and what a process read at a slot says of the view. In a function's facts the
 -- length of an array that is a field stands as that of a `map`; of one that is a parameter it stands plain.
 use Prim.Native.Nat.{ℕ, zero, suc, _<_, _≤_}
-use mathlib.Core.Bool.{Bool, true, false, not}
 use mathlib.Core.List.{List, [], _∷_, map}
 use mathlib.Core.Path.{_≡_, refl, sym, ap, _∙_}
-use lib.Dec.{eqb}
-use lib.ListN.{length, getD, set, replicate, length-map, List·getD-eq-default}
+use lib.ListN.{length, getD, length-map, List·getD-eq-default}
 use lib.Seq.{set-out}
 use native.Mathlib.Nat.{le-of-suc-le-suc}
 use native.Mathlib.Omega.{arith}
 use Rattle.table.specs.Fresh.{empty-process}
-use Rattle.table.specs.Limits.{levels}
-use Rattle.table.specs.Read.{View, view, process, namespace, pid-at, no-pid, no-process, no-namespace, taken, is-ended}
-use Rattle.table.specs.Records.{put, put-namespace}
+use Rattle.table.specs.Slots.{process, no-pid, no-process, put, put-namespace}
 use Rattle.table.specs.declared.Namespace.{Namespace}
 use Rattle.table.specs.declared.Pid.{Pid}
 use Rattle.table.specs.declared.Process.{Process}
-use Rattle.table.specs.declared.State.{State}
 use Rattle.table.specs.declared.Table.{Table}
 
 -- ---- past the end
@@ -53,51 +48,6 @@ put-namespace-past g t n i s e h =
     ap (λ l. record { processes = t .processes; namespaces = l })
     (sym (set-out (t .namespaces) i s (omega (arith, length-mapped g (t .namespaces) n e))))
 
--- ---- what `Table::process` gives, against the view
-
--- p reads as the process at slot i
-pub record ReadAt (v : View) (i : ℕ) (p : Process) : Type 0 where
-  pub own : p .own .0 ≡ v .own i
-  pub children : p .children .0 ≡ v .children i
-  pub parent : p .parent .0 ≡ v .parent i
-  pub state : p .state ≡ v .state i
-  pub ended : is-ended (p .state) ≡ v .ended i
-  pub handled : p .handled ≡ v .handled i
-  pub pending : p .pending ≡ v .pending i
-  pub unshared : p .unshared ≡ v .unshared i
-  pub pid : (l : ℕ) → pid-at p l ≡ v .pid i l
-  pub taken : not (eqb (pid-at p 0) 0) ≡ taken v i
-
--- an empty slot and what lies past the end read alike
-same-pids : (n l : ℕ) → getD (replicate n no-pid) l no-pid .0 ≡ 0
-same-pids zero l = refl
-same-pids (suc n) zero = refl
-same-pids (suc n) (suc l) = same-pids n l
-
--- a field that reads alike in both
-alike : {X : Type 0} (f : Process → X) → f empty-process ≡ f no-process → (l : List Process) (i : ℕ) → f (getD l i empty-process) ≡ f (getD l i no-process)
-alike f e [] i = e
-alike f e (p ∷ l) zero = refl
-alike f e (p ∷ l) (suc i) = alike f e l i
-
-pub read-at : (t : Table) (i : ℕ) (p : Process) → p ≡ getD (t .processes) i empty-process → ReadAt (view t) i p
-unfolding taken
-read-at t i p e =
-    let pid : (l : ℕ) → pid-at p l ≡ view t .pid i l =
-    λ l. ap (λ q. pid-at q l) e ∙ alike (λ q. pid-at q l) (same-pids levels l) (t .processes) i in
-    record {
-      own = ap (λ q. q .own .0) e ∙ alike (λ q. q .own .0) refl (t .processes) i;
-      children = ap (λ q. q .children .0) e ∙ alike (λ q. q .children .0) refl (t .processes) i;
-      parent = ap (λ q. q .parent .0) e ∙ alike (λ q. q .parent .0) refl (t .processes) i;
-      state = ap (λ q. q .state) e ∙ alike (λ q. q .state) refl (t .processes) i;
-      ended = ap (λ q. is-ended (q .state)) e ∙ alike (λ q. is-ended (q .state)) refl (t .processes) i;
-      handled = ap (λ q. q .handled) e ∙ alike (λ q. q .handled) refl (t .processes) i;
-      pending = ap (λ q. q .pending) e ∙ alike (λ q. q .pending) refl (t .processes) i;
-      unshared = ap (λ q. q .unshared) e ∙ alike (λ q. q .unshared) refl (t .processes) i;
-      pid = pid;
-      taken = ap (λ k. not (eqb k 0)) (pid 0);
-    }
-
--- below the last slot it is the process of the definitions itself
+-- what `Table::process` gives below the last slot is the process of the definitions itself
 pub process-within : {Y : Type 0} (g : Process → Y) (t : Table) (n i : ℕ) (p : Process) → length (map g (t .processes)) ≡ n → i < n → p ≡ getD (t .processes) i empty-process → p ≡ process t i
 process-within g t n i p e h q = q ∙ field-within g (t .processes) empty-process no-process n i e h

@@ -1,10 +1,10 @@
 -- The fresh table: the root init alone, running, children's namespace the root, last number 1.
-use Prim.Native.Nat.{ℕ, pred}
+use Prim.Native.Nat.{pred}
 use mathlib.Core.Bool.{false}
 use mathlib.Core.List.{_∷_}
 use lib.ListN.{replicate}
 use Rattle.table.specs.Limits.{process-slots, namespace-slots, levels, no-slot}
-use Rattle.table.specs.Read.{no-pid, no-namespace}
+use Rattle.table.specs.Slots.{no-pid, no-namespace}
 use Rattle.table.specs.declared.Life.the-variants.{Alive}
 use Rattle.table.specs.declared.Namespace.{Namespace}
 use Rattle.table.specs.declared.Process.{Process}

@@ -1,20 +1,7 @@
--- Document 01 as definitions, in reading order.
+-- Document 01 as definitions, in reading order: first its numbers, tests, the slots of a table, and the fresh table. It
+-- goes on in the crates rules (soundness, answers, the calls) and sameness (the sheet of a namespace).
 pub mod Limits
 pub mod Tests
 pub mod SignalSets
-pub mod Read
-pub mod Sound
+pub mod Slots
 pub mod Fresh
-pub mod Pids
-pub mod Records
-pub mod Ends
-pub mod Freeing
-pub mod Delivery
-pub mod Births
-pub mod Answers
-pub mod Calls
-pub mod Step
-pub mod Sheet
-pub mod Events
-pub mod Touches
-pub mod Claims

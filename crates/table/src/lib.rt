@@ -5,8 +5,7 @@ ghost use mathlib.Core.Bool.{not};
 ghost use lib.Dec.{eqb};
 ghost use lib.ListN.{getD};
 ghost use Rattle.table.specs.Fresh.{empty-process, empty-namespace, fresh as fresh-table};
-ghost use Rattle.table.specs.Read.{namespace, pid-at, is-running, is-ended, is-unborn, is-alive, is-dead, init-of};
-ghost use Rattle.table.specs.Records.{put, put-namespace};
+ghost use Rattle.table.specs.Slots.{namespace, pid-at, is-running, is-ended, is-unborn, is-alive, is-dead, init-of, put, put-namespace};
 
 // ---- limits
 

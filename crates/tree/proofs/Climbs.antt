@@ -5,7 +5,7 @@ use mathlib.Core.Path.{_≡_, refl, sym, ap, _∙_}
 use native.Mathlib.Numerals.{sub-one}
 use borrow.Author.Tests.{eq-eqb, ne-eqb}
 use Rattle.table.proofs.Chains.{pick-yes, pick-no}
-use Rattle.table.specs.Read.{climb}
+use Rattle.rules.specs.Read.{climb}
 
 module _ (up : ℕ → ℕ) (a b : ℕ) where
   pub climb-there : (k : ℕ) → a ≡ b → true ≡ climb up k a b

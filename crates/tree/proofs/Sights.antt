@@ -4,8 +4,9 @@ use mathlib.Core.Bool.{Bool, not}
 use mathlib.Core.List.{List}
 use mathlib.Core.Path.{_≡_, refl, sym, ap, ap₂, _∙_}
 use lib.Dec.{eqb}
-use Rattle.table.proofs.Slots.{ReadAt}
-use Rattle.table.specs.Read.{View, view, process, pid-at, taken, climb, below, seen, pid-seen, pid-in}
+use Rattle.rules.proofs.Laws.ReadAt.{ReadAt}
+use Rattle.table.specs.Slots.{process, pid-at}
+use Rattle.rules.specs.Read.{View, view, taken, climb, below, seen, pid-seen, pid-in}
 use Rattle.table.specs.Tests.{_and_, if_then_else_}
 use Rattle.table.specs.declared.NsSlot.{NsSlot}
 use Rattle.table.specs.declared.Process.{Process}

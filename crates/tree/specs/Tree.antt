@@ -5,7 +5,8 @@ use mathlib.Core.Bool.{Bool, not}
 use mathlib.Core.List.{List}
 use lib.Dec.{eqb}
 use lib.ListN.{getD}
-use Rattle.table.specs.Read.{no-namespace, pid-at, climb}
+use Rattle.table.specs.Slots.{no-namespace, pid-at}
+use Rattle.rules.specs.Read.{climb}
 use Rattle.table.specs.Tests.{_and_, _or_, if_then_else_}
 use Rattle.table.specs.declared.Namespace.{Namespace}
 use Rattle.table.specs.declared.NsSlot.{NsSlot}

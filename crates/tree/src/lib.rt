@@ -10,8 +10,8 @@ use table::ProcSlot;
 use table::Process;
 use table::Table;
 ghost use mathlib.Core.Path.{_≡_};
-ghost use Rattle.table.specs.Read.{view, climb, find as find-in};
-ghost use Rattle.table.specs.Pids.{free-slot, free-namespace-slot};
+ghost use Rattle.rules.specs.Read.{view, climb, find as find-in};
+ghost use Rattle.rules.specs.Pids.{free-slot, free-namespace-slot};
 ghost use Rattle.tree.specs.Tree.{ups-of, levels-of, slot-in, level-in, seen-from, pid-from, named-from, holds-namespace};
 
 // ---- the parents and the levels of all namespaces

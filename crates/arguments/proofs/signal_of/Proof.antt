@@ -4,7 +4,7 @@ use mathlib.Core.Path.{ap, _∙_}
 use borrow.Author.Needs.{needs}
 use mir.Syntax.{w32}
 use mir.ValLaws.{toZ-ofZ}
-use Rattle.table.specs.Calls.{natural}
+use Rattle.rules.specs.Calls.{natural}
 use Rattle.arguments.proofs.signal_of.Statement.{statement}
 use Rattle.arguments.proofs.signal_of.Tie as tie
 

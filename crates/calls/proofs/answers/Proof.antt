@@ -1,6 +1,6 @@
 -- `answers` grants a number.
 use borrow.Author.Needs.{needs}
-use Rattle.table.specs.Answers.{answers}
+use Rattle.rules.specs.Answers.{answers}
 use Rattle.calls.proofs.answers.Statement.{statement}
 use Rattle.calls.proofs.answers.Tie as tie
 

@@ -1,5 +1,5 @@
 -- `granted` is the definition, spelt out.
-use Rattle.table.specs.Answers.{granted}
+use Rattle.rules.specs.Answers.{granted}
 use mathlib.Core.Path.{refl}
 use Rattle.calls.proofs.granted.Statement.{statement}
 use Rattle.calls.proofs.granted.Tie as tie

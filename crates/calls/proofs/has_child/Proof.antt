@@ -1,6 +1,6 @@
 -- `has_child` looks for a child, by the laws of a loop that leaves at the first.
 use borrow.Author.Needs.{needs}
-use Rattle.table.specs.Read.{view, taken, child-of}
+use Rattle.rules.specs.Read.{view, taken, child-of}
 use Rattle.table.specs.Limits.{process-slots}
 use Rattle.table.proofs.AnyLoops.{Unmet, any-loops}
 use Prim.Native.Nat.{_-_}

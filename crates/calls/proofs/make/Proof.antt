@@ -1,7 +1,7 @@
 -- `make` goes by which call it is.
 use borrow.Author.Needs.{needs}
 use Rattle.table.specs.declared.Call.the-variants.{Clone, CloneNew, Unshare, Wait, Getpid, Getppid, Poll}
-use Rattle.table.specs.Step.{make}
+use Rattle.rules.specs.Step.{make}
 use Rattle.calls.proofs.Steps.{made, made-setns, made-kill, made-exit, made-handle}
 use Rattle.calls.proofs.make.Statement.{statement}
 use Rattle.calls.proofs.make.Tie as tie

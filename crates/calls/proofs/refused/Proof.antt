@@ -1,5 +1,5 @@
 -- `refused` is the definition, spelt out.
-use Rattle.table.specs.Answers.{refused}
+use Rattle.rules.specs.Answers.{refused}
 use mathlib.Core.Path.{refl}
 use Rattle.calls.proofs.refused.Statement.{statement}
 use Rattle.calls.proofs.refused.Tie as tie

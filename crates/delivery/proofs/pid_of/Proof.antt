@@ -3,7 +3,7 @@ use borrow.Author.Needs.{needs}
 use mathlib.Core.Path.{_≡_, ap}
 use lib.ListN.{getD}
 use Rattle.table.proofs.Slots.{array-past}
-use Rattle.table.specs.Read.{no-pid}
+use Rattle.table.specs.Slots.{no-pid}
 use Rattle.delivery.proofs.pid_of.Statement.{statement}
 use Rattle.delivery.proofs.pid_of.Tie as tie
 

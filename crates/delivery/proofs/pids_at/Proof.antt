@@ -5,8 +5,7 @@ use borrow.Author.Needs.{needs}
 use lib.ListN.{getD, replicate}
 use Rattle.table.proofs.MapLoops.{Mapped, map-old-loops, filled-reads}
 use Rattle.table.specs.Limits.{process-slots}
-use Rattle.table.specs.Read.{no-pid, no-process, pid-at}
-use Rattle.table.specs.Records.{to-pid}
+use Rattle.table.specs.Slots.{no-pid, no-process, pid-at, to-pid}
 use Rattle.table.specs.declared.Pid.{Pid}
 use Rattle.table.specs.declared.Process.{Process}
 use Rattle.delivery.proofs.Numbers.{made-pid}

@@ -1,7 +1,7 @@
 -- `resumed` makes the test of the definition.
 use borrow.Author.Needs.{needs}
 use Rattle.table.proofs.Chains.{chains}
-use Rattle.table.specs.Delivery.{resumed}
+use Rattle.rules.specs.Delivery.{resumed}
 use Rattle.delivery.proofs.resumed.Statement.{statement}
 use Rattle.delivery.proofs.resumed.Tie as tie
 

@@ -1,6 +1,6 @@
 -- `with_pending` sets the signal's bit.
 use borrow.Author.Needs.{needs}
-use Rattle.table.specs.Delivery.{with-pending}
+use Rattle.rules.specs.Delivery.{with-pending}
 use Rattle.delivery.proofs.with_pending.Statement.{statement}
 use Rattle.delivery.proofs.with_pending.Tie as tie
 

@@ -4,7 +4,7 @@ use mathlib.Core.Path.{_≡_}
 use borrow.Author.Needs.{needs}
 use Rattle.table.proofs.MapLoops.{Mapped, map-loops}
 use Rattle.table.specs.Limits.{namespace-slots}
-use Rattle.table.specs.Read.{no-namespace}
+use Rattle.table.specs.Slots.{no-namespace}
 use Rattle.tree.specs.Tree.{slot-in, level-in}
 use Rattle.ending.proofs.Freeing.{freed-all}
 use Rattle.ending.specs.Holding.{mark-at, once-freed}

@@ -4,7 +4,7 @@ use mathlib.Core.Path.{_≡_}
 use borrow.Author.Needs.{needs}
 use Rattle.table.proofs.MapLoops.{Mapped, map-loops}
 use Rattle.table.specs.Limits.{process-slots}
-use Rattle.table.specs.Read.{no-process}
+use Rattle.table.specs.Slots.{no-process}
 use Rattle.ending.proofs.Members.{processes-changed}
 use Rattle.ending.specs.Ending.{once-handed, handed-over}
 use Rattle.ending.proofs.hand_over.Statement.{statement}

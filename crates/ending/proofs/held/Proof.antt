@@ -3,7 +3,7 @@ use Prim.Native.Nat.{_-_}
 use borrow.Author.Needs.{needs}
 use Rattle.table.proofs.FoldLoops.{Turned, fold-loops}
 use Rattle.table.specs.Limits.{process-slots}
-use Rattle.table.specs.Read.{process}
+use Rattle.table.specs.Slots.{process}
 use Rattle.ending.specs.Holding.{with-marks, marks-of}
 use Rattle.ending.proofs.held.Statement.{statement}
 use Rattle.ending.proofs.held.Tie as tie

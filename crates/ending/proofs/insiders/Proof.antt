@@ -4,7 +4,7 @@ use mathlib.Core.Bool.{false}
 use borrow.Author.Needs.{needs}
 use Rattle.table.proofs.MapLoops.{Mapped, map-old-loops}
 use Rattle.table.specs.Limits.{process-slots}
-use Rattle.table.specs.Read.{view, seen}
+use Rattle.rules.specs.Read.{view, seen}
 use Rattle.tree.proofs.Sights.{seen-test}
 use Rattle.ending.proofs.Marks.{all-seen}
 use Rattle.ending.proofs.insiders.Statement.{statement}

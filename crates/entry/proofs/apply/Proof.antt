@@ -38,7 +38,7 @@ use denote.Triple.Spec.{Meets, tripleOf}
 use denote.Triple.Table.{entered, cited}
 use denote.Triple.Walked.{says, Stays, stay-ref, stay-none, walkOf, goes-none, goes-ref, Walks, ends-at, walked, walk-meets}
 use denote.Exit.{yes}
-use Rattle.table.specs.Step.{step as step-of}
+use Rattle.rules.specs.Step.{step as step-of}
 use Rattle.table.specs.declared.Table.{Table}
 use Rattle.table.specs.declared.Call.{Call}
 use Rattle.table.specs.declared.ProcSlot.{ProcSlot}

@@ -3,7 +3,7 @@ use mathlib.Core.Path.{_≡_, sym, ap, _∙_}
 use mathlib.Core.Bool.{Bool}
 use borrow.Author.Needs.{needs}
 use Rattle.table.proofs.Chains.{chains}
-use Rattle.table.specs.Sound.{sound}
+use Rattle.rules.specs.Sound.{sound}
 use Rattle.table.specs.declared.Table.{Table}
 use Rattle.host.specs.Verdict.{verdict}
 use Rattle.host.proofs.lampfunnel_is_sound.Statement.{statement}

@@ -3,7 +3,7 @@ use Prim.Native.Nat.{_+_, _-_}
 use borrow.Author.Needs.{needs}
 use Rattle.table.proofs.MapLoops.{Mapped, map-old-loops}
 use Rattle.table.specs.Limits.{levels}
-use Rattle.table.specs.Read.{no-pid}
+use Rattle.table.specs.Slots.{no-pid}
 use Rattle.image.specs.Image.{pid-at-word, pids-from}
 use Rattle.image.proofs.pids.Statement.{statement}
 use Rattle.image.proofs.pids.Tie as tie

@@ -6,8 +6,8 @@ use lib.Dec.{eqb}
 use Rattle.table.proofs.AnyLoops.{Unmet, any-loops}
 use Rattle.table.proofs.SeekLoops.{Seeking}
 use Rattle.table.specs.Limits.{greatest-pid, process-slots}
-use Rattle.table.specs.Pids.{free-pid}
-use Rattle.table.specs.Read.{view, seen, pid-seen}
+use Rattle.rules.specs.Pids.{free-pid}
+use Rattle.rules.specs.Read.{view, seen, pid-seen}
 use Rattle.table.specs.Tests.{_and_}
 use Rattle.tree.proofs.Sights.{named-test}
 use Rattle.numbers.proofs.Seeks.{seeks}

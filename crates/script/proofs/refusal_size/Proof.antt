@@ -1,6 +1,6 @@
 -- `refusal_size` gives the number of each refusal without its sign.
 use Rattle.script.specs.Texts.{number}
-use Rattle.table.specs.Answers.{refusal-number}
+use Rattle.rules.specs.Answers.{refusal-number}
 use borrow.Author.Needs.{needs}
 use Rattle.script.proofs.refusal_size.Statement.{statement}
 use Rattle.script.proofs.refusal_size.Tie as tie

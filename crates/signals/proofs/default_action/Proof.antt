@@ -1,6 +1,6 @@
 -- `signals::default_action` meets its contract: antt computes the rule at all 32 entries, and compares the two lists whole. Assumes nothing.
 use borrow.Author.Needs.{needs}
-use Rattle.table.specs.Delivery.{default-action}
+use Rattle.rules.specs.Delivery.{default-action}
 use Rattle.table.specs.Limits.{signals}
 use Rattle.table.specs.Tests.{_or_}
 use Rattle.table.specs.declared.Action.the-variants.{Nothing}

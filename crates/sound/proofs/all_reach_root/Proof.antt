@@ -3,7 +3,7 @@ use borrow.Author.Needs.{needs}
 use Prim.Native.Nat.{_-_}
 use Rattle.table.proofs.AllLoops.{Passed, all-loops}
 use Rattle.table.specs.Limits.{process-slots}
-use Rattle.table.specs.Sound.{reaches-root}
+use Rattle.rules.specs.Sound.{reaches-root}
 use Rattle.sound.specs.Quick.{process-in, reach-ok}
 use Rattle.sound.proofs.all_reach_root.Statement.{statement}
 use Rattle.sound.proofs.all_reach_root.Tie as tie

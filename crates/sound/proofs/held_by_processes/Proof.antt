@@ -3,7 +3,7 @@ use borrow.Author.Needs.{needs}
 use Prim.Native.Nat.{_-_, _≤_}
 use Rattle.sound.proofs.Marks.{held-below, marks-start, marks-process, marks-processes}
 use Rattle.table.specs.Limits.{process-slots}
-use Rattle.table.specs.Read.{view, taken}
+use Rattle.rules.specs.Read.{view, taken}
 use Rattle.sound.specs.Quick.{Marks}
 use Rattle.sound.proofs.held_by_processes.Statement.{statement}
 use Rattle.sound.proofs.held_by_processes.Tie as tie

@@ -5,7 +5,7 @@ use lib.ListN.{length}
 use Rattle.table.proofs.Chains.{told-not, told-yes}
 use Rattle.table.proofs.Slots.{length-mapped}
 use Rattle.table.specs.Limits.{process-slots, namespace-slots}
-use Rattle.table.specs.Read.{view}
+use Rattle.rules.specs.Read.{view}
 use Rattle.sound.specs.Quick.{quick, reach-ok, differ}
 use Rattle.sound.proofs.Records.{past-from}
 use Rattle.sound.proofs.Rows.{fails-6-1, fails-6-2, fails-6-3, fails-6-4, fails-6-5, passes-6}

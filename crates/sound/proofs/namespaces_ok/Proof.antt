@@ -4,15 +4,15 @@ use mathlib.Core.Logic.{⊎-elim}
 use mathlib.Core.Path.{_≡_, ap, _∙_}
 use lib.ListN.{getD}
 use Rattle.table.proofs.Slots.{field-past}
-use Rattle.table.specs.Read.{view, process, namespace, no-process, no-namespace}
+use Rattle.table.specs.Slots.{process, namespace, no-process, no-namespace, init-of}
+use Rattle.rules.specs.Read.{view}
 use Prim.Native.Nat.{_-_}
 use mathlib.Core.Path.{ap₂}
 use Rattle.sound.proofs.Records.{empty-row, namespace-reads}
 use Rattle.sound.proofs.Marks.{marks-all}
 use Rattle.table.proofs.AllLoops.{Passed, all-starts, all-goes-on, all-fails, all-passes}
 use Rattle.table.specs.Limits.{namespace-slots}
-use Rattle.table.specs.Read.{init-of}
-use Rattle.table.specs.Sound.{held as held-in}
+use Rattle.rules.specs.Sound.{held as held-in}
 use Rattle.table.specs.Tests.{_or_}
 use Rattle.sound.specs.Quick.{process-row, process-at, namespace-at, namespace-ok, namespaces-ok}
 use Rattle.sound.proofs.namespaces_ok.Statement.{statement}

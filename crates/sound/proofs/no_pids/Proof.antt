@@ -5,7 +5,7 @@ use lib.Dec.{eqb}
 use Rattle.table.proofs.AllLoops.{Passed, all-loops-by}
 use Rattle.table.proofs.Chains.{chains}
 use Rattle.table.specs.Limits.{levels}
-use Rattle.table.specs.Read.{pid-at}
+use Rattle.table.specs.Slots.{pid-at}
 use Rattle.sound.proofs.no_pids.Statement.{statement}
 use Rattle.sound.proofs.no_pids.Tie as tie
 

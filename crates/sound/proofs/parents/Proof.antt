@@ -3,14 +3,13 @@ use mathlib.Core.Path.{_≡_}
 use lib.ListN.{getD}
 use mathlib.Core.Path.{ap}
 use Rattle.table.proofs.Slots.{field-past}
-use Rattle.table.specs.Read.{no-process}
-use Rattle.sound.proofs.Fills.{blank-slots}
+use Rattle.table.specs.Slots.{no-process}
+use Rattle.sound.proofs.Fills.{blank-slots, Filling, fill-starts, fill-goes-on, fill-stays, fill-done}
 use borrow.Author.Needs.{needs}
 use Prim.Native.Nat.{ℕ, _-_}
 use mathlib.Core.Path.{refl}
-use Rattle.sound.proofs.Fills.{Filling, fill-starts, fill-goes-on, fill-stays, fill-done}
 use Rattle.table.specs.Limits.{process-slots}
-use Rattle.table.specs.Read.{view}
+use Rattle.rules.specs.Read.{view}
 use Rattle.table.specs.declared.ProcSlot.{ProcSlot}
 use Rattle.sound.proofs.parents.Statement.{statement}
 use Rattle.sound.proofs.parents.Tie as tie

@@ -3,17 +3,15 @@ use mathlib.Core.Path.{_≡_}
 use lib.ListN.{getD}
 use mathlib.Core.Path.{ap}
 use Rattle.table.proofs.Slots.{field-past}
-use Rattle.table.specs.Read.{no-process, taken}
-use Rattle.sound.proofs.Fills.{blank-keys}
-use Rattle.sound.specs.Quick.{process-row}
+use Rattle.table.specs.Slots.{no-process}
+use Rattle.rules.specs.Read.{taken, view}
+use Rattle.sound.proofs.Fills.{blank-keys, Filling, fill-starts, fill-goes-on, fill-stays, fill-done}
+use Rattle.sound.specs.Quick.{process-row, process-at, pid-key}
 use borrow.Author.Needs.{needs}
 use Prim.Native.Nat.{ℕ, _-_}
 use mathlib.Core.Path.{refl}
-use Rattle.sound.proofs.Fills.{Filling, fill-starts, fill-goes-on, fill-stays, fill-done}
 use Rattle.table.specs.Limits.{process-slots}
-use Rattle.table.specs.Read.{view}
 use Rattle.tree.specs.Tree.{slot-in}
-use Rattle.sound.specs.Quick.{process-at, pid-key}
 use Rattle.sound.proofs.pid_keys.Statement.{statement}
 use Rattle.sound.proofs.pid_keys.Tie as tie
 

@@ -5,7 +5,7 @@ use native.Mathlib.Numerals.{add-one}
 use mathlib.Core.Path.{_≡_}
 use Rattle.table.proofs.AllLoops.{Passed, all-starts, all-goes-on, all-fails, all-passes}
 use Rattle.table.specs.Limits.{levels as level-count}
-use Rattle.table.specs.Read.{view}
+use Rattle.rules.specs.Read.{view}
 use Rattle.tree.specs.Tree.{slot-in}
 use Rattle.sound.specs.Quick.{differ, pid-keys, top}
 use Rattle.sound.proofs.Keys.{next-top, next-differs}

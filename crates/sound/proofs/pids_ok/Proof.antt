@@ -3,7 +3,7 @@ use borrow.Author.Needs.{needs}
 use Prim.Native.Nat.{_-_}
 use Rattle.table.proofs.AllLoops.{Passed, all-loops}
 use Rattle.table.specs.Limits.{levels}
-use Rattle.table.specs.Read.{pid-at}
+use Rattle.table.specs.Slots.{pid-at}
 use Rattle.sound.specs.Quick.{pid-ok, pids-ok}
 use Rattle.sound.proofs.pids_ok.Statement.{statement}
 use Rattle.sound.proofs.pids_ok.Tie as tie

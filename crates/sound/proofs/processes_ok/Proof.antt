@@ -4,7 +4,8 @@ use mathlib.Core.Logic.{⊎-elim}
 use mathlib.Core.Path.{_≡_, ap, _∙_}
 use lib.ListN.{getD}
 use Rattle.table.proofs.Slots.{field-past}
-use Rattle.table.specs.Read.{view, process, namespace, no-process, no-namespace}
+use Rattle.table.specs.Slots.{process, namespace, no-process, no-namespace}
+use Rattle.rules.specs.Read.{view}
 use Prim.Native.Nat.{_-_}
 use Rattle.sound.proofs.Records.{empty-row, process-reads}
 use Rattle.table.proofs.AllLoops.{Passed, all-starts, all-goes-on, all-fails, all-passes}

@@ -4,7 +4,7 @@ use Rattle.sound.proofs.Reaches.{reach-there, reach-ends, reach-on, rea
 use borrow.Author.Needs.{needs}
 use mathlib.Core.Path.{_≡_}
 use Rattle.table.specs.Limits.{process-slots}
-use Rattle.table.specs.Sound.{reaches-root}
+use Rattle.rules.specs.Sound.{reaches-root}
 use Rattle.sound.specs.Quick.{process-in}
 use Rattle.sound.proofs.reaches_root.Statement.{statement}
 use Rattle.sound.proofs.reaches_root.Tie as tie

@@ -1,7 +1,7 @@
 -- The root, by the records at slot 0.
 use Rattle.sound.proofs.Rows.{row-2, atoms}
-use Rattle.table.specs.Read.{taken, living}
-use Rattle.table.specs.Sound.{root-process, root-namespace}
+use Rattle.rules.specs.Read.{taken, living}
+use Rattle.rules.specs.Sound.{root-process, root-namespace}
 use Rattle.sound.specs.Quick.{root-process-ok, root-namespace-ok}
 use borrow.Author.Needs.{needs}
 use Rattle.sound.proofs.root_ok.Statement.{statement}

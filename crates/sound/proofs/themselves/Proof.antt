@@ -2,11 +2,10 @@
 use mathlib.Core.Path.{sym}
 use borrow.Author.Tests.{lt-ltb, le-ltb}
 use Rattle.table.proofs.Chains.{pick-yes, pick-no}
-use Rattle.sound.proofs.Fills.{blank-namespaces}
+use Rattle.sound.proofs.Fills.{blank-namespaces, Filling, fill-starts, fill-goes-on, fill-stays, fill-done}
 use borrow.Author.Needs.{needs}
 use Prim.Native.Nat.{ℕ, _-_}
 use mathlib.Core.Path.{refl}
-use Rattle.sound.proofs.Fills.{Filling, fill-starts, fill-goes-on, fill-stays, fill-done}
 use Rattle.table.specs.Limits.{namespace-slots}
 use Rattle.table.specs.declared.NsSlot.{NsSlot}
 use Rattle.sound.specs.Quick.{itself}

@@ -4,12 +4,12 @@ use mathlib.Core.Logic.{⊎-elim}
 use mathlib.Core.Path.{_≡_, ap, _∙_}
 use lib.ListN.{getD}
 use Rattle.table.proofs.Slots.{field-past}
-use Rattle.table.specs.Read.{view, process, namespace, no-process, no-namespace}
+use Rattle.table.specs.Slots.{process, namespace, no-process, no-namespace}
+use Rattle.rules.specs.Read.{view, taken, namespace-taken}
 use Prim.Native.Nat.{ℕ, _-_}
 use mathlib.Core.Path.{refl}
 use Rattle.sound.proofs.Fills.{Filling, fill-starts, fill-goes-on, fill-done, blank-keys}
 use Rattle.table.specs.Limits.{process-slots}
-use Rattle.table.specs.Read.{taken, namespace-taken}
 use Rattle.table.specs.Tests.{_and_}
 use Rattle.sound.specs.Quick.{process-row, namespace-row, unborn-key, unborn-keys as unborn-keys-of}
 use Rattle.sound.proofs.unborn_keys.Statement.{statement}

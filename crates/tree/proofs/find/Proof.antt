@@ -4,7 +4,7 @@ use borrow.Author.Needs.{needs}
 use lib.Dec.{eqb}
 use Rattle.table.proofs.FirstLoops.{Ahead, first-loops}
 use Rattle.table.specs.Limits.{process-slots}
-use Rattle.table.specs.Read.{view, seen, pid-seen, find}
+use Rattle.rules.specs.Read.{view, seen, pid-seen, find}
 use Rattle.table.specs.Tests.{_and_}
 use Rattle.tree.proofs.Sights.{named-test}
 use Rattle.tree.proofs.find.Statement.{statement}

@@ -5,8 +5,8 @@ use borrow.Author.Needs.{needs}
 use Rattle.table.proofs.Chains.{chains}
 use Rattle.table.proofs.FirstLoops.{Ahead, first-loops-by}
 use Rattle.table.specs.Limits.{namespace-slots}
-use Rattle.table.specs.Pids.{free-namespace-slot}
-use Rattle.table.specs.Read.{view, namespace-taken}
+use Rattle.rules.specs.Pids.{free-namespace-slot}
+use Rattle.rules.specs.Read.{view, namespace-taken}
 use Rattle.tree.proofs.free_namespace_slot.Statement.{statement}
 use Rattle.tree.proofs.free_namespace_slot.Tie as tie
 

@@ -5,8 +5,8 @@ use borrow.Author.Needs.{needs}
 use Rattle.table.proofs.Chains.{chains}
 use Rattle.table.proofs.FirstLoops.{Ahead, first-loops-by}
 use Rattle.table.specs.Limits.{process-slots}
-use Rattle.table.specs.Pids.{free-slot}
-use Rattle.table.specs.Read.{view, taken}
+use Rattle.rules.specs.Pids.{free-slot}
+use Rattle.rules.specs.Read.{view, taken}
 use Rattle.tree.proofs.free_slot.Statement.{statement}
 use Rattle.tree.proofs.free_slot.Tie as tie
 

@@ -5,7 +5,7 @@ use borrow.Author.Needs.{needs}
 use lib.ListN.{getD, replicate}
 use Rattle.table.proofs.MapLoops.{Mapped, map-old-loops, filled-reads}
 use Rattle.table.specs.Limits.{namespace-slots}
-use Rattle.table.specs.Read.{no-namespace}
+use Rattle.table.specs.Slots.{no-namespace}
 use Rattle.table.specs.declared.Namespace.{Namespace}
 use Rattle.table.specs.declared.NsSlot.{NsSlot}
 use Rattle.tree.proofs.ups.Statement.{statement}

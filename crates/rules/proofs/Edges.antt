@@ -1,0 +1,168 @@
+-- "Edges to try": the ten lines, every starred edge and the room for processes; an edge for each shortcut that looks
+-- harmless; and the kinds of delivery. By computation.
+use Prim.Native.Nat.{ℕ}
+use mathlib.Core.Bool.{true, false}
+use mathlib.Core.List.{List, [], _∷_, map}
+use mathlib.Core.Option.{Option, none, some}
+use mathlib.Core.Path.{_≡_, refl}
+use lib.IntN.{ℤ, pos}
+use Rattle.rules.proofs.Open.{everything}
+use Rattle.rules.proofs.Tables.{running, exited, root-at, table-of, crowd, after}
+use Rattle.rules.specs.Answers.{minus, number-of, end-of}
+use Rattle.table.specs.Fresh.{fresh}
+use Rattle.rules.specs.Step.{step}
+use Rattle.table.specs.declared.Answer.{Answer}
+use Rattle.table.specs.declared.Call.{Call}
+use Rattle.table.specs.declared.Call.the-variants.{Clone, CloneNew, Unshare, Setns, Kill, Exit, Wait, Getpid, Getppid, Handle, Poll}
+use Rattle.table.specs.declared.End.{End}
+use Rattle.table.specs.declared.End.the-variants.{Exited, Signaled}
+use Rattle.table.specs.declared.Table.{Table}
+
+-- What document 01 shows of an answer: its number, and how a removed process ended.
+abbrev Shown : Type 0
+Shown = ℤ × Option End
+
+abbrev shown : Answer → Shown
+shown a = (number-of a, end-of a)
+
+abbrev says : ℕ → Shown
+says k = (pos k, none)
+
+abbrev refuses : ℕ → Shown
+refuses k = (minus k, none)
+
+abbrev gave : ℕ → ℕ → Shown
+gave k s = (pos k, some (Exited s))
+
+abbrev signal : ℕ → ℕ → Shown
+signal k s = (pos k, some (Signaled s))
+
+-- a line of a script, and what it must answer
+abbrev Line : Type 0
+Line = ℕ × Call × Shown
+
+abbrev answers-to : Table → List Line → List Shown
+answers-to t [] = []
+answers-to t (l ∷ ls) = let r = step t (l .0) (l .1) in shown (r .reply .answer) ∷ answers-to (r .table) ls
+
+abbrev Edge : Type 0
+Edge = Table × List Line
+
+abbrev edges : List Edge
+edges =
+    -- the ten lines
+    (
+      fresh,
+      (0, CloneNew, says 2)
+          ∷ (1, Getpid, says 1)
+          ∷ (1, Getppid, says 0)
+          ∷ (1, Clone, says 2)
+          ∷ (2, Kill (pos 1) (pos 9), says 0)
+          ∷ (0, Kill (pos 2) (pos 9), says 0)
+          ∷ (0, Kill (pos 3) (pos 0), refuses 3)
+          ∷ (0, Wait, signal 2 9)
+          ∷ (0, Wait, refuses 10)
+          ∷ (0, Clone, says 4)
+          ∷ [],
+    )
+    -- last 32,766: next 32,767; then 300;
+    ∷ (table-of [] (root-at 32766 ∷ []), (0, Clone, says 32767) ∷ (0, Clone, says 300) ∷ [])
+    -- if 300 is held, 301; held by an ended process too, until a wait
+    ∷ (table-of (running 0 0 (300 ∷ []) ∷ []) (root-at 32767 ∷ []), (0, Clone, says 301) ∷ [])
+    ∷ (table-of (exited 0 0 (300 ∷ []) ∷ []) (root-at 32767 ∷ []), (0, Clone, says 301) ∷ [])
+    ∷ (table-of (exited 0 0 (300 ∷ []) ∷ []) (root-at 32767 ∷ []), (0, Wait, gave 300 0) ∷ (0, Clone, says 300) ∷ [])
+    -- level 6 may clone new, level 7 gets -28 (for any table: Levels.antt)
+    ∷ (
+      fresh,
+      (0, CloneNew, says 2)
+          ∷ (1, CloneNew, says 2)
+          ∷ (2, CloneNew, says 2)
+          ∷ (3, CloneNew, says 2)
+          ∷ (4, CloneNew, says 2)
+          ∷ (5, CloneNew, says 2)
+          ∷ (6, CloneNew, says 2)
+          ∷ (7, CloneNew, refuses 28)
+          ∷ [],
+    )
+    -- a process that ends itself giving -1 is kept with 255; 256 is kept as 0, and -256 as 0
+    ∷ (
+      crowd 3,
+      (1, Exit (minus 1), says 0)
+          ∷ (2, Exit (pos 256), says 0)
+          ∷ (3, Exit (minus 256), says 0)
+          ∷ (0, Wait, gave 2 255)
+          ∷ (0, Wait, gave 3 0)
+          ∷ (0, Wait, gave 4 0)
+          ∷ [],
+    )
+    -- kill 1 9 by an init on itself: 0, nothing ends
+    ∷ (after fresh ((0, CloneNew) ∷ []), (1, Kill (pos 1) (pos 9), says 0) ∷ (1, Getpid, says 1) ∷ (0, Wait, says 0) ∷ [])
+    -- kill -1 on the fresh table: -3; kill 0: -38; kill 5 32: -22
+    ∷ (fresh, (0, Kill (minus 1) (pos 9), refuses 3) ∷ (0, Kill (pos 0) (pos 9), refuses 38) ∷ (0, Kill (pos 5) (pos 32), refuses 22) ∷ (0, Kill (pos 0) (pos 32), refuses 22) ∷ [])
+    -- unshare, clone, child exits, clone: -12
+    ∷ (fresh, (0, Unshare, says 0) ∷ (0, Clone, says 2) ∷ (1, Exit (pos 0), says 0) ∷ (0, Clone, refuses 12) ∷ [])
+    -- 63 processes: clone works; 64: -11; after a wait, it works
+    ∷ (
+      crowd 62,
+      (0, Clone, says 64)
+          ∷ (0, Clone, refuses 11)
+          ∷ (9, Exit (pos 7), says 0)
+          ∷ (0, Clone, refuses 11)
+          ∷ (0, Wait, gave 10 7)
+          ∷ (0, Clone, says 65)
+          ∷ [],
+    )
+    -- an orphan goes to the init of its parent's namespace: that one may wait for it
+    ∷ (
+      fresh,
+      (0, Clone, says 2)
+          ∷ (1, CloneNew, says 3)
+          ∷ (1, Exit (pos 0), says 0)
+          ∷ (2, Getppid, says 0)
+          ∷ (0, Kill (pos 3) (pos 9), says 0)
+          ∷ (0, Wait, gave 2 0)
+          ∷ (0, Wait, signal 3 9)
+          ∷ [],
+    )
+    -- setns moves the children's namespace and not the caller; a member with an outside parent falls with its init
+    ∷ (
+      fresh,
+      (0, CloneNew, says 2)
+          ∷ (0, Setns (pos 2), says 0)
+          ∷ (0, Getpid, says 1)
+          ∷ (0, Clone, says 3)
+          ∷ (2, Getpid, says 2)
+          ∷ (2, Getppid, says 0)
+          ∷ (0, Kill (pos 2) (pos 9), says 0)
+          ∷ (0, Wait, signal 2 9)
+          ∷ (0, Wait, signal 3 9)
+          ∷ [],
+    )
+    -- 19 stops and 18 resumes; a handled signal becomes pending and has no other effect; off drops it; another ends
+    ∷ (
+      crowd 1,
+      (0, Kill (pos 2) (pos 19), says 0)
+          ∷ (1, Getpid, refuses 1001)
+          ∷ (0, Kill (pos 2) (pos 18), says 0)
+          ∷ (1, Handle (pos 20) true, says 0)
+          ∷ (0, Kill (minus 1) (pos 20), says 0)
+          ∷ (1, Poll, says 20)
+          ∷ (1, Poll, says 0)
+          ∷ (0, Kill (pos 2) (pos 20), says 0)
+          ∷ (1, Handle (pos 20) false, says 0)
+          ∷ (1, Poll, says 0)
+          ∷ (1, Handle (pos 9) true, refuses 22)
+          ∷ (0, Kill (pos 2) (pos 17), says 0)
+          ∷ (0, Wait, says 0)
+          ∷ (0, Kill (pos 2) (pos 15), says 0)
+          ∷ (0, Wait, signal 2 15)
+          ∷ [],
+    )
+    ∷ []
+
+-- Every edge is answered as document 01 says; and where an init signals itself, the whole table stays as it was.
+pub edges-hold :
+    (map (λ (e : Edge). answers-to (e .0) (e .1)) edges ≡ map (λ (e : Edge). map (λ (l : Line). l .2) (e .1)) edges)
+    × (step fresh 0 (Kill (pos 1) (pos 9)) .table ≡ fresh)
+unfolding everything
+edges-hold = (refl, refl)

@@ -1,0 +1,46 @@
+-- The promises of specs/Claims.antt, each proved.
+use Rattle.rules.proofs.Keeps.Changes as Changes
+use Rattle.rules.proofs.Keeps.Exact as Exact
+use Rattle.rules.proofs.Keeps.Fixed as Fixed
+use Rattle.rules.proofs.Keeps.Finds as Finds
+use Rattle.rules.proofs.Keeps.Fresh as Fresh
+use Rattle.rules.proofs.Keeps.Lines as Lines
+use Rattle.rules.proofs.Keeps.Numbers as Numbers
+use Rattle.rules.proofs.Keeps.Refusals as Refusals
+use Rattle.rules.specs.Claims.{RefusalLeaves, KeepsSound, NamespaceFixed, SignalFinds, SubtreeFalls, AnswersListed, NumbersKept, NumberFresh, EndExact}
+
+-- A refusal leaves the whole table unchanged and tells the host no slot.
+pub refusal-leaves : RefusalLeaves
+refusal-leaves = Refusals.refusal-leaves
+
+-- Each call leaves a sound table sound.
+pub keeps-sound : KeepsSound
+keeps-sound = Changes.keeps-sound
+
+-- A process never changes namespace.
+pub namespace-fixed : NamespaceFixed
+namespace-fixed = Fixed.namespace-fixed
+
+-- A signal finds exactly the processes of the caller's namespace and those below.
+pub signal-finds : SignalFinds
+signal-finds = Finds.signal-finds
+
+-- A namespace's first process takes its whole subtree down.
+pub subtree-falls : SubtreeFalls
+subtree-falls = Fixed.subtree-falls
+
+-- Each negative number is given exactly when its line says so and no earlier line does.
+pub answers-listed : AnswersListed
+answers-listed = Lines.answers-listed
+
+-- A process that stays in the table keeps its numbers at all levels and its own namespace.
+pub numbers-kept : NumbersKept
+numbers-kept = Numbers.numbers-kept
+
+-- A newborn has in its own namespace and in each above it the next number there, which nobody had; it becomes the last.
+pub number-fresh : NumberFresh
+number-fresh = Fresh.number-fresh
+
+-- The end of an init removes exactly those of its subtree whose parent lies there, and leaves all outside as they were.
+pub end-exact : EndExact
+end-exact = Exact.end-exact

@@ -1,0 +1,58 @@
+-- Small tables, written down for computed facts.
+use Prim.Native.Nat.{ℕ, zero, suc, _-_}
+use mathlib.Core.Bool.{false}
+use mathlib.Core.List.{List, [], _∷_, _++_, map}
+use lib.ListN.{length, replicate}
+use Rattle.table.specs.Fresh.{empty-process, empty-namespace, root-init}
+use Rattle.table.specs.Limits.{process-slots, namespace-slots, levels, no-slot}
+use Rattle.table.specs.Slots.{no-pid, to-pid}
+use Rattle.rules.specs.Records.{as-ended}
+use Rattle.rules.specs.Step.{step}
+use Rattle.table.specs.declared.Call.{Call}
+use Rattle.table.specs.declared.End.the-variants.{Exited}
+use Rattle.table.specs.declared.Life.{Life}
+use Rattle.table.specs.declared.Life.the-variants.{Alive}
+use Rattle.table.specs.declared.Namespace.{Namespace}
+use Rattle.table.specs.declared.Process.{Process}
+use Rattle.table.specs.declared.State.the-variants.{Running}
+use Rattle.table.specs.declared.Table.{Table}
+
+-- a running process with an own namespace, a parent and numbers from the root's level down
+abbrev pub running : ℕ → ℕ → List ℕ → Process
+running n p ks = record { own = record { 0 = n }; children = record { 0 = n }; parent = record { 0 = p }; state = Running; handled = 0; pending = 0; unshared = false; pids = map to-pid ks ++ replicate (levels - length ks) no-pid }
+
+-- the same, ended
+abbrev pub exited : ℕ → ℕ → List ℕ → Process
+exited n p ks = as-ended (running n p ks) (Exited 0)
+
+-- a namespace with a parent, a level, a last number and a condition
+abbrev pub ns : ℕ → ℕ → ℕ → Life → Namespace
+ns up level last life = record { parent = record { 0 = up }; level = level; last = to-pid last; life = life }
+
+abbrev pub alive-with : ℕ → Life
+alive-with i = Alive (record { 0 = i })
+
+-- the root with a last number
+abbrev pub root-at : ℕ → Namespace
+root-at k = ns no-slot 0 k (alive-with 0)
+
+-- The table that has these processes after the root init, and these namespaces; every other slot is empty.
+abbrev pub table-of : List Process → List Namespace → Table
+table-of ps ss =
+    record {
+      processes = root-init ∷ ps ++ replicate (process-slots - suc (length ps)) empty-process;
+      namespaces = ss ++ replicate (namespace-slots - length ss) empty-namespace;
+    }
+
+-- n children of the root init in slots 1 to n, with the numbers 2 to n + 1
+abbrev pub children-from : ℕ → ℕ → List Process
+children-from k zero = []
+children-from k (suc n) = running 0 0 (k ∷ []) ∷ children-from (suc k) n
+
+abbrev pub crowd : ℕ → Table
+crowd n = table-of (children-from 2 n) (root-at (suc n) ∷ [])
+
+-- the table after a list of calls, each by the process at its slot
+abbrev pub after : Table → List (ℕ × Call) → Table
+after t [] = t
+after t (l ∷ ls) = after (step t (l .0) (l .1) .table) ls

@@ -1,0 +1,41 @@
+-- A birth, of clone: the child's record, and what it changes in its namespace and those above.
+use Prim.Native.Nat.{ℕ}
+use mathlib.Core.Bool.{false}
+use mathlib.Core.List.{List}
+use lib.Dec.{leb}
+use lib.ListN.{replicate}
+use Rattle.table.specs.Limits.{levels}
+use Rattle.rules.specs.Pids.{next-pid, free-slot}
+use Rattle.table.specs.Slots.{no-pid, is-unborn, to-pid, put, changed}
+use Rattle.rules.specs.Read.{View, view, below, above-at}
+use Rattle.table.specs.Tests.{if_then_else_, changed-to}
+use Rattle.table.specs.declared.Life.the-variants.{Alive}
+use Rattle.table.specs.declared.Namespace.{Namespace}
+use Rattle.table.specs.declared.Pid.{Pid}
+use Rattle.table.specs.declared.Process.{Process}
+use Rattle.table.specs.declared.State.the-variants.{Running}
+use Rattle.table.specs.declared.Table.{Table}
+
+-- It gets a number at each level: from the root's to that of its own namespace n, and 0 beyond.
+unfoldable pub new-pids : View → ℕ → List Pid
+new-pids v n =
+    changed-to (λ l p. if leb l (v .level n) then to-pid (next-pid v (above-at v n l)) else p) no-pid levels
+    (replicate levels no-pid)
+
+-- The child runs, its parent is the caller, children's namespace its own, signals and mark empty.
+unfoldable pub newborn : View → ℕ → ℕ → Process
+newborn v caller n =
+    record { own = record { 0 = n }; children = record { 0 = n }; parent = record { 0 = caller }; state = Running; handled = 0; pending = 0; unshared = false; pids = new-pids v n }
+
+-- In n and above, the number becomes the last; if n is unborn the child is its init.
+-- (What becomes of the namespace s at slot m.)
+unfoldable pub joined : View → ℕ → ℕ → ℕ → Namespace → Namespace
+joined v child n m s =
+    if below v n m
+    then record { parent = s .parent; level = s .level; last = to-pid (next-pid v m); life = if is-unborn (s .life) then Alive (record { 0 = child }) else s .life }
+    else s
+
+-- A child of the caller is born into n, in the lowest free slot.
+unfoldable pub birth : Table → ℕ → ℕ → Table
+birth t caller n =
+    changed (put t (free-slot (view t)) (newborn (view t) caller n)) (λ i p. p) (joined (view t) (free-slot (view t)) n)

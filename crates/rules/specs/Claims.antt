@@ -1,0 +1,283 @@
+-- The promises, as types: a value of such a type is a proof.
+use Prim.Native.Nat.{ℕ, _<_, _≤_}
+use mathlib.Core.Bool.{Bool, false, not, So}
+use mathlib.Core.Logic.{_↔_, _⊎_}
+use mathlib.Core.Path.{_≡_}
+use lib.Dec.{eqb, ltb}
+use lib.IntN.{ℤ, pos, negsuc}
+use Rattle.rules.specs.Calls.{targets, pid-to, within, natural, names-group, status}
+use Rattle.table.specs.Limits.{no-slot, process-slots, namespace-slots, signals, deepest, greatest-pid, restart-pid, sigkill, sigstop}
+use Rattle.table.specs.Slots.{process, is-running}
+use Rattle.rules.specs.Read.{View, view, taken, living, namespace-taken, alive, dead, init, is-init, below, seen, pid-seen, child-of}
+use Rattle.rules.specs.Sound.{SoundTable, sound, shaped}
+use Rattle.rules.specs.Step.{step, runs}
+use Rattle.table.specs.Tests.{_and_, _or_, if_then_else_, all, any, some-of}
+use Rattle.table.specs.declared.Answer.the-variants.{Refused}
+use Rattle.table.specs.declared.Call.{Call}
+use Rattle.table.specs.declared.Call.the-variants.{Clone, CloneNew, Unshare, Setns, Kill, Exit, Wait, Getpid, Getppid, Handle, Poll}
+use Rattle.table.specs.declared.End.{End}
+use Rattle.table.specs.declared.End.the-variants.{Exited, Signaled}
+use Rattle.table.specs.declared.Refusal.{Refusal}
+use Rattle.table.specs.declared.Refusal.the-variants.{Unsound, NotRunning, Einval, Enosys, Esrch, Ebusy, Echild, Enospc, Enomem, Eagain}
+use Rattle.table.specs.declared.State.the-variants.{Ended}
+use Rattle.table.specs.declared.Table.{Table}
+
+-- ---- demand 1
+
+-- A refusal leaves the whole table unchanged and tells the host no slot.
+unfoldable pub RefusalLeaves : Type 0
+RefusalLeaves =
+    (t : Table) (c : ℕ) (call : Call) (e : Refusal) → step t c call .reply .answer ≡ Refused e
+    → (step t c call .table ≡ t) × (step t c call .reply .child .0 ≡ no-slot)
+
+-- ---- demand 2
+
+-- Each call leaves a sound table sound.
+unfoldable pub KeepsSound : Type 0
+KeepsSound = (t : Table) (c : ℕ) (call : Call) → SoundTable t → SoundTable (step t c call .table)
+
+-- A process never changes namespace. (No call frees a slot and gives it away again.)
+unfoldable pub NamespaceFixed : Type 0
+NamespaceFixed =
+    (t : Table) (c i : ℕ) (call : Call) → SoundTable t → So (taken (view t) i) → So (taken (view (step t c call .table)) i)
+    → view (step t c call .table) .own i ≡ view t .own i
+
+-- the process at i is one that the caller's kill n means: seen, and of that number, or neither the caller nor number 1
+unfoldable pub meant : View → ℕ → ℤ → ℕ → Bool
+meant v c (pos n) i = seen v (v .own c) i and eqb (pid-to v c i) n
+meant v c (negsuc n) i = seen v (v .own c) i and (not (eqb i c) and not (eqb (pid-to v c i) 1))
+
+-- A signal finds exactly the processes of the caller's namespace and those below: what is found, and that no other
+-- process's record changes.
+pub record SignalFinds : Type 0 where
+  pub finds :
+      (t : Table) (c i : ℕ) (n : ℤ) → SoundTable t → So (runs (view t) c)
+      → So (some-of (eqb i) (targets (view t) c n)) ↔ So (meant (view t) c n i)
+  pub spares :
+      (t : Table) (c i : ℕ) (n s : ℤ) → SoundTable t → (So (seen (view t) (view t .own c) i) → ⊥)
+      → process (step t c (Kill n s) .table) i ≡ process t i
+
+-- A namespace's first process takes its whole subtree down: after a call in which the init of a living n ended, every
+-- process of the subtree is ended or removed, and every namespace of it is dead or freed.
+unfoldable pub SubtreeFalls : Type 0
+SubtreeFalls =
+    (t : Table) (c n : ℕ) (call : Call) → SoundTable t → So (alive (view t) n)
+    → (So (living (view (step t c call .table)) (init (view t) n)) → ⊥)
+    → ((i : ℕ) → So (seen (view t) n i) → So (living (view (step t c call .table)) i) → ⊥)
+    × ((m : ℕ) → So (below (view t) m n) → So (namespace-taken (view (step t c call .table)) m)
+    → So (dead (view (step t c call .table)) m))
+
+-- ---- demand 2, sentence by sentence
+
+-- "Negative numbers": the lines of the table, each with what it says of a call by the process at c, whatever the other
+-- lines say.
+
+-- the number k is that of the process at i, seen from the caller's namespace
+unfoldable pub numbered : View → ℕ → ℤ → ℕ → Bool
+numbered v c (pos k) i = seen v (v .own c) i and eqb (pid-to v c i) k
+numbered v c (negsuc k) i = false
+
+-- -1001: the caller's slot is beyond 63, empty, ended or stopped
+unfoldable pub line-1001 : View → ℕ → Bool
+line-1001 v c = not (ltb c process-slots) or not (taken v c) or not (is-running (v .state c))
+
+-- -22: kill: signal not 0 to 31; handle: signal not 1 to 31, or 9 or 19; unshare: mark already set
+unfoldable pub line-22 : View → ℕ → Call → Bool
+line-22 v c Clone = false
+line-22 v c CloneNew = false
+line-22 v c Unshare = v .unshared c
+line-22 v c (Setns n) = false
+line-22 v c (Kill n s) = not (within 0 signals s)
+line-22 v c (Exit s) = false
+line-22 v c Wait = false
+line-22 v c Getpid = false
+line-22 v c Getppid = false
+line-22 v c (Handle s on) = not (within 1 signals s) or eqb (natural s) sigkill or eqb (natural s) sigstop
+line-22 v c Poll = false
+
+-- -38: kill: number 0 or below -1
+unfoldable pub line-38 : View → ℕ → Call → Bool
+line-38 v c Clone = false
+line-38 v c CloneNew = false
+line-38 v c Unshare = false
+line-38 v c (Setns n) = false
+line-38 v c (Kill n s) = names-group n
+line-38 v c (Exit s) = false
+line-38 v c Wait = false
+line-38 v c Getpid = false
+line-38 v c Getppid = false
+line-38 v c (Handle s on) = false
+line-38 v c Poll = false
+
+-- -3: kill, setns: no such process seen; setns: it has ended; kill -1: no target
+unfoldable pub line-3 : View → ℕ → Call → Bool
+line-3 v c Clone = false
+line-3 v c CloneNew = false
+line-3 v c Unshare = false
+line-3 v c (Setns n) = not (any process-slots (λ i. numbered v c n i and not (v .ended i)))
+line-3 v c (Kill n s) = not (any process-slots (meant v c n))
+line-3 v c (Exit s) = false
+line-3 v c Wait = false
+line-3 v c Getpid = false
+line-3 v c Getppid = false
+line-3 v c (Handle s on) = false
+line-3 v c Poll = false
+
+-- -16: exit by the root init
+unfoldable pub line-16 : View → ℕ → Call → Bool
+line-16 v c Clone = false
+line-16 v c CloneNew = false
+line-16 v c Unshare = false
+line-16 v c (Setns n) = false
+line-16 v c (Kill n s) = false
+line-16 v c (Exit s) = eqb c 0
+line-16 v c Wait = false
+line-16 v c Getpid = false
+line-16 v c Getppid = false
+line-16 v c (Handle s on) = false
+line-16 v c Poll = false
+
+-- -10: wait: no children
+unfoldable pub line-10 : View → ℕ → Call → Bool
+line-10 v c Clone = false
+line-10 v c CloneNew = false
+line-10 v c Unshare = false
+line-10 v c (Setns n) = false
+line-10 v c (Kill n s) = false
+line-10 v c (Exit s) = false
+line-10 v c Wait = not (any process-slots (child-of v c))
+line-10 v c Getpid = false
+line-10 v c Getppid = false
+line-10 v c (Handle s on) = false
+line-10 v c Poll = false
+
+-- -28: clone new, unshare: own level is 7
+unfoldable pub line-28 : View → ℕ → Call → Bool
+line-28 v c Clone = false
+line-28 v c CloneNew = eqb (v .level (v .own c)) deepest
+line-28 v c Unshare = eqb (v .level (v .own c)) deepest
+line-28 v c (Setns n) = false
+line-28 v c (Kill n s) = false
+line-28 v c (Exit s) = false
+line-28 v c Wait = false
+line-28 v c Getpid = false
+line-28 v c Getppid = false
+line-28 v c (Handle s on) = false
+line-28 v c Poll = false
+
+-- -12: plain clone: the children's namespace is dead
+unfoldable pub line-12 : View → ℕ → Call → Bool
+line-12 v c Clone = dead v (v .children c)
+line-12 v c CloneNew = false
+line-12 v c Unshare = false
+line-12 v c (Setns n) = false
+line-12 v c (Kill n s) = false
+line-12 v c (Exit s) = false
+line-12 v c Wait = false
+line-12 v c Getpid = false
+line-12 v c Getppid = false
+line-12 v c (Handle s on) = false
+line-12 v c Poll = false
+
+-- -11: no room: clone with 64 processes, or clone new or unshare with 32 namespaces (every slot is taken)
+unfoldable pub line-11 : View → ℕ → Call → Bool
+line-11 v c Clone = all process-slots (taken v)
+line-11 v c CloneNew = all process-slots (taken v) or all namespace-slots (namespace-taken v)
+line-11 v c Unshare = all namespace-slots (namespace-taken v)
+line-11 v c (Setns n) = false
+line-11 v c (Kill n s) = false
+line-11 v c (Exit s) = false
+line-11 v c Wait = false
+line-11 v c Getpid = false
+line-11 v c Getppid = false
+line-11 v c (Handle s on) = false
+line-11 v c Poll = false
+
+unfoldable pub line : Table → ℕ → Call → Refusal → Bool
+line t c call Unsound = not (sound t)
+line t c call NotRunning = line-1001 (view t) c
+line t c call Einval = line-22 (view t) c call
+line t c call Enosys = line-38 (view t) c call
+line t c call Esrch = line-3 (view t) c call
+line t c call Ebusy = line-16 (view t) c call
+line t c call Echild = line-10 (view t) c call
+line t c call Enospc = line-28 (view t) c call
+line t c call Enomem = line-12 (view t) c call
+line t c call Eagain = line-11 (view t) c call
+
+-- Order: -1000, -1001, -22, -38, -3, -16, -10, -28, -12, -11.
+unfoldable pub place : Refusal → ℕ
+place Unsound = 0
+place NotRunning = 1
+place Einval = 2
+place Enosys = 3
+place Esrch = 4
+place Ebusy = 5
+place Echild = 6
+place Enospc = 7
+place Enomem = 8
+place Eagain = 9
+
+-- Each negative number is given exactly when its line says so and no earlier line does, on any table of the declared
+-- type, by any caller.
+unfoldable pub AnswersListed : Type 0
+AnswersListed =
+    (t : Table) (c : ℕ) (call : Call) (e : Refusal) → So (shaped t)
+    → (step t c call .reply .answer ≡ Refused e)
+    ↔ (So (line t c call e) × ((d : Refusal) → place d < place e → So (line t c call d) → ⊥))
+
+-- A process that stays in the table, ended or not, keeps its numbers at all levels and its own namespace. (So a slot
+-- that is taken before and after a call is the same process's: no call frees a slot and gives it away again.)
+unfoldable pub NumbersKept : Type 0
+NumbersKept =
+    (t : Table) (c i : ℕ) (call : Call) → SoundTable t → So (taken (view t) i) → So (taken (view (step t c call .table)) i)
+    → ((l : ℕ) → view (step t c call .table) .pid i l ≡ view t .pid i l)
+    × (view (step t c call .table) .own i ≡ view t .own i)
+
+-- no process in the table, ended or not, has the number k in n
+unfoldable pub Unused : View → ℕ → ℕ → Type 0
+Unused v n k = (i : ℕ) → So (seen v n i) → pid-seen v n i ≡ k → ⊥
+
+-- "A number": the lowest free number above the namespace's last; if there is none up to 32,767, the lowest free from
+-- 300 (as Linux). An ended process keeps its numbers until removed.
+pub record NextNumber (v : View) (n k : ℕ) : Type 0 where
+  pub unused : Unused v n k
+  pub within : (1 ≤ k) × (k ≤ greatest-pid)
+  pub lowest :
+      ((v .last n < k) × ((j : ℕ) → v .last n < j → j < k → Unused v n j → ⊥))
+      ⊎ (((j : ℕ) → v .last n < j → j ≤ greatest-pid → Unused v n j → ⊥) × (restart-pid ≤ k) × ((j : ℕ) → restart-pid ≤ j → j < k → Unused v n j → ⊥))
+
+-- Whoever is in the table after a call and was not before, a child that clone bore, has in its own namespace and in
+-- each above it the next number there, which no process had before; and it becomes the last.
+unfoldable pub NumberFresh : Type 0
+NumberFresh =
+    (t : Table) (c i : ℕ) (call : Call) → SoundTable t → (So (taken (view t) i) → ⊥)
+    → So (taken (view (step t c call .table)) i)
+    → (n : ℕ) → So (below (view (step t c call .table)) (view (step t c call .table) .own i) n)
+    → NextNumber (view t) n (pid-seen (view (step t c call .table)) n i)
+    × (view (step t c call .table) .last n ≡ pid-seen (view (step t c call .table)) n i)
+
+-- "An end", of the init at c, for the reason e, by a call that took t to u.
+pub record EndsExactly (t u : Table) (c : ℕ) (e : End) : Type 0 where
+  -- Removed are exactly those of the subtree whose parent lies in the subtree, ended before or now.
+  pub removed :
+      (i : ℕ) → So (taken (view t) i)
+      → (So (taken (view u) i) → ⊥)
+      ↔ (So (seen (view t) (view t .own c) i) × So (seen (view t) (view t .own c) (view t .parent i)))
+  -- The others of the subtree stay for their outside parent, ended: the init for its own reason, one that had ended
+  -- before for the reason it had, and each other by signal 9.
+  pub left :
+      (i : ℕ) → So (seen (view t) (view t .own c) i) → (So (seen (view t) (view t .own c) (view t .parent i)) → ⊥)
+      → view u .state i ≡ (if eqb i c then Ended e else (if view t .ended i then view t .state i else Ended (Signaled sigkill)))
+  -- Nobody outside the subtree is ended, or changed at all.
+  pub outside : (i : ℕ) → (So (seen (view t) (view t .own c) i) → ⊥) → process u i ≡ process t i
+
+-- An init other than the root's ends so by its exit, and by a signal 9 that one in a namespace above sends it by number.
+pub record EndExact : Type 0 where
+  pub by-exit :
+      (t : Table) (c : ℕ) (s : ℤ) → SoundTable t → So (runs (view t) c) → So (is-init (view t) c) → (c ≡ 0 → ⊥)
+      → EndsExactly t (step t c (Exit s) .table) c (Exited (status s))
+  pub by-signal :
+      (t : Table) (c i : ℕ) → SoundTable t → So (runs (view t) c) → So (living (view t) i) → So (is-init (view t) i)
+      → So (seen (view t) (view t .own c) i) → (view t .own i ≡ view t .own c → ⊥)
+      → EndsExactly t (step t c (Kill (pos (pid-to (view t) c i)) (pos sigkill)) .table) i (Signaled sigkill)

@@ -1,0 +1,14 @@
+-- Document 01 as definitions, in reading order: when a table is sound, the calls and their answers, and the promises
+-- about them. It begins in the crate table (numbers, slots, the fresh table).
+pub mod Read
+pub mod Sound
+pub mod Pids
+pub mod Records
+pub mod Ends
+pub mod Freeing
+pub mod Delivery
+pub mod Births
+pub mod Answers
+pub mod Calls
+pub mod Step
+pub mod Claims

@@ -1,0 +1,184 @@
+-- clone, clone new and unshare by an outsider: the child is born outside S.
+use Prim.Native.Nat.{ℕ}
+use native.Mathlib.Decide.{ℕ-discrete}
+use mathlib.Core.Bool.{Bool, true, false, So, false≢true}
+use mathlib.Core.Logic.{⊎-elim}
+use mathlib.Core.Path.{_≡_, refl, sym, _∙_, ap, subst}
+use borrow.Author.Tests.{eqb-false, ne-eqb, eq-eqb}
+use lib.Dec.{eqb}
+use Rattle.rules.proofs.Keeps.Birth.{with-born, birth-view}
+use Rattle.rules.proofs.Keeps.Changes.{namespace-sane, unshare-sane}
+use Rattle.rules.proofs.Keeps.Premises.{free-slot-is}
+use Rattle.rules.proofs.Laws.Below.{below-trans}
+use Rattle.rules.proofs.Laws.Facts.{Facts, facts, Sane, sane, seen-taken, seen-below, lives-taken}
+use Rattle.rules.proofs.Laws.Steps.{runs-lives}
+use Rattle.rules.proofs.Laws.Tests.{no-so, isnt-so, left, right, cases, or-false-left, or-false-right, bool-ext}
+use Rattle.rules.proofs.Laws.Tree.{below-refl}
+use Rattle.sameness.proofs.Born.{below-grown, seen-grown, life-born, life-other, bottom, old}
+use Rattle.sameness.proofs.Freeing.{freed-leaves}
+use Rattle.sameness.proofs.NewNamespaceSame.{x-taken, same-free, new-stands, new-outside, new-seen, new-same}
+use Rattle.sameness.proofs.Outside.{MadeLeaves, as-it-was, outsider, stands-leaves, untouched-made}
+use Rattle.sameness.proofs.Readers.{children-taken}
+use Rattle.sameness.proofs.Same.{Same, same-trans}
+use Rattle.sameness.proofs.Still.{Still, same-still, stands-still, near, near-here, near-up, near-own, near-children, put-still}
+use Rattle.rules.specs.Answers.{is-refused, refused, answers, granted}
+use Rattle.rules.specs.Births.{birth}
+use Rattle.rules.specs.Calls.{born, clone, clone-new, new-namespace, own-level, set-children, unshare}
+use Rattle.sameness.specs.Events.{at, follow, namespace-inside, sheet-of}
+use Rattle.table.specs.Limits.{deepest, namespace-slots, process-slots}
+use Rattle.rules.specs.Pids.{free-namespace-slot, free-slot, next-pid}
+use Rattle.table.specs.Slots.{process}
+use Rattle.rules.specs.Read.{View, below, dead, living, namespace-taken, seen, taken, unborn, view}
+use Rattle.rules.specs.Records.{with-children}
+use Rattle.sameness.specs.Sheet.{sheet}
+use Rattle.rules.specs.Sound.{SoundTable}
+use Rattle.rules.specs.Step.{make}
+use Rattle.table.specs.Tests.{_or_, if_then_else_}
+use Rattle.sameness.specs.Touches.{touched, clones-into}
+use Rattle.table.specs.declared.Call.the-variants.{Clone, CloneNew, Unshare}
+use Rattle.table.specs.declared.Table.{Table}
+
+-- a birth in a namespace that is not of S
+module _ (v : View) (f : Facts v) (c n k : ℕ) (new : taken v k ≡ false) (tn : So (namespace-taken v n)) (s : ℕ) (o : below v n s ≡ false) where
+  abbrev v′ : View
+  v′ = with-born v c n k
+
+  apart : (i : ℕ) → So (seen v s i) → i ≡ k → ⊥
+  apart i h = old v f c n k new tn i (seen-taken v s i h)
+
+  seen-either : (i : ℕ) → Dec (i ≡ k) → seen v′ s i ≡ seen v s i
+  unfolding seen
+  seen-either i (no e) = seen-grown v f c n k new tn s i e
+  seen-either i (yes e) = bool-ext _ _ (λ h. absurd (no-so o (sym (below-grown v f c n k new tn n s) ∙ subst (λ x. So (below v′ x s)) (rw (eq-eqb i k e)) (right _ _ h)))) (λ h. absurd (old v f c n k new tn i (left _ _ h) e))
+
+  life-near : (m : ℕ) → So (near v s m) → (b : Bool) → unborn v m ≡ b → v′ .life m ≡ v .life m
+  life-near m h false e = life-born v f c n k new tn m e
+  life-near m h true e = life-other v f c n k new tn m e (λ q. ⊎-elim (λ b. not-here (subst (λ x. So (below v x s)) (sym q) b)) (λ b. not-here (subst (λ x. So (below v n x)) (sym (bottom v f s m b e ∙ sym q)) (below-refl v n))) (cases _ _ h))
+    where
+      not-here : So (below v n s) → ⊥
+      not-here b = false≢true (sym o ∙ b)
+
+  -- it leaves all that the sheet of S rests on
+  pub birth-still : Still v v′ s (near v s)
+  birth-still =
+      record {
+        here = near-here v f s;
+        up-kept = near-up v f s;
+        own-kept = near-own v f s;
+        children-kept = near-children v f s;
+        ups = λ m h. refl;
+        levels = λ m h. refl;
+        lives = λ m h. life-near m h (unborn v m) refl;
+        seens = λ i. seen-either i (ℕ-discrete i k);
+        owns = λ i h. rw (ne-eqb i k (apart i h));
+        pids = λ i l h. rw (ne-eqb i k (apart i h));
+        states = λ i h. rw (ne-eqb i k (apart i h));
+        handleds = λ i h. rw (ne-eqb i k (apart i h));
+        pendings = λ i h. rw (ne-eqb i k (apart i h));
+        marks = λ i h. rw (ne-eqb i k (apart i h));
+        childrens = λ i h. rw (ne-eqb i k (apart i h));
+        parents = λ i h. rw (ne-eqb i k (apart i h));
+        lasts = λ i h. ap (λ (b : Bool). if b then next-pid v (v .own i) else v .last (v .own i)) (not-above i h);
+      }
+    where
+      not-above : (i : ℕ) → So (seen v s i) → below v n (v .own i) ≡ false
+      not-above i h = bool-ext _ _ (λ b. absurd (false≢true (sym o ∙ below-trans v f n (v .own i) s b (seen-below v s i h)))) (λ b. absurd (false≢true b))
+
+module _ (t : Table) (w : Sane t) (c n : ℕ) (tn : So (namespace-taken (view t) n)) (room : free-slot (view t) ≡ process-slots → ⊥) (s : ℕ) (o : below (view t) n s ≡ false) where
+  still : Still (view t) (view (birth t c n)) s (near (view t) s)
+  still =
+      let (low, free) = free-slot-is (view t) room in
+      subst (λ u. Still (view t) u s (near (view t) s)) (sym (birth-view t (w .shape-of) (w .facts) c n tn low)) (birth-still (view t) (w .facts) c n (free-slot (view t)) (isnt-so free) tn s o)
+
+  pub birth-same : Same (view (birth t c n)) (view t) s s
+  birth-same = same-still (view t) (view (birth t c n)) s (near (view t) s) (w .facts) still
+
+  pub birth-stands : So (namespace-taken (view t) s) → So (namespace-taken (view (birth t c n)) s)
+  birth-stands h = stands-still (view t) (view (birth t c n)) s (near (view t) s) (w .facts) still h
+
+-- plain clone
+pub clone-leaves : MadeLeaves Clone
+unfolding MadeLeaves make clone refused is-refused touched clones-into namespace-inside
+clone-leaves t s i h hs k a g = go (dead (view t) (view t .children i)) refl (eqb (free-slot (view t)) process-slots) refl g
+  where
+    go : (x : Bool) → dead (view t) (view t .children i) ≡ x → (b : Bool) → eqb (free-slot (view t)) process-slots ≡ b → SoundTable (clone t i .table) → sheet-of (clone t i .table) (follow t (clone t i .table) (at s)) ≡ sheet (view t) s
+    go true ea b eb g = rw (ea, clone) (as-it-was t s hs)
+    go false ea true eb g = rw (ea, eb, clone) (as-it-was t s hs)
+    go false ea false eb g =
+        rw (ea, eb, clone)
+        (stands-leaves t (birth t i n) s h (rw (ea, eb, clone) at g) hs (birth-stands t (sane t h) i n tn (eqb-false _ _ eb) s o hs) (birth-same t (sane t h) i n tn (eqb-false _ _ eb) s o))
+      where
+        n : ℕ
+        n = view t .children i
+
+        tn : So (namespace-taken (view t) n)
+        tn = children-taken (view t) (facts t h) i (runs-lives t i k)
+
+        o : below (view t) n s ≡ false
+        o = untouched-made t s i Clone h k a (born t i (birth t i n)) (rw (ea, eb, clone) refl) refl
+
+-- ---- a fresh namespace
+
+-- clone new
+pub clone-new-leaves : MadeLeaves CloneNew
+unfolding MadeLeaves make clone-new refused
+clone-new-leaves t s i h hs k a g = go (eqb (own-level (view t) i) deepest) refl (eqb (free-slot (view t)) process-slots or eqb (free-namespace-slot (view t)) namespace-slots) refl g
+  where
+    go : (x : Bool) → eqb (own-level (view t) i) deepest ≡ x → (b : Bool) → eqb (free-slot (view t)) process-slots or eqb (free-namespace-slot (view t)) namespace-slots ≡ b → SoundTable (clone-new t i .table) → sheet-of (clone-new t i .table) (follow t (clone-new t i .table) (at s)) ≡ sheet (view t) s
+    go true ea b eb g = rw (ea, clone-new) (as-it-was t s hs)
+    go false ea true eb g = rw (ea, eb, clone-new) (as-it-was t s hs)
+    go false ea false eb g =
+        rw (ea, eb, clone-new)
+        (stands-leaves t (birth t₁ i x) s h (rw (ea, eb, clone-new) at g) hs (birth-stands t₁ f₁ i x tx room₁ s o (new-stands t (sane t h) i room s hs))
+        (same-trans (view (birth t₁ i x)) (view t₁) (view t) s s s (birth-same t₁ f₁ i x tx room₁ s o) (new-same t (sane t h) i room s hs)))
+      where
+        x : ℕ
+        x = free-namespace-slot (view t)
+
+        t₁ : Table
+        t₁ = new-namespace t i
+
+        room : free-namespace-slot (view t) ≡ namespace-slots → ⊥
+        room = eqb-false _ _ (or-false-right _ _ eb)
+
+        li : So (living (view t) i)
+        li = runs-lives t i k
+
+        f₁ : Sane t₁
+        f₁ = namespace-sane t (sane t h) i li (eqb-false _ _ ea) room
+
+        tx : So (namespace-taken (view t₁) x)
+        tx = x-taken t (sane t h) i room
+
+        room₁ : free-slot (view t₁) ≡ process-slots → ⊥
+        room₁ e = eqb-false _ _ (or-false-left _ _ eb) (sym (same-free t i) ∙ e)
+
+        o : below (view t₁) x s ≡ false
+        o = new-outside t (sane t h) i room s hs (lives-taken (view t) i li) f₁ (outsider t s i CloneNew a)
+
+-- ---- unshare by an outsider
+
+-- unshare
+pub unshare-leaves : MadeLeaves Unshare
+unfolding MadeLeaves make unshare set-children answers granted refused namespace-taken
+unshare-leaves t s i h hs k a g = go (process t i .unshared) refl (eqb (own-level (view t) i) deepest) refl (eqb (free-namespace-slot (view t)) namespace-slots) refl
+  where
+    go : (m : Bool) → process t i .unshared ≡ m → (x : Bool) → eqb (own-level (view t) i) deepest ≡ x → (b : Bool) → eqb (free-namespace-slot (view t)) namespace-slots ≡ b → sheet-of (unshare t i .table) (follow t (unshare t i .table) (at s)) ≡ sheet (view t) s
+    go true em x ea b eb = rw (em, unshare) (as-it-was t s hs)
+    go false em true ea b eb = rw (em, ea, unshare) (as-it-was t s hs)
+    go false em false ea true eb = rw (em, ea, eb, unshare) (as-it-was t s hs)
+    go false em false ea false eb =
+        rw (em, ea, eb, unshare)
+        (freed-leaves t _ s h (unshare-sane t h i k (eqb-false _ _ ea) room) hs (new-stands t (sane t h) i room s hs)
+        (same-trans _ (view t₁) (view t) s s s
+        (same-still (view t₁) _ s (near (view t₁) s) f₁ (put-still t₁ f₁ i (with-children (process t₁ i) (free-namespace-slot (view t)) true) (record { owns = refl; parents = refl; pids = refl }) s (new-seen t (sane t h) i room s hs i ∙ outsider t s i Unshare a)))
+        (new-same t (sane t h) i room s hs)))
+      where
+        room : free-namespace-slot (view t) ≡ namespace-slots → ⊥
+        room = eqb-false _ _ eb
+
+        t₁ : Table
+        t₁ = new-namespace t i
+
+        f₁ : Facts (view t₁)
+        f₁ = namespace-sane t (sane t h) i (runs-lives t i k) (eqb-false _ _ ea) room .facts

@@ -1,0 +1,123 @@
+-- Freeing the namespaces that nobody holds leaves the sheet of S.
+use Prim.Native.Nat.{ℕ}
+use mathlib.Core.Bool.{Bool, true, false, So, false≢true}
+use mathlib.Core.List.{List, _∷_, map, []}
+use mathlib.Core.Logic.{inl, ⊎-elim}
+use mathlib.Core.Path.{_≡_, refl, sym, _∙_, ap, subst}
+use borrow.Author.Tests.{eqb-true}
+use Rattle.rules.proofs.Keeps.Freed.{restrict, kept-up, kept-children, kept-own, kept-by, kept-root, freed-view, freed-keeps}
+use Rattle.rules.proofs.Laws.Below.{deep-namespace, not-root}
+use Rattle.rules.proofs.Laws.Facts.{Facts, facts, Sane, seen-taken, seen-below}
+use Rattle.rules.proofs.Laws.Lists.{In}
+use Rattle.rules.proofs.Laws.Slots.{children-of, init-own, alive-taken, init-taken}
+use Rattle.rules.proofs.Laws.Tests.{isnt-so, no-so, cases}
+use Rattle.sameness.proofs.Anchor.{name-no-slot}
+use Rattle.sameness.proofs.Remain.{Remain, lit, row-remain, seen-remain, pid-in-remain, name-remain, everyone}
+use Rattle.sameness.proofs.Same.{Same, sheets-of-same, listed-seen}
+use Rattle.sameness.proofs.Twins.{Pair}
+use Rattle.sameness.specs.Events.{at, follow, gone, sheet-of}
+use Rattle.rules.specs.Freeing.{freed, kept}
+use Rattle.rules.specs.Read.{View, all-seen, is-init, namespace-taken, seen, taken, view, alive, init}
+use Rattle.sameness.specs.Sheet.{name, row, sheet}
+use Rattle.rules.specs.Sound.{SoundTable}
+use Rattle.table.specs.Tests.{if_then_else_}
+use Rattle.table.specs.declared.Table.{Table}
+
+module _ (v : View) (f : Facts v) where
+  -- the view once they are freed
+  abbrev w : View
+  w = restrict (kept v) v
+
+  remain : Remain v w (kept v) everyone
+  remain =
+      record {
+        owns = λ i q. refl;
+        pids = λ i l q. refl;
+        gone = λ i q. absurd (false≢true (sym q));
+        ups = λ n k. rw k;
+        levels = λ n k. rw k;
+        lives = λ n k. rw k;
+        up-kept = λ n k h e. kept-up v f n (deep-namespace v n k e) (not-root v f n k e) h;
+        own-kept = λ i q t. kept-own v f i t;
+        init-kept = λ n k a. refl;
+      }
+
+  seen-freed : (s i : ℕ) → seen w s i ≡ seen v s i
+  seen-freed s i = seen-remain v w (kept v) everyone f remain s i refl
+
+  row-freed : (s i : ℕ) → So (kept v s) → So (taken v i) → row w s i ≡ row v s i
+  unfolding row
+  row-freed s i ks h =
+      row-remain v w (kept v) everyone f remain s i ks refl h
+      ∙ (λ z. lit v s i (v .state i) (v .handled i) (v .pending i) (v .unshared i) (pid-in-remain v w (kept v) everyone f remain s (v .parent i) ks refl z) (children z) (last z))
+    where
+      children : name w s (v .children i) ≡ name v s (v .children i)
+      children = ⊎-elim (λ x. name-remain v w (kept v) everyone f remain s (v .children i) ks (kept-children v f i h) x) (λ e. name-no-slot w s _ e ∙ sym (name-no-slot v s _ e)) (children-of v f i h)
+
+      last : (if is-init v i then w .last (v .own i) else 0) ≡ (if is-init v i then v .last (v .own i) else 0)
+      last = rw (kept-own v f i h)
+
+  module _ (s : ℕ) where
+    same-freed : So (kept v s) → Same w v s s
+    same-freed ks =
+        record {
+          levels = rw ks;
+          there = λ i k. let q = sym (seen-freed s i) ∙ k in (i, q, row-freed s i ks (seen-taken v s i q));
+          back = λ i k. (i, seen-freed s i ∙ k, row-freed s i ks (seen-taken v s i k));
+        }
+
+    stands-freed : So (kept v s) → So (namespace-taken v s) → So (namespace-taken w s)
+    unfolding namespace-taken
+    stands-freed ks h = rw ks h
+
+    -- S freed: nobody saw from it
+    gone-freed : kept v s ≡ false → namespace-taken w s ≡ false
+    unfolding namespace-taken
+    gone-freed k = rw k (isnt-so (λ h. ⊎-elim (λ z. no-so k (subst (λ n. So (kept v n)) (sym (eqb-true s 0 z)) (kept-root v f))) (λ z. false≢true z) (cases _ _ h)))
+
+    nobody-freed : kept v s ≡ false → (i : ℕ) → So (seen v s i) → ⊥
+    nobody-freed k i h = no-so k (kept-by v f s i (seen-taken v s i h) (inl (seen-below v s i h)))
+
+    -- a living namespace is kept
+    alive-kept : So (alive v s) → So (kept v s)
+    alive-kept a = subst (λ n. So (kept v n)) (init-own v f s a) (kept-own v f (init v s) (init-taken v f s a))
+
+-- a sheet with nobody to see
+pub empty-sheet : (v : View) (s l : ℕ) → ((i : ℕ) → So (seen v s i) → ⊥) → v .level s ≡ l → sheet v s ≡ record { level = l; rows = [] }
+unfolding sheet
+empty-sheet v s l h e = λ z. record { level = e z; rows = ap (map (row v s)) (go (all-seen v s) (λ i m. h i (listed-seen v s i m))) z }
+  where
+    go : (xs : List ℕ) → ((i : ℕ) → In i xs → ⊥) → xs ≡ []
+    go [] n = refl
+    go (x ∷ xs) n = absurd (n x (inl refl))
+
+-- where S is then, and its sheet
+pub sheet-freed : (t₀ t : Table) → Sane t → (s : ℕ) → So (namespace-taken (view t) s) → (kept (view t) s ≡ false → view t .level s ≡ view t₀ .level s) → sheet-of (freed t) (follow t₀ (freed t) (at s)) ≡ sheet (view t) s
+unfolding follow sheet-of
+sheet-freed t₀ t x s h e = go (kept (view t) s) refl
+  where
+    f : Facts (view t)
+    f = x .facts
+
+    ev : view (freed t) ≡ restrict (kept (view t)) (view t)
+    ev = freed-view t (x .shape-of)
+
+    go : (b : Bool) → kept (view t) s ≡ b → sheet-of (freed t) (if namespace-taken (view (freed t)) s then at s else gone (view t₀ .level s)) ≡ sheet (view t) s
+    go true k =
+        rw (ap (λ (u : View). namespace-taken u s) ev ∙ stands-freed (view t) f s k h)
+        (ap (λ (u : View). sheet u s) ev ∙ sheets-of-same _ (view t) s s (subst Facts ev (facts (freed t) (freed-keeps t (x .shape-of) f))) f (stands-freed (view t) f s k h) h (same-freed (view t) f s k))
+    go false k = rw (ap (λ (u : View). namespace-taken u s) ev ∙ gone-freed (view t) f s k) (sym (empty-sheet (view t) s _ (nobody-freed (view t) f s k) (e k)))
+
+-- two tables in the middle of a call that are the same to S: so they are once freed
+pub freed-sheets : (t u t₁ u₁ : Table) → Sane t₁ → Sane u₁ → (s r : ℕ) → So (namespace-taken (view t₁) s) → So (namespace-taken (view u₁) r) → (kept (view t₁) s ≡ false → view t₁ .level s ≡ view t .level s) → (kept (view u₁) r ≡ false → view u₁ .level r ≡ view u .level r) → Same (view t₁) (view u₁) s r → sheet-of (freed t₁) (follow t (freed t₁) (at s)) ≡ sheet-of (freed u₁) (follow u (freed u₁) (at r))
+freed-sheets t u t₁ u₁ a b s r hs hr es er w = sheet-freed t t₁ a s hs es ∙ sheets-of-same (view t₁) (view u₁) s r (a .facts) (b .facts) hs hr w ∙ sym (sheet-freed u u₁ b r hr er)
+
+-- and where S lives
+pub freed-alike : (t u t₁ u₁ : Table) → Sane t₁ → Sane u₁ → (s r : ℕ) → Pair (view t₁) (view u₁) s r → sheet-of (freed t₁) (follow t (freed t₁) (at s)) ≡ sheet-of (freed u₁) (follow u (freed u₁) (at r))
+freed-alike t u t₁ u₁ a b s r p =
+    freed-sheets t u t₁ u₁ a b s r (alive-taken (view t₁) (a .facts) s (p .alive-v)) (alive-taken (view u₁) (b .facts) r (p .alive-u))
+    (λ k. absurd (no-so k (alive-kept (view t₁) (a .facts) s (p .alive-v)))) (λ k. absurd (no-so k (alive-kept (view u₁) (b .facts) r (p .alive-u)))) (p .same)
+
+-- a table in the middle of an outsider's call that is the same to S as before
+pub freed-leaves : (t t₁ : Table) (s : ℕ) → SoundTable t → Sane t₁ → So (namespace-taken (view t) s) → So (namespace-taken (view t₁) s) → Same (view t₁) (view t) s s → sheet-of (freed t₁) (follow t (freed t₁) (at s)) ≡ sheet (view t) s
+freed-leaves t t₁ s h x hs hs₁ w = sheet-freed t t₁ x s hs₁ (λ k. w .levels) ∙ sheets-of-same (view t₁) (view t) s s (x .facts) (facts t h) hs₁ hs w

@@ -1,0 +1,139 @@
+-- Demand 3 is not empty: tables and lists to which it applies; for each of the four touches a call by which the sheet
+-- changes; and two tables on which the lack of room makes the answers differ. By computation.
+use Prim.Native.Nat.{ℕ}
+use mathlib.Core.Bool.{Bool, true, false, So}
+use mathlib.Core.List.{List, [], _∷_, map}
+use mathlib.Core.Option.{some}
+use mathlib.Core.Path.{_≡_, refl, sym, _∙_}
+use lib.IntN.{pos}
+use Rattle.rules.proofs.Open.{everything}
+use Rattle.sameness.proofs.Open.{sheets}
+use Rattle.sameness.proofs.Demand3.{sameness}
+use Rattle.rules.proofs.Tables.{crowd, after}
+use Rattle.sameness.specs.Claims.{Sameness, Agree, observations}
+use Rattle.sameness.specs.Events.{Place, at, Event, inside, outside, sheet-of, inside-calls, happens, answer-of, next-table, next-place}
+use Rattle.table.specs.Fresh.{fresh}
+use Rattle.rules.specs.Read.{view, alive}
+use Rattle.sameness.specs.Sheet.{Sheet, by-init, sheet}
+use Rattle.rules.specs.Sound.{SoundTable}
+use Rattle.sameness.specs.Touches.{touches, untouched}
+use Rattle.table.specs.declared.Answer.the-variants.{Refused, Number}
+use Rattle.table.specs.declared.Call.{Call}
+use Rattle.table.specs.declared.Call.the-variants.{Clone, CloneNew, Setns, Kill, Exit, Wait, Getpid, Getppid}
+use Rattle.table.specs.declared.End.the-variants.{Exited}
+use Rattle.table.specs.declared.Refusal.the-variants.{Eagain}
+use Rattle.table.specs.declared.State.{State}
+use Rattle.table.specs.declared.State.the-variants.{Running, Stopped, Ended}
+use Rattle.table.specs.declared.Table.{Table}
+
+-- ---- where it applies
+
+-- a namespace in a table with nobody else, and one in a table with three more processes
+abbrev alone : Table
+alone = after fresh ((0, CloneNew) ∷ [])
+
+abbrev among : Table
+among = after fresh ((0, Clone) ∷ (0, Clone) ∷ (1, Clone) ∷ (0, CloneNew) ∷ [])
+
+-- the sheet of both, and of the one in a full table below: a lone init
+abbrev lone-init : Sheet
+lone-init =
+    record {
+      level = 1;
+      rows =
+          record { pids = 1 ∷ 0 ∷ 0 ∷ 0 ∷ 0 ∷ 0 ∷ 0 ∷ []; state = Running; handled = 0; pending = 0; unshared = false; parent = 0; own = by-init 1; children = by-init 1; last = 1 } ∷ [];
+    }
+
+-- the same inside calls, with other calls between
+abbrev some-calls : List Event
+some-calls =
+    inside 1 Clone ∷ outside 0 Clone ∷ inside 2 Getppid ∷ inside 1 (Kill (pos 2) (pos 9)) ∷ inside 1 Wait ∷ inside 7 Getpid ∷ []
+
+abbrev other-calls : List Event
+other-calls =
+    outside 2 (Exit (pos 3)) ∷ inside 1 Clone ∷ inside 2 Getppid ∷ outside 0 Wait ∷ inside 1 (Kill (pos 2) (pos 9))
+    ∷ outside 200 Clone ∷ inside 1 Wait ∷ inside 7 Getpid ∷ outside 0 Clone ∷ []
+
+alone-sound : SoundTable alone
+unfolding everything sheets
+alone-sound = record { shape = refl; rules = refl }
+
+among-sound : SoundTable among
+unfolding everything sheets
+among-sound = record { shape = refl; rules = refl }
+
+alone-lives : So (alive (view alone) 1)
+unfolding everything sheets
+alone-lives = refl
+
+among-lives : So (alive (view among) 1)
+unfolding everything sheets
+among-lives = refl
+
+alone-sheet : sheet (view alone) 1 ≡ lone-init
+unfolding everything sheets
+alone-sheet = refl
+
+among-sheet : sheet (view among) 1 ≡ lone-init
+unfolding everything sheets
+among-sheet = refl
+
+alone-untouched : So (untouched alone (at 1) some-calls)
+unfolding everything sheets
+alone-untouched = refl
+
+among-untouched : So (untouched among (at 1) other-calls)
+unfolding everything sheets
+among-untouched = refl
+
+-- All that demand 3 asks is met, on two tables of which one has twice as many processes.
+pub applies : Agree (observations alone (at 1) some-calls) (observations among (at 1) other-calls)
+unfolding Sameness inside-calls
+applies =
+    sameness alone among 1 1 alone-sound among-sound alone-lives among-lives (alone-sheet ∙ sym among-sheet) some-calls other-calls refl
+    alone-untouched among-untouched
+
+-- ---- each touch changes a sheet
+
+-- what is seen of S in a place: the states of its processes
+abbrev states : Table → Place → List State
+states t p = map (λ r. r .state) (sheet-of t p .rows)
+
+-- a call by an outsider, judged a touch, and the states before and after it
+abbrev Touch : Type 0
+Touch = Table × ℕ × ℕ × Call × List State × List State
+
+abbrev changes : List Touch
+changes =
+    -- a child cloned into the subtree
+    (after fresh ((0, CloneNew) ∷ (0, Setns (pos 2)) ∷ []), 1, 0, Clone, Running ∷ [], Running ∷ Running ∷ [])
+    -- a signal sent to a process in it
+    ∷ (alone, 1, 0, Kill (pos 2) (pos 19), Running ∷ [], Stopped ∷ [])
+    -- the end of an init above S, by a signal and by its exit
+    ∷ (after fresh ((0, CloneNew) ∷ (1, CloneNew) ∷ []), 2, 0, Kill (pos 2) (pos 9), Running ∷ [], [])
+    ∷ (after fresh ((0, CloneNew) ∷ (1, CloneNew) ∷ []), 2, 1, Exit (pos 0), Running ∷ [], [])
+    -- a wait that removes one of its processes
+    ∷ (after fresh ((0, CloneNew) ∷ (0, Setns (pos 2)) ∷ (0, Clone) ∷ (2, Exit (pos 0)) ∷ []), 1, 0, Wait, Running ∷ Ended (Exited 0) ∷ [], Running ∷ [])
+    ∷ []
+
+-- the judgement, and the states before and after
+abbrev seen-of : Touch → Bool × List State × List State
+seen-of (t, s, i, c, b, a) = (touches t (at s) i c, states t (at s), states (next-table t (at s) (outside i c)) (next-place t (at s) (outside i c)))
+
+pub touched : map seen-of changes ≡ map (λ (x : Touch). (true, x .4, x .5)) changes
+unfolding everything sheets
+touched = refl
+
+-- ---- the lack of room
+
+-- the same namespace in a table with 64 processes
+abbrev full : Table
+full = after (crowd 62) ((0, CloneNew) ∷ [])
+
+-- The same sheet, the same call, and one answer is "no room".
+pub no-room :
+    (sheet (view full) 1 ≡ lone-init)
+    × (answer-of (happens alone (at 1) (inside 1 Clone)) ≡ some (Number 2))
+    × (answer-of (happens full (at 1) (inside 1 Clone)) ≡ some (Refused Eagain))
+unfolding everything sheets
+no-room = (refl, refl, refl)

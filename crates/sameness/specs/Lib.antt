@@ -1,0 +1,5 @@
+-- "The sheet of a namespace" of document 01 as definitions, in reading order, and demand 3.
+pub mod Sheet
+pub mod Events
+pub mod Touches
+pub mod Claims

@@ -1,0 +1,88 @@
+-- A table by its slots: what stands at each, the conditions that a record can be in, and a table with a record changed.
+use Prim.Native.Nat.{ℕ}
+use mathlib.Core.Bool.{Bool, true, false}
+use mathlib.Core.List.{[]}
+use lib.ListN.{getD, set}
+use Rattle.table.specs.Limits.{process-slots, namespace-slots, no-slot}
+use Rattle.table.specs.Tests.{changed-to}
+use Rattle.table.specs.declared.Life.{Life}
+use Rattle.table.specs.declared.Life.the-variants.{Unborn, Alive, Dead}
+use Rattle.table.specs.declared.Namespace.{Namespace}
+use Rattle.table.specs.declared.Pid.{Pid}
+use Rattle.table.specs.declared.Process.{Process}
+use Rattle.table.specs.declared.State.{State}
+use Rattle.table.specs.declared.State.the-variants.{Running, Stopped, Ended}
+use Rattle.table.specs.declared.Table.{Table}
+
+-- ---- what stands at a slot
+
+-- a number as a field holds it
+abbrev pub to-pid : ℕ → Pid
+to-pid k = record { 0 = k }
+
+-- What is read past the end of an array: all zero, running, unborn.
+abbrev pub no-pid : Pid
+no-pid = record { 0 = 0 }
+
+abbrev pub no-process : Process
+no-process = record { own = record { 0 = 0 }; children = record { 0 = 0 }; parent = record { 0 = 0 }; state = Running; handled = 0; pending = 0; unshared = false; pids = [] }
+
+abbrev pub no-namespace : Namespace
+no-namespace = record { parent = record { 0 = 0 }; level = 0; last = no-pid; life = Unborn }
+
+-- the process at a slot, the namespace at a slot, and a process's number at a level
+abbrev pub process : Table → ℕ → Process
+process t i = getD (t .processes) i no-process
+
+abbrev pub namespace : Table → ℕ → Namespace
+namespace t n = getD (t .namespaces) n no-namespace
+
+abbrev pub pid-at : Process → ℕ → ℕ
+pid-at p l = getD (p .pids) l no-pid .0
+
+-- ---- conditions
+
+-- The state is running, stopped or ended.
+abbrev pub is-running : State → Bool
+is-running Running = true
+is-running Stopped = false
+is-running (Ended e) = false
+
+abbrev pub is-ended : State → Bool
+is-ended Running = false
+is-ended Stopped = false
+is-ended (Ended e) = true
+
+-- The condition is unborn (no process yet), alive (with its init) or dead (init ended).
+abbrev pub is-unborn : Life → Bool
+is-unborn Unborn = true
+is-unborn (Alive i) = false
+is-unborn Dead = false
+
+abbrev pub is-alive : Life → Bool
+is-alive Unborn = false
+is-alive (Alive i) = true
+is-alive Dead = false
+
+abbrev pub is-dead : Life → Bool
+is-dead Unborn = false
+is-dead (Alive i) = false
+is-dead Dead = true
+
+abbrev pub init-of : Life → ℕ
+init-of Unborn = no-slot
+init-of (Alive i) = i .0
+init-of Dead = no-slot
+
+-- ---- a table with a record changed
+
+-- a process, or a namespace, put at a slot
+abbrev pub put : Table → ℕ → Process → Table
+put t i p = record { processes = set (t .processes) i p; namespaces = t .namespaces }
+
+abbrev pub put-namespace : Table → ℕ → Namespace → Table
+put-namespace t n s = record { processes = t .processes; namespaces = set (t .namespaces) n s }
+
+-- each process, and each namespace, changed by its slot
+abbrev pub changed : Table → (ℕ → Process → Process) → (ℕ → Namespace → Namespace) → Table
+changed t f g = record { processes = changed-to f no-process process-slots (t .processes); namespaces = changed-to g no-namespace namespace-slots (t .namespaces) }
