@@ -1,9 +1,11 @@
 -- However an input is cut into chunks, the lines are the same.
-use Prim.Native.Nat.{ℕ}
+use Prim.Native.Nat.{ℕ, _≤_}
 use mathlib.Core.Bool.{true, false}
 use mathlib.Core.List.{List, [], _∷_, _++_, append-assoc}
 use mathlib.Core.Path.{_≡_, refl, sym, ap, ap₂, _∙_}
 use lib.Dec.{eqb}
+use lib.ListN.{length}
+use native.Mathlib.Omega.{arith}
 use Rattle.lines.specs.Splitting.{ended, left, last-line, lines, whole, lines-by-chunks, Cuts-make-no-difference}
 use Rattle.script.specs.Texts.{line-feed}
 use Rattle.table.proofs.Chains.{by-bool, pick-yes, pick-no}
@@ -33,6 +35,31 @@ ended-none l = refl
 pub left-none : (l : List ℕ) → left l [] ≡ l
 unfolding left
 left-none l = refl
+
+-- ---- how many
+
+-- How many lines end does not depend on what stands before them.
+pub ended-count : (l m xs : List ℕ) → length (ended l xs) ≡ length (ended m xs)
+ended-count l m [] = ap length (ended-none l) ∙ sym (ap length (ended-none m))
+ended-count l m (b ∷ bs) =
+    by-bool (eqb b line-feed)
+    (λ e. ap length (ended-here l b bs e) ∙ sym (ap length (ended-here m b bs e)))
+    (λ e.
+    ap length (ended-later l b bs e) ∙ ended-count (l ++ b ∷ []) (m ++ b ∷ []) bs
+    ∙ sym (ap length (ended-later m b bs e)))
+
+pub ended-few : (l xs : List ℕ) → length (ended l xs) ≤ length xs
+ended-few l [] = let e = ap length (ended-none l) in omega arith
+ended-few l (b ∷ bs) =
+    by-bool (eqb b line-feed)
+    (λ e.
+    let n = ap length (ended-here l b bs e) in
+    let f = ended-few [] bs in
+    omega arith)
+    (λ e.
+    let n = ap length (ended-later l b bs e) in
+    let f = ended-few (l ++ b ∷ []) bs in
+    omega arith)
 
 -- ---- two parts
 

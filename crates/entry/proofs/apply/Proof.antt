@@ -43,7 +43,6 @@ use Rattle.table.specs.declared.Table.{Table}
 use Rattle.table.specs.declared.Call.{Call}
 use Rattle.table.specs.declared.ProcSlot.{ProcSlot}
 use Rattle.table.specs.declared.Outcome.{Outcome}
-use Rattle.table.specs.declared.Reply.{Reply}
 use Rattle.table.proofs.Table as T
 use Rattle.table.proofs.Table.Laws as T′
 use Rattle.table.proofs.ProcSlot as S
@@ -58,6 +57,7 @@ use Rattle.calls.proofs.step as step
 use Rattle.calls.proofs.step.Symbol as step-def
 use Rattle.calls.proofs.step.Symbol.{name as #calls·step}
 use Rattle.calls.proofs.step.Met as step-thm
+use Rattle.entry.proofs.Values.{mach, mach-s, mach-k, mach-r}
 use Rattle.entry.proofs.apply.Key.{name as #entry·apply}
 use Rattle.entry.proofs.apply as apply
 use Rattle.entry.proofs.apply.Statement as stated
@@ -65,19 +65,6 @@ use Rattle.entry.proofs.apply.Code as code
 
 abbrev stayed : Stays (apply.ended .signature .params) (apply.ended .kept)
 stayed = (stay-ref (0 ∷ []) tt (plain (λ _. T.the-row)), (stay-none (λ _. S.the-row) yes, (stay-none (λ _. K.the-row) yes, tt)))
-
--- the machine values of a table, a slot, a call and a reply
-abbrev mach : Table → Val
-mach = LL.val T.the-type T′.the-laws
-
-abbrev mach-s : ProcSlot → Val
-mach-s = LL.val S.the-type S′.the-laws
-
-abbrev mach-k : Call → List Val
-mach-k = EL.vals K.the-type K′.the-laws
-
-abbrev mach-r : Reply → Val
-mach-r = LL.val R.the-type R′.the-laws
 
 -- what whoever holds an outcome knows of its parts
 table-is : (r : Outcome) (v : Val) → Is O.the-row r (v ∷ []) → Is T.the-row (r .table) (mach (r .table) ∷ [])

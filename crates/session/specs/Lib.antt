@@ -1,0 +1,2 @@
+-- A session's steps, by what a script gives.
+pub mod Sessions
