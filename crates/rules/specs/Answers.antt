@@ -13,6 +13,7 @@ use Rattle.table.specs.declared.Refusal.{Refusal}
 use Rattle.table.specs.declared.Refusal.the-variants.{Unsound, NotRunning, Einval, Enosys, Esrch, Ebusy, Echild, Enospc, Enomem, Eagain}
 use Rattle.table.specs.declared.Table.{Table}
 
+-- a number below 0
 abbrev pub minus : ℕ → ℤ
 minus k = negℤ (pos k)
 
@@ -41,6 +42,7 @@ end-of (Refused e) = none
 end-of (Number k) = none
 end-of (Reaped k e) = some e
 
+-- The answer is a refusal.
 unfoldable pub is-refused : Answer → Bool
 is-refused (Refused e) = true
 is-refused (Number k) = false
@@ -67,5 +69,6 @@ refused t e = record { reply = record { answer = Refused e; child = record { 0 =
 unfoldable pub granted : Table → Answer → Outcome
 granted t a = record { reply = record { answer = a; child = record { 0 = no-slot } }; table = t }
 
+-- granted, with a number
 unfoldable pub answers : Table → ℕ → Outcome
 answers t k = granted t (Number k)

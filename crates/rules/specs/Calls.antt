@@ -41,17 +41,19 @@ abbrev pub natural : ℤ → ℕ
 natural (pos k) = k
 natural (negsuc k) = 0
 
--- how a process's number is seen from the caller's own namespace, and that namespace's level
+-- the number of the process at i, as seen from the caller's own namespace
 abbrev pub pid-to : View → ℕ → ℕ → ℕ
 pid-to v c i = pid-seen v (v .own c) i
 
+-- the level of that namespace
 abbrev pub own-level : View → ℕ → ℕ
 own-level v c = v .level (v .own c)
 
--- No room: 64 processes, 32 namespaces, counted before the call.
+-- No room: 64 processes, or 32 namespaces, counted before the call.
 abbrev pub processes-full : View → Bool
 processes-full v = eqb (free-slot v) process-slots
 
+-- likewise of namespaces
 abbrev pub namespaces-full : View → Bool
 namespaces-full v = eqb (free-namespace-slot v) namespace-slots
 
@@ -150,13 +152,15 @@ wait t c =
 
 -- ---- handle and poll
 
--- handle s on or off: 0; off also drops a pending s.
+-- with signal s handled
 unfoldable pub handle-on : Process → ℕ → Process
 handle-on p s = with-signals p (with-signal (p .handled) s) (p .pending)
 
+-- off also drops a pending s
 unfoldable pub handle-off : Process → ℕ → Process
 handle-off p s = with-signals p (without-signal (p .handled) s) (without-signal (p .pending) s)
 
+-- handle s on or off: 0.
 unfoldable pub handle : Table → ℕ → ℤ → Bool → Outcome
 handle t c s on =
     if not (within 1 signals s) or eqb (natural s) sigkill or eqb (natural s) sigstop then refused t Einval

@@ -15,5 +15,6 @@ unfoldable pub kept : View → ℕ → Bool
 kept v n =
     eqb n 0 or any process-slots (λ i. taken v i and (below v (v .own i) n or below v (v .children i) n))
 
+-- the table with those alone
 unfoldable pub freed : Table → Table
 freed t = changed t (λ i p. p) (λ n s. if kept (view t) n then s else empty-namespace)

@@ -67,12 +67,15 @@ child-of v p i = taken v i and eqb (v .parent i) p
 unfoldable pub namespace-taken : View → ℕ → Bool
 namespace-taken v n = eqb n 0 or not (eqb (v .level n) 0)
 
+-- The condition is unborn (no process yet),
 abbrev pub unborn : View → ℕ → Bool
 unborn v n = is-unborn (v .life n)
 
+-- alive (with its init)
 abbrev pub alive : View → ℕ → Bool
 alive v n = is-alive (v .life n)
 
+-- or dead (init ended).
 abbrev pub dead : View → ℕ → Bool
 dead v n = is-dead (v .life n)
 

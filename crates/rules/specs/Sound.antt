@@ -13,16 +13,19 @@ use Rattle.table.specs.declared.State.{State}
 use Rattle.table.specs.declared.State.the-variants.{Running, Stopped, Ended}
 use Rattle.table.specs.declared.Table.{Table}
 
--- f holds of each process, of each but the root init, of each namespace, of each but the root
+-- f holds of each process
 abbrev pub each-process : View → (ℕ → Bool) → Bool
 each-process v f = all process-slots (λ i. taken v i implies f i)
 
+-- of each but the root init
 abbrev pub each-other-process : View → (ℕ → Bool) → Bool
 each-other-process v f = each-process v (λ i. eqb i 0 or f i)
 
+-- of each namespace
 abbrev pub each-namespace : View → (ℕ → Bool) → Bool
 each-namespace v f = all namespace-slots (λ n. namespace-taken v n implies f n)
 
+-- of each but the root
 abbrev pub each-other-namespace : View → (ℕ → Bool) → Bool
 each-other-namespace v f = each-namespace v (λ n. eqb n 0 or f n)
 
@@ -42,15 +45,17 @@ root-namespace v = alive v 0 and eqb (v .level 0) 0 and eqb (v .up 0) no-slot
 unfoldable pub inits : View → Bool
 inits v = each-namespace v (λ n. alive v n implies living v (init v n) and eqb (v .own (init v n)) n)
 
--- Empty slots are all zero (running, unborn).
+-- all zero, and running
 unfoldable pub zero-process : View → ℕ → Bool
 zero-process v i =
     eqb (v .own i) 0 and eqb (v .children i) 0 and eqb (v .parent i) 0 and is-running (v .state i) and eqb (v .handled i) 0
     and eqb (v .pending i) 0 and not (v .unshared i) and all levels (λ l. eqb (v .pid i l) 0)
 
+-- all zero, and unborn
 unfoldable pub zero-namespace : View → ℕ → Bool
 zero-namespace v n = eqb (v .up n) 0 and eqb (v .level n) 0 and eqb (v .last n) 0 and unborn v n
 
+-- Empty slots are all zero (running, unborn).
 unfoldable pub empty-slots : View → Bool
 empty-slots v =
     all process-slots (λ i. taken v i or zero-process v i)
@@ -70,7 +75,7 @@ below-dead v = each-other-namespace v (λ n. dead v (v .up n) implies dead v n)
 unfoldable pub holds : View → ℕ → ℕ → Bool
 holds v n i = taken v i and eqb (v .children i) n
 
--- An unborn one has last number 0, no members, no namespace below it and one holder, whose own namespace is its parent.
+-- n has last number 0, no members, no namespace below it and one holder, whose own namespace is its parent.
 unfoldable pub unborn-namespace : View → ℕ → Bool
 unborn-namespace v n =
     eqb (v .last n) 0
@@ -79,6 +84,7 @@ unborn-namespace v n =
     and one process-slots (holds v n)
     and all process-slots (λ i. holds v n i implies eqb (v .own i) (v .up n))
 
+-- An unborn one is such.
 unfoldable pub unborn-namespaces : View → Bool
 unborn-namespaces v = each-namespace v (λ n. unborn v n implies unborn-namespace v n)
 
@@ -151,18 +157,19 @@ ended-bare v =
     each-process v
     (λ i. v .ended i implies eqb (v .children i) no-slot and eqb (v .handled i) 0 and eqb (v .pending i) 0 and not (v .unshared i))
 
--- its kept number is 0 to 255, or its signal 1 to 31.
+-- a kept number is 0 to 255, a signal 1 to 31
 abbrev pub kept-end : State → Bool
 kept-end Running = true
 kept-end Stopped = true
 kept-end (Ended (Exited k)) = ltb k statuses
 kept-end (Ended (Signaled s)) = leb 1 s and ltb s signals
 
+-- its kept number is 0 to 255, or its signal 1 to 31.
 unfoldable pub ends-kept : View → Bool
 ends-kept v = each-process v (λ i. kept-end (v .state i))
 
--- A namespace slot is taken exactly if some process, ended or not, has it as own, some process holds it for children,
--- it has a child namespace, or it is the root (004).
+-- some process, ended or not, has n as own, some process holds it for children, it has a child namespace, or it is the
+-- root (004)
 unfoldable pub held : View → ℕ → Bool
 held v n =
     eqb n 0
@@ -170,6 +177,7 @@ held v n =
     or any process-slots (holds v n)
     or any namespace-slots (λ m. not (eqb m 0) and namespace-taken v m and eqb (v .up m) n)
 
+-- A namespace slot is taken exactly if that is so.
 unfoldable pub namespaces-held : View → Bool
 namespaces-held v = all namespace-slots (λ n. agree (namespace-taken v n) (held v n))
 
@@ -181,6 +189,7 @@ sound-view v =
     and unborn-members v and parents v and first-parents v and children-namespaces v and handled-signals v
     and pending-signals v and ended-bare v and ends-kept v and namespaces-held v
 
+-- the same of a table
 abbrev pub sound : Table → Bool
 sound t = sound-view (view t)
 

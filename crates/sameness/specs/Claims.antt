@@ -37,6 +37,7 @@ unfoldable pub observations : Table → Place → List Event → List Observed
 observations t p [] = record { answer = none; sheet = sheet-of t p } ∷ []
 observations t p (e ∷ es) = observe t p e (observations (next-table t p e) (next-place t p e) es)
 
+-- an answer of "no room"
 unfoldable pub lacks-room : Observed → Bool
 lacks-room o = elim (o .answer) [ none ↦ false | some a ↦ is-no-room a ]
 

@@ -66,17 +66,20 @@ unfoldable pub happens : Table → Place → Event → Option Outcome
 happens t p (inside k c) = if eqb (slot-of t p k) process-slots then none else some (step t (slot-of t p k) c)
 happens t p (outside i c) = some (step t i c)
 
+-- the table then; where no call is made, it stays
 unfoldable pub table-after : Table → Option Outcome → Table
 table-after t none = t
 table-after t (some r) = r .table
 
+-- the answer, without the slot told to the host
 unfoldable pub answer-of : Option Outcome → Option Answer
 answer-of none = none
 answer-of (some r) = some (r .reply .answer)
 
--- the table and the place after an event
+-- the table after an event
 abbrev pub next-table : Table → Place → Event → Table
 next-table t p e = table-after t (happens t p e)
 
+-- where S is then
 abbrev pub next-place : Table → Place → Event → Place
 next-place t p e = follow t (next-table t p e) p

@@ -41,6 +41,7 @@ unfoldable pub nearest : (ℕ → Life) → (ℕ → ℕ) → ℕ → ℕ → �
 nearest life up zero n = n
 nearest life up (suc k) n = elim (is-alive (life n)) [ true ↦ n | false ↦ nearest life up k (up n) ]
 
+-- the same of a view
 abbrev pub nearest-alive : View → ℕ → ℕ → ℕ
 nearest-alive v k n = nearest (v .life) (v .up) k n
 

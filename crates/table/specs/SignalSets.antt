@@ -5,14 +5,17 @@ use lib.Dec.{eqb}
 use Rattle.table.specs.Limits.{signals}
 use Rattle.table.specs.Tests.{lowest}
 
+-- signal s is in the set m
 unfoldable pub has : ℕ → ℕ → Bool
 has m zero = eqb (m % 2) 1
 has m (suc s) = has (m / 2) s
 
+-- m with s
 unfoldable pub with-signal : ℕ → ℕ → ℕ
 with-signal m zero = m / 2 * 2 + 1
 with-signal m (suc s) = with-signal (m / 2) s * 2 + m % 2
 
+-- m without s
 unfoldable pub without-signal : ℕ → ℕ → ℕ
 without-signal m zero = m / 2 * 2
 without-signal m (suc s) = without-signal (m / 2) s * 2 + m % 2

@@ -14,13 +14,12 @@ use Rattle.table.specs.declared.State.{State}
 use Rattle.table.specs.declared.State.the-variants.{Running, Stopped, Ended}
 use Rattle.table.specs.declared.Table.{Table}
 
--- ---- what stands at a slot
-
 -- a number as a field holds it
 abbrev pub to-pid : ℕ → Pid
 to-pid k = record { 0 = k }
 
--- What is read past the end of an array: all zero, running, unborn.
+-- ---- what is read past the end of an array: all zero, running, unborn
+
 abbrev pub no-pid : Pid
 no-pid = record { 0 = 0 }
 
@@ -30,19 +29,22 @@ no-process = record { own = record { 0 = 0 }; children = record { 0 = 0 }; paren
 abbrev pub no-namespace : Namespace
 no-namespace = record { parent = record { 0 = 0 }; level = 0; last = no-pid; life = Unborn }
 
--- the process at a slot, the namespace at a slot, and a process's number at a level
+-- ---- what stands at a slot
+
+-- the process
 abbrev pub process : Table → ℕ → Process
 process t i = getD (t .processes) i no-process
 
+-- the namespace
 abbrev pub namespace : Table → ℕ → Namespace
 namespace t n = getD (t .namespaces) n no-namespace
 
+-- a process's number at a level
 abbrev pub pid-at : Process → ℕ → ℕ
 pid-at p l = getD (p .pids) l no-pid .0
 
--- ---- conditions
+-- ---- a state is running, stopped or ended
 
--- The state is running, stopped or ended.
 abbrev pub is-running : State → Bool
 is-running Running = true
 is-running Stopped = false
@@ -53,7 +55,8 @@ is-ended Running = false
 is-ended Stopped = false
 is-ended (Ended e) = true
 
--- The condition is unborn (no process yet), alive (with its init) or dead (init ended).
+-- ---- a namespace's condition is unborn (no process yet), alive (with its init) or dead (init ended)
+
 abbrev pub is-unborn : Life → Bool
 is-unborn Unborn = true
 is-unborn (Alive i) = false
@@ -69,6 +72,7 @@ is-dead Unborn = false
 is-dead (Alive i) = false
 is-dead Dead = true
 
+-- the slot of the init, or no slot
 abbrev pub init-of : Life → ℕ
 init-of Unborn = no-slot
 init-of (Alive i) = i .0
@@ -76,10 +80,11 @@ init-of Dead = no-slot
 
 -- ---- a table with a record changed
 
--- a process, or a namespace, put at a slot
+-- a process put at a slot
 abbrev pub put : Table → ℕ → Process → Table
 put t i p = record { processes = set (t .processes) i p; namespaces = t .namespaces }
 
+-- a namespace put at a slot
 abbrev pub put-namespace : Table → ℕ → Namespace → Table
 put-namespace t n s = record { processes = t .processes; namespaces = set (t .namespaces) n s }
 
