@@ -1,3 +1,4 @@
 -- What belongs to no one function.
 pub mod Writing
 pub mod Feeding
+pub mod Using

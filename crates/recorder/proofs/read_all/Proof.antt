@@ -1,0 +1,48 @@
+-- `read_all` keeps a session that is open.
+use borrow.Author.Needs.{needs}
+use mathlib.Core.List.{[]}
+use native.Mathlib.Omega.{arith}
+use Rattle.session.specs.Sessions.{Open}
+use Rattle.recorder.proofs.read_all.Statement.{statement}
+use Rattle.recorder.proofs.read_all.Tie as tie
+
+abbrev Inv-loop : tie.InvT-loop
+Inv-loop read₀ turns₀ read turns = Open (read .session .line)
+
+abbrev μ-loop : tie.MeasureT-loop
+μ-loop read₀ turns₀ read turns = turns
+
+start-requires : tie.Need-start-requires Inv-loop μ-loop
+start-requires c κs = search needs
+
+loop-holds : tie.Need-loop-holds Inv-loop μ-loop
+loop-holds c = record { line = []; carries = c .start .ensures .1 }
+
+read-some-requires : tie.Need-read-some-requires Inv-loop μ-loop
+read-some-requires c κs = c .before .before .loop .inv
+
+sub-turns : tie.Need-sub-turns Inv-loop μ-loop
+sub-turns c = omega arith
+
+loop-less : tie.Need-loop-less Inv-loop μ-loop
+loop-less c = omega arith
+
+loop-again : tie.Need-loop-again Inv-loop μ-loop
+loop-again c = search needs
+
+returns : tie.Need-returns Inv-loop μ-loop
+returns c = search needs
+
+pub read-all-spec : {M : Type 1} → statement M
+read-all-spec =
+    tie.close
+    (tie.spec
+    Inv-loop
+    μ-loop
+    start-requires
+    loop-holds
+    read-some-requires
+    sub-turns
+    loop-less
+    loop-again
+    returns)
