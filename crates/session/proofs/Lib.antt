@@ -2,3 +2,4 @@
 pub mod Writing
 pub mod Feeding
 pub mod Using
+pub mod Whole

@@ -1,2 +1,3 @@
 -- A session's steps, by what a script gives.
 pub mod Sessions
+pub mod Whole
