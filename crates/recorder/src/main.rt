@@ -55,9 +55,42 @@ fn read_all() -> Session
     s
 }
 
-fn main() {
+// What is printed in place of a run where there is any argument.
+fn print_usage() {
+    io::write_all(STDOUT_FILENO, b"usage: recorder < SCRIPT\n\n");
+    io::write_all(
+        STDOUT_FILENO,
+        b"Each line of the script is a call of the process in SLOT, from 0 to 255:\n",
+    );
+    io::write_all(
+        STDOUT_FILENO,
+        b"  SLOT clone [new]   SLOT unshare   SLOT setns N      SLOT kill N SIGNAL\n",
+    );
+    io::write_all(
+        STDOUT_FILENO,
+        b"  SLOT exit STATUS   SLOT wait      SLOT getpid       SLOT getppid\n",
+    );
+    io::write_all(
+        STDOUT_FILENO,
+        b"  SLOT handle SIGNAL 0|1            SLOT poll\n",
+    );
+    io::write_all(
+        STDOUT_FILENO,
+        b"Each gives a line: the answer, below 0 for a refusal, or ? for a line of no such form.\n",
+    );
+}
+
+fn run() {
     let s = read_all();
     let mut out = [0u8; 32];
     let used = finish(s, &mut out);
     io::write_all(STDOUT_FILENO, &out[..used]);
+}
+
+fn main() {
+    if os::arg_count() > 1 {
+        print_usage();
+        return;
+    }
+    run();
 }

@@ -2,20 +2,13 @@
 use Prim.Native.Nat.{ℕ}
 use mathlib.Core.List.{List, [], _∷_, _++_}
 use mathlib.Core.Path.{_≡_, ap, ap₂, _∙_}
-use lib.ListN.{take, drop}
-use lib.Seq.{take-append-seam}
 use Rattle.lines.proofs.Running.{cuts-change-no-output}
 use Rattle.lines.specs.Carried.{Carries}
 use Rattle.lines.specs.Runs.{run-chunks}
 use Rattle.lines.specs.Splitting.{left}
-use Rattle.session.specs.Sessions.{Wrote}
+use Rattle.session.proofs.Writing.{written}
 use Rattle.session.specs.Whole.{Writes, Sessions-write-what-scripts-give}
 use Rattle.session.specs.declared.Session.{Session}
-
--- the part of the buffer that was written
-written : (text before after : List ℕ) (used : ℕ) → Wrote text before after used → take used after ≡ text
-written text before after used w =
-    ap₂ (λ i l. take i l) (w .size) (w .holds) ∙ take-append-seam text (drop used before)
 
 writes-chunks : (cs : List (List ℕ)) (s : Session) (l text : List ℕ) → Carries (s .line) l → Writes cs s text → text ≡ run-chunks (s .table) l cs
 unfolding Writes run-chunks

@@ -53,13 +53,18 @@ line-short k l c = let s = c .size in omega arith
 pub wrote-none : (out : List ℕ) → Wrote [] out out 0
 wrote-none out = record { size = refl; holds = refl }
 
+-- the part that was written
+pub written : (text before after : List ℕ) (used : ℕ) → Wrote text before after used → take used after ≡ text
+written text before after used w =
+    ap₂ (λ i l. take i l) (w .size) (w .holds) ∙ take-append-seam text (drop used before)
+
 pub wrote-more : (text more before out after : List ℕ) (used next : ℕ) (t : Text) → Wrote text before out used → Written t more → Copied t used out after next → Wrote (text ++ more) before after next
 wrote-more text more before out after used next t w m c =
     let s = w .size in
     let n = m .size in
     let p = c .place in
     let a = length-append text more in
-    let x : take used out ≡ text = ap₂ (λ i l. take i l) s (w .holds) ∙ take-append-seam text (drop used before) in
+    let x = written text before out used w in
     let y : drop next out ≡ drop next before =
     ap₂ (λ i l. drop i l) (p ∙ ap (λ i. i + t .len) s) (w .holds)
     ∙ drop-append-add text (drop used before) (t .len)

@@ -1,8 +1,8 @@
--- `main` writes no more than was written there.
+-- `run` writes no more than was written there.
 use Rattle.session.proofs.Using.{last-within, last-part}
 use borrow.Author.Needs.{needs}
-use Rattle.recorder.proofs.main.Statement.{statement}
-use Rattle.recorder.proofs.main.Tie as tie
+use Rattle.recorder.proofs.run.Statement.{statement}
+use Rattle.recorder.proofs.run.Tie as tie
 
 read-all-requires : tie.Need-read-all-requires
 read-all-requires c κs = search needs
@@ -25,8 +25,8 @@ write-all-requires c κs = search needs
 returns : tie.Need-returns
 returns c = search needs
 
-pub main-spec : {M : Type 1} → statement M
-main-spec =
+pub run-spec : {M : Type 1} → statement M
+run-spec =
     tie.close
     (tie.spec
     read-all-requires
