@@ -9,11 +9,11 @@ ghost use Rattle.table.specs.Tests.{_or_};
 ghost use Rattle.arguments.specs.Arguments.{names-everyone};
 
 // Signals at the width of an argument.
-const SIGNALS: u32 = signals::SIGNALS as u32;
+const SIGNALS: u32 = table::SIGNALS as u32;
 
-const SIGKILL: u32 = signals::SIGKILL as u32;
+const SIGKILL: u32 = table::SIGKILL as u32;
 
-const SIGSTOP: u32 = signals::SIGSTOP as u32;
+const SIGSTOP: u32 = table::SIGSTOP as u32;
 
 // The number, or 0 for one below 0.
 pub fn natural_of(n: i32) -> u32

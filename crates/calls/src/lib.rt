@@ -16,15 +16,14 @@ use delivery::others;
 use ending::end_process;
 use ending::free_unheld;
 use numbers::next_pid;
-use signals::SIGNALS;
 use signals::lowest_signal;
 use signals::with_signal;
 use signals::without_signal;
 use sound::is_sound;
 use table::Answer;
 use table::Call;
+use table::DEEPEST;
 use table::End;
-use table::LEVELS;
 use table::NAMESPACE_SLOTS;
 use table::NO_SLOT;
 use table::NsSlot;
@@ -35,6 +34,7 @@ use table::ProcSlot;
 use table::Process;
 use table::Refusal;
 use table::Reply;
+use table::SIGNALS;
 use table::State;
 use table::Table;
 use table::empty_process;
@@ -60,9 +60,6 @@ ghost use Rattle.rules.specs.Read.{view, child-of};
 ghost use Rattle.rules.specs.Sound.{sound};
 ghost use Rattle.rules.specs.Step.{runs, make as make-of, step as step-of};
 ghost use Rattle.table.specs.Tests.{_and_, _or_, if_then_else_, any, least};
-
-// The level of a namespace that has none below it.
-const DEEPEST: u8 = LEVELS as u8 - 1;
 
 // ---- answers
 

@@ -1,8 +1,5 @@
 // The delivery of a signal, to one process and to several, and whom a caller sees beside itself.
 use ending::end_process;
-use signals::SIGCONT;
-use signals::SIGKILL;
-use signals::SIGSTOP;
 use signals::default_action;
 use signals::has_signal;
 use signals::with_signal;
@@ -14,6 +11,9 @@ use table::PROCESS_SLOTS;
 use table::Pid;
 use table::ProcSlot;
 use table::Process;
+use table::SIGCONT;
+use table::SIGKILL;
+use table::SIGSTOP;
 use table::State;
 use table::Table;
 use tree::level_of;

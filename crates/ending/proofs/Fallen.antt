@@ -13,7 +13,7 @@ use Rattle.table.proofs.Chains.{by-bool, pick-yes, pick-no, and-true, and-false
 use Rattle.rules.proofs.Laws.Tests.{no-so}
 use Rattle.rules.proofs.Laws.Facts.{Facts, Stands, Lives, Below, Seen, lives-taken, is-seen}
 use Rattle.rules.proofs.Laws.Tree.{below-refl}
-use Rattle.table.proofs.MapLoops.{changed-length, changed-at}
+use Rattle.table.proofs.MapLoops.{changed-length, changed-at, changed-same, changed-none}
 use Rattle.table.proofs.Slots.{field-within}
 use Rattle.rules.proofs.Laws.ReadAt.{read-at}
 use Rattle.rules.specs.Ends.{member-ends, init-ends, namespace-dies, end}
@@ -29,7 +29,6 @@ use Rattle.table.specs.declared.Namespace.{Namespace}
 use Rattle.table.specs.declared.Process.{Process}
 use Rattle.table.specs.declared.Table.{Table}
 use Rattle.ending.proofs.Falling.{Step, Down, namespace-falls, ended-stays, dead-stays, killed-keeps}
-use Rattle.ending.proofs.Passes.{changed-same, changed-none}
 use Rattle.ending.specs.Ending.{killed, end-namespace, once-swept, swept, end-init, once-handed, handed-over, end-process, Ends}
 
 -- ---- a table that a subtree has gone down in, by its slots

@@ -2,6 +2,5 @@
 pub mod Members
 pub mod Marks
 pub mod Falling
-pub mod Passes
 pub mod Fallen
 pub mod Freeing

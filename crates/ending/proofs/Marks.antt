@@ -1,16 +1,15 @@
 -- Arrays of marks: who is seen, and which namespaces are held.
-use Prim.Native.Nat.{ℕ, _<_, _≤_}
+use Prim.Native.Nat.{ℕ, _≤_}
 use mathlib.Core.Bool.{Bool, true, false, not}
 use mathlib.Core.List.{List, map}
-use mathlib.Core.Path.{_≡_, refl, sym, ap, fun-ext, _∙_}
-use native.Mathlib.Decide.{decLt}
+use mathlib.Core.Path.{_≡_, refl, sym, ap, _∙_}
 use native.Mathlib.Omega.{arith}
 use borrow.Author.Tests.{not-true, not-false}
 use lib.Dec.{eqb}
-use lib.ListN.{length, getD, set, replicate, List·getD-eq-default}
+use lib.ListN.{length, set, replicate, List·getD-eq-default}
 use lib.Seq.{set-out}
 use Rattle.table.proofs.Chains.{pick-yes, pick-no, and-false}
-use Rattle.table.proofs.MapLoops.{Mapped, map-done, changed-at, changed-past}
+use Rattle.table.proofs.MapLoops.{Mapped, map-done, changed-reads}
 use Rattle.table.proofs.Slots.{length-mapped}
 use Rattle.table.specs.Limits.{process-slots}
 use Rattle.table.specs.Slots.{no-process, pid-at}
@@ -49,14 +48,9 @@ unseen-past t n i e h =
 -- an array filled with who is seen, read at any slot
 pub all-seen : {Y : Type 0} (g : Process → Y) (t : Table) (n : ℕ) (l : List Bool) → length (map g (t .processes)) ≡ process-slots
     → l ≡ changed-to (λ k x. seen (view t) n k) false process-slots (replicate process-slots false) → mark-at l ≡ seen (view t) n
-all-seen g t n l e d = fun-ext (λ i. ap (λ u. getD u i false) d ∙ at i (decLt i process-slots))
-  where
-    at : (i : ℕ) → Dec (i < process-slots) → getD (changed-to (λ k x. seen (view t) n k) false process-slots (replicate process-slots false)) i false ≡ seen (view t) n i
-    at i (yes h) = changed-at (λ k x. seen (view t) n k) false process-slots i (replicate process-slots false) h h
-    at i (no h) =
-        changed-past (λ k x. seen (view t) n k) false process-slots i (replicate process-slots false) (omega arith)
-        ∙ List·getD-eq-default (replicate process-slots false) false {n = i} (omega arith)
-        ∙ sym (unseen-past t n i (length-mapped g (t .processes) process-slots e) (omega arith))
+all-seen g t n l e d =
+    changed-reads (λ (b : Bool). b) (λ k x. seen (view t) n k) false process-slots (replicate process-slots false) l (seen (view t) n) d refl (λ i h. refl)
+    (λ i h. sym (unseen-past t n i (length-mapped g (t .processes) process-slots e) h))
 
 -- ---- the table that a pass leaves
 

@@ -1,7 +1,7 @@
 // The end of a process, and the freeing of namespaces that nobody holds. A table is 2.5 kB and is copied at each call:
 // what is done at each slot takes one record, and the table goes only where it changes.
+use table::DEEPEST;
 use table::End;
-use table::LEVELS;
 use table::Life;
 use table::NAMESPACE_SLOTS;
 use table::NO_SLOT;
@@ -10,6 +10,7 @@ use table::NsSlot;
 use table::PROCESS_SLOTS;
 use table::ProcSlot;
 use table::Process;
+use table::SIGKILL;
 use table::State;
 use table::Table;
 use table::empty_namespace;
@@ -30,11 +31,6 @@ ghost use Rattle.rules.specs.Records.{as-ended};
 ghost use Rattle.tree.specs.Tree.{slot-in, level-in};
 ghost use Rattle.ending.specs.Ending.{killed as killed-by-9, dies-with, once-dead, marked-dead, falls-with, end-member, end-namespace, once-swept, swept, end-init, once-handed, handed-over, Ends};
 ghost use Rattle.ending.specs.Holding.{mark-at, with-marks, marks-of, kept-for, is-blank, once-freed};
-
-const SIGKILL: u8 = 9;
-
-// The level of the deepest namespaces, and so the most levels that can be left below one.
-const DEEPEST: u8 = (LEVELS - 1) as u8;
 
 // ---- one record
 
@@ -247,8 +243,8 @@ fn sweep(t: Table, n: NsSlot) -> Table
     u
 }
 
-// The end of an init: its namespace ends with all below it, the init keeps its own reason, and whoever has its parent
-// inside is removed.
+// The end of an init: its namespace ends with all below it, which are at most DEEPEST levels; the init keeps its own
+// reason, and whoever has its parent inside is removed.
 fn end_init(t: Table, slot: ProcSlot, how: End) -> Table
     ensures { λ r. ⌜ r ≡ end-init t (slot .0) how ⌝ }
 {

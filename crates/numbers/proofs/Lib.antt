@@ -1,4 +1,3 @@
 -- Laws that belong to no one function.
-pub mod Seeks
 pub mod Choice
 pub mod Found

@@ -1,7 +1,9 @@
 // "A number": the search for the next process number of a namespace.
+use table::GREATEST_PID;
 use table::NsSlot;
 use table::PROCESS_SLOTS;
 use table::Pid;
+use table::RESTART_PID;
 use table::Table;
 use tree::is_named;
 use tree::level_of;
@@ -13,11 +15,6 @@ ghost use Rattle.table.specs.Limits.{greatest-pid};
 ghost use Rattle.rules.specs.Pids.{free-pid, next-pid};
 ghost use Rattle.rules.specs.Read.{view};
 ghost use Rattle.table.specs.Tests.{lowest};
-
-// The greatest process number, and where the search starts again.
-pub const GREATEST_PID: u16 = 32767;
-
-const RESTART_PID: u16 = 300;
 
 // The lowest number from `from` to GREATEST_PID that nobody seen from n has there. Where there is none, a number past
 // GREATEST_PID.

@@ -5,16 +5,7 @@ ghost use Rattle.rules.specs.Delivery.{default-action};
 ghost use Rattle.table.specs.Limits.{signals};
 ghost use Rattle.table.specs.SignalSets.{has, with-signal, without-signal, lowest-signal};
 use table::Action;
-
-// Signal numbers are 0 to 31, and 0 is no signal.
-pub const SIGNALS: u8 = 32;
-
-// Signals that document 01 treats by themselves.
-pub const SIGKILL: u8 = 9;
-
-pub const SIGCONT: u8 = 18;
-
-pub const SIGSTOP: u8 = 19;
+use table::SIGNALS;
 
 // ---- sets of signals: bit s stands for signal s
 
@@ -55,7 +46,7 @@ pub fn lowest_signal(set: u32) -> u8
 // ---- defaults
 
 // What an unhandled signal does, by number, with names from signal(7), x86.
-const DEFAULTS: [Action; 32] = [
+const DEFAULTS: [Action; SIGNALS as usize] = [
     Action::Finish, // 0 no signal
     Action::Finish, // 1 HUP
     Action::Finish, // 2 INT

@@ -1,16 +1,15 @@
--- Marks of namespaces: one put, those of a process, those of a namespace, and what all of them come to.
-use Prim.Native.Nat.{ℕ, zero, suc, _<_, _≤_, _+_}
-use native.Mathlib.Decide.{ℕ-discrete}
-use native.Mathlib.Numerals.{add-one}
+-- What the marks of all processes, and those of all namespaces, come to.
+use Prim.Native.Nat.{ℕ, zero, suc}
 use native.Mathlib.Omega.{arith}
-use mathlib.Core.Bool.{Bool, true, false, not, true≢false, false≢true}
+use mathlib.Core.Bool.{Bool, true, false, not}
 use mathlib.Core.List.{List}
-use mathlib.Core.Path.{_≡_, refl, sym, ap, ap₂, subst, _∙_}
-use borrow.Author.Tests.{eq-eqb, ne-eqb}
+use mathlib.Core.Path.{_≡_, refl, sym, ap, ap₂, _∙_}
+use borrow.Author.Tests.{ne-eqb}
 use lib.Dec.{eqb}
-use lib.ListN.{length, getD, set, length-set, replicate}
-use lib.Seq.{getD-set-same, getD-set-other, set-out}
-use Rattle.table.proofs.Chains.{by-bool, pick-yes, pick-no}
+use lib.ListN.{getD, set, replicate}
+use Rattle.table.proofs.AnyLoops.{any-or}
+use Rattle.table.proofs.FoldLoops.{turns}
+use Rattle.table.proofs.MarkLoops.{Marks, marks-like, no-marks, one-mark, mark-if, marks-if, marked, marked-alone}
 use Rattle.table.specs.Limits.{process-slots, namespace-slots}
 use Rattle.table.specs.Slots.{no-namespace}
 use Rattle.rules.specs.Read.{View, view, taken, namespace-taken}
@@ -18,131 +17,48 @@ use Rattle.rules.specs.Sound.{holds, held}
 use Rattle.table.specs.Tests.{_and_, _or_, any}
 use Rattle.table.specs.declared.Namespace.{Namespace}
 use Rattle.table.specs.declared.Table.{Table}
-use Rattle.sound.specs.Quick.{Marks, mark-process, mark-namespace, process-at, namespace-row, held-by-processes, held-by-children}
+use Rattle.sound.specs.Quick.{mark-process, mark-namespace, process-at, namespace-row, held-by-processes, held-by-children}
 
-pub marks-like : (m : List Bool) (f g : ℕ → Bool) → Marks m f → ((n : ℕ) → f n ≡ g n) → Marks m g
-marks-like m f g k e = record { long = k .long; says = λ n b. k .says n b ∙ e n }
+-- the turn of the process at i, and of the namespace at i
+abbrev pub process-turn : View → ℕ → List Bool → List Bool
+process-turn v i m = mark-process m (process-at v i)
 
--- one more mark
-pub marks-put : (m : List Bool) (f : ℕ → Bool) (i : ℕ) → Marks m f → Marks (set m i true) (λ n. eqb i n or f n)
+abbrev pub namespace-turn : List Namespace → ℕ → List Bool → List Bool
+namespace-turn s i m = mark-namespace m i (namespace-row i (getD s i no-namespace))
+
+root : (n : ℕ) → eqb 0 n or false ≡ eqb n 0
 unfolding _or_
-marks-put m f i k = record { long = length-set m i true ∙ k .long; says = λ n b. go n b (ℕ-discrete i n) }
+root zero = refl
+root (suc n) = ap (λ x. x or false) (ne-eqb 0 (suc n) (λ e. omega arith)) ∙ sym (ne-eqb (suc n) 0 (λ e. omega arith))
+
+turned : (a b z : Bool) → (a or b) or z ≡ (z or a) or b
+unfolding _or_
+turned true b true = refl
+turned true b false = refl
+turned false true true = refl
+turned false true false = refl
+turned false false true = refl
+turned false false false = refl
+
+-- the root is marked before the turns
+pub processes-marked : (v : View) → Marks namespace-slots (turns process-slots (process-turn v) (set (replicate namespace-slots false) 0 true)) (held-by-processes v)
+unfolding held-by-processes holds
+processes-marked v =
+    marks-like namespace-slots _ _ _
+    (marked namespace-slots (process-turn v) (λ i n. own n i or inner n i) (λ i. marks-if namespace-slots (taken v i) (v .own i) (v .children i)) process-slots _ _
+    (one-mark namespace-slots 0 _ _ (no-marks namespace-slots)))
+    (λ n. ap₂ (λ x y. x or y) (any-or process-slots (own n) (inner n)) (root n) ∙ turned (any process-slots (own n)) (any process-slots (inner n)) (eqb n 0))
   where
-    go : (n : ℕ) → n < namespace-slots → Dec (i ≡ n) → getD (set m i true) n false ≡ eqb i n or f n
-    go n b (yes e) =
-        subst (λ i. getD (set m i true) n false ≡ eqb i n or f n) (sym e)
-        (getD-set-same m n true false (omega (arith, k .long)) ∙ sym (ap (λ x. x or f n) (eq-eqb n n refl)))
-    go n b (no o) =
-        getD-set-other m i n true false (λ e. o (sym e)) ∙ k .says n b ∙ sym (ap (λ x. x or f n) (ne-eqb i n o))
+    own : ℕ → ℕ → Bool
+    own n i = taken v i and eqb (v .own i) n
 
--- any of one more number
-one-more : (f : ℕ → Bool) (i : ℕ) → any (i + 1) f ≡ f i or any i f
-unfolding any _or_
-one-more f i = rw add-one (by-bool (f i) (λ e. pick-yes (f i) true (any i f) e ∙ sym (ap (λ x. x or any i f) e)) (λ e. pick-no (f i) true (any i f) e ∙ sym (ap (λ x. x or any i f) e)))
+    inner : ℕ → ℕ → Bool
+    inner n i = taken v i and eqb (v .children i) n
 
--- ---- processes
-
--- what the processes below i hold
-abbrev pub held-below : View → ℕ → ℕ → Bool
-held-below v i n = eqb n 0 or any i (λ j. taken v j and eqb (v .own j) n) or any i (holds v n)
-
--- the marks of a process that is there join the two parts
-join : (t f g z a b : Bool) → t ≡ true → g or (f or (z or a or b)) ≡ z or ((t and f) or a) or ((t and g) or b)
-unfolding _or_ _and_
-join false f g z a b e = absurd (false≢true e)
-join true true true true a b e = refl
-join true true true false a b e = refl
-join true true false true a b e = refl
-join true true false false a b e = refl
-join true false true true a b e = refl
-join true false true false true b e = refl
-join true false true false false b e = refl
-join true false false true a b e = refl
-join true false false false a b e = refl
-
-skip : (t f g z a b : Bool) → t ≡ false → z or a or b ≡ z or ((t and f) or a) or ((t and g) or b)
-unfolding _or_ _and_
-skip true f g z a b e = absurd (true≢false e)
-skip false f g z a b e = refl
-
-pub marks-process : (v : View) (i : ℕ) (m r : List Bool) → Marks m (held-below v i) → r ≡ mark-process m (process-at v i) → Marks r (held-below v (i + 1))
-unfolding holds
-marks-process v i m r k e =
-    by-bool (taken v i)
-    (λ t. subst (λ r. Marks r (held-below v (i + 1))) (sym (e ∙ pick-yes (taken v i) (set (set m (v .own i) true) (v .children i) true) m t))
-    (marks-like _ _ _ (marks-put _ _ (v .children i) (marks-put m (held-below v i) (v .own i) k))
-    (λ n. join (taken v i) (eqb (v .own i) n) (eqb (v .children i) n) (eqb n 0) _ _ t ∙ sym (more n))))
-    (λ t. subst (λ r. Marks r (held-below v (i + 1))) (sym (e ∙ pick-no (taken v i) (set (set m (v .own i) true) (v .children i) true) m t))
-    (marks-like m _ _ k (λ n. skip (taken v i) (eqb (v .own i) n) (eqb (v .children i) n) (eqb n 0) _ _ t ∙ sym (more n))))
-  where
-    more : (n : ℕ) → held-below v (i + 1) n ≡ eqb n 0 or ((taken v i and eqb (v .own i) n) or any i (λ j. taken v j and eqb (v .own j) n)) or ((taken v i and eqb (v .children i) n) or any i (holds v n))
-    more n = ap₂ (λ x y. eqb n 0 or x or y) (one-more (λ j. taken v j and eqb (v .own j) n) i) (one-more (λ j. taken v j and eqb (v .children j) n) i)
-
-pub marks-start : (v : View) → Marks (set (replicate namespace-slots false) 0 true) (held-below v 0)
-unfolding any _or_
-marks-start v = record { long = refl; says = λ n b. go n }
-  where
-    nothing : (k n : ℕ) → getD (replicate k false) n false ≡ false
-    nothing zero n = refl
-    nothing (suc k) zero = refl
-    nothing (suc k) (suc n) = nothing k n
-
-    go : (n : ℕ) → getD (set (replicate namespace-slots false) 0 true) n false ≡ held-below v 0 n
-    go zero = refl
-    go (suc n) = nothing 31 n ∙ sym (ap (λ x. x or false or false) (ne-eqb (suc n) 0 (λ e. omega arith)))
-
-pub marks-processes : (v : View) (i : ℕ) (m : List Bool) → i ≤ process-slots → process-slots ≤ i → Marks m (held-below v i) → Marks m (held-by-processes v)
-unfolding held-by-processes
-marks-processes v i m a b k = let e : i ≡ process-slots = omega arith in subst (λ i. Marks m (held-below v i)) e k
-
--- ---- namespaces
-
--- the namespace at j, but the root, has n for its parent
-abbrev pub parent-at : List Namespace → ℕ → ℕ → Bool
-parent-at s n j = not (eqb j 0) and namespace-row j (getD s j no-namespace) .taken and eqb (getD s j no-namespace .parent .0) n
-
-abbrev pub held-from : List Namespace → ℕ → ℕ → Bool
-held-from s i n = any i (parent-at s n)
-
-enter : (t f a : Bool) → t ≡ true → f or a ≡ (t and f) or a
-unfolding _and_
-enter false f a e = absurd (false≢true e)
-enter true f a e = refl
-
-leave : (t f a : Bool) → t ≡ false → a ≡ (t and f) or a
-unfolding _or_ _and_
-leave true f a e = absurd (true≢false e)
-leave false f a e = refl
-
-pub marks-namespace : (s : List Namespace) (i : ℕ) (m r : List Bool) → Marks m (held-from s i) → r ≡ mark-namespace m i (namespace-row i (getD s i no-namespace)) → Marks r (held-from s (i + 1))
-marks-namespace s i m r k e =
-    by-bool there
-    (λ t. subst (λ r. Marks r (held-from s (i + 1))) (sym (e ∙ pick-yes there (set m up true) m t))
-    (marks-like _ _ _ (marks-put m (held-from s i) up k) (λ n. enter there (eqb up n) _ t ∙ sym (more n))))
-    (λ t. subst (λ r. Marks r (held-from s (i + 1))) (sym (e ∙ pick-no there (set m up true) m t))
-    (marks-like m _ _ k (λ n. leave there (eqb up n) _ t ∙ sym (more n))))
-  where
-    there : Bool
-    there = not (eqb i 0) and namespace-row i (getD s i no-namespace) .taken
-
-    up : ℕ
-    up = getD s i no-namespace .parent .0
-
-    more : (n : ℕ) → held-from s (i + 1) n ≡ (there and eqb up n) or any i (parent-at s n)
-    more n = one-more (parent-at s n) i
-
-nothing : (k n : ℕ) → getD (replicate k false) n false ≡ false
-nothing zero n = refl
-nothing (suc k) zero = refl
-nothing (suc k) (suc n) = nothing k n
-
-pub marks-none : (s : List Namespace) → Marks (replicate namespace-slots false) (held-from s 0)
-unfolding any
-marks-none s = record { long = refl; says = λ n b. nothing namespace-slots n }
-
-pub marks-children : (s : List Namespace) (i : ℕ) (m : List Bool) → i ≤ namespace-slots → namespace-slots ≤ i → Marks m (held-from s i) → Marks m (held-by-children s)
+pub children-marked : (s : List Namespace) → Marks namespace-slots (turns namespace-slots (namespace-turn s) (replicate namespace-slots false)) (held-by-children s)
 unfolding held-by-children
-marks-children s i m a b k = let e : i ≡ namespace-slots = omega arith in subst (λ i. Marks m (held-from s i)) e k
+children-marked s =
+    marked-alone namespace-slots (namespace-turn s) _ (λ i. mark-if namespace-slots (not (eqb i 0) and namespace-row i (getD s i no-namespace) .taken) (getD s i no-namespace .parent .0)) namespace-slots
 
 -- both together
 pub marks-all : (t : Table) (n : ℕ) → held-by-processes (view t) n or held-by-children (t .namespaces) n ≡ held (view t) n

@@ -1,13 +1,14 @@
 -- What the code reads of a table at a slot, past the last slot too, against the rows of a view.
-use Prim.Native.Nat.{ℕ, zero, suc, _<_}
-use mathlib.Core.Bool.{Bool, false, not}
-use mathlib.Core.List.{List, []}
-use mathlib.Core.Path.{_≡_, refl, sym, ap, subst, fun-ext, _∙_}
-use lib.Dec.{eqb}
-use lib.ListN.{length, getD, replicate, List·getD-eq-default}
+use Prim.Native.Nat.{ℕ, _≤_}
+use mathlib.Core.Bool.{Bool, false}
+use mathlib.Core.List.{map}
+use mathlib.Core.Path.{_≡_, refl, ap, fun-ext, _∙_}
+use lib.ListN.{length, List·getD-eq-default}
 use native.Mathlib.Omega.{arith}
+use Rattle.rules.proofs.Keeps.Changed.{getD-replicate}
 use Rattle.rules.proofs.Laws.Facts.{Past}
-use Rattle.table.specs.Fresh.{empty-process}
+use Rattle.table.proofs.Slots.{field-past}
+use Rattle.table.specs.Fresh.{empty-process, empty-namespace}
 use Rattle.table.specs.Limits.{levels, process-slots, namespace-slots}
 use Rattle.table.specs.Slots.{process, namespace, no-pid, no-process, no-namespace, init-of}
 use Rattle.rules.specs.Read.{view, taken, namespace-taken}
@@ -20,16 +21,19 @@ use Rattle.table.specs.declared.State.the-variants.{Running}
 use Rattle.table.specs.declared.Table.{Table}
 use Rattle.sound.specs.Quick.{ProcessRow, process-row, namespace-row, process-at, namespace-at, process-ok, namespace-ok, blank, blank-namespace}
 
-no-pids : (n l : ℕ) → getD (replicate n no-pid) l no-pid .0 ≡ 0
-no-pids zero l = refl
-no-pids (suc n) zero = refl
-no-pids (suc n) (suc l) = no-pids n l
-
 -- an empty slot and what lies past the last one read alike
 pub empty-row : process-row empty-process ≡ process-row no-process
 empty-row =
     ap (λ (f : ℕ → ℕ). record { taken = false; own = 0; children = 0; parent = 0; state = Running; ended = false; handled = 0; pending = 0; unshared = false; pid = f })
-    (fun-ext (λ l. no-pids levels l))
+    (fun-ext (λ l. ap (λ (p : Pid). p .0) (getD-replicate no-pid levels l)))
+
+-- past the last slot the code takes an empty record, o
+module _ {Y : Type 0} (t : Table) (k : ℕ) where
+  pub namespace-past : (g : Namespace → Y) (o x : Namespace) → length (map g (t .namespaces)) ≡ namespace-slots → namespace-slots ≤ k → o ≡ empty-namespace → x ≡ o → x ≡ namespace t k
+  namespace-past g o x e h a b = b ∙ a ∙ field-past g (t .namespaces) no-namespace namespace-slots k e h
+
+  pub process-past : (g : Process → Y) (o x : Process) → length (map g (t .processes)) ≡ process-slots → process-slots ≤ k → o ≡ empty-process → x ≡ o → process-row x ≡ process-row (process t k)
+  process-past g o x e h a b = ap process-row (b ∙ a) ∙ empty-row ∙ ap process-row (field-past g (t .processes) no-process process-slots k e h)
 
 module _ (t : Table) where
   pub process-reads :

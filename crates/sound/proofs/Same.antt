@@ -23,7 +23,7 @@ use Rattle.table.specs.Tests.{_and_, if_then_else_, all}
 use Rattle.table.specs.declared.Life.{Life}
 use Rattle.table.specs.declared.Life.the-variants.{Unborn, Alive, Dead}
 use Rattle.sound.specs.Quick as Q
-use Rattle.sound.specs.Quick.{quick, process-at, namespace-at, top, pid-keys, unborn-keys}
+use Rattle.sound.specs.Quick.{pid-values, quick, process-at, namespace-at, top, pid-keys, unborn-keys}
 
 -- ---- keys
 
@@ -67,11 +67,11 @@ top-is v n k l b h c e =
     top-by (v .up) (v .level) n b h (suc k) (omega arith) ∙ ap (λ d. up-by (v .up) (v .level n - d) n) z
 
 -- a key that is not 0 is made of a number that is not
-key-is : (v : View) (k l i : ℕ) → deepest - k ≡ l → ((v .pid i l ≡ 0) × (pid-keys v k i ≡ 0)) ⊎ ((v .pid i l ≡ 0 → ⊥) × (pid-keys v k i ≡ top (v .up) (v .level) (suc k) (v .own i) * 65536 + v .pid i l))
+key-is : (v : View) (k l i : ℕ) → deepest - k ≡ l → ((v .pid i l ≡ 0) × (pid-keys v k i ≡ 0)) ⊎ ((v .pid i l ≡ 0 → ⊥) × (pid-keys v k i ≡ top (v .up) (v .level) (suc k) (v .own i) * pid-values + v .pid i l))
 unfolding Q.pid-key
-key-is v k l i q = subst (λ l. ((v .pid i l ≡ 0) × (pid-keys v k i ≡ 0)) ⊎ ((v .pid i l ≡ 0 → ⊥) × (pid-keys v k i ≡ top (v .up) (v .level) (suc k) (v .own i) * 65536 + v .pid i l))) q (go (ℕ-discrete (v .pid i (deepest - k)) 0))
+key-is v k l i q = subst (λ l. ((v .pid i l ≡ 0) × (pid-keys v k i ≡ 0)) ⊎ ((v .pid i l ≡ 0 → ⊥) × (pid-keys v k i ≡ top (v .up) (v .level) (suc k) (v .own i) * pid-values + v .pid i l))) q (go (ℕ-discrete (v .pid i (deepest - k)) 0))
   where
-    go : Dec (v .pid i (deepest - k) ≡ 0) → ((v .pid i (deepest - k) ≡ 0) × (pid-keys v k i ≡ 0)) ⊎ ((v .pid i (deepest - k) ≡ 0 → ⊥) × (pid-keys v k i ≡ top (v .up) (v .level) (suc k) (v .own i) * 65536 + v .pid i (deepest - k)))
+    go : Dec (v .pid i (deepest - k) ≡ 0) → ((v .pid i (deepest - k) ≡ 0) × (pid-keys v k i ≡ 0)) ⊎ ((v .pid i (deepest - k) ≡ 0 → ⊥) × (pid-keys v k i ≡ top (v .up) (v .level) (suc k) (v .own i) * pid-values + v .pid i (deepest - k)))
     go (yes z) = inl (z, pick-yes _ _ _ (eq-eqb _ 0 z))
     go (no o) = inr (o, pick-no _ _ _ (ne-eqb _ 0 o))
 
@@ -362,7 +362,7 @@ module _ (v : View) (r : Past v) (q : So (quick v)) where
       (climb-cases (v .up) k a n h)
 
   -- what a process seen from n has for its key at n's level
-  seen-key : (n k i : ℕ) → Stands v n → k < levels → deepest - k ≡ v .level n → Seen v n i → (pid-keys v k i ≡ n * 65536 + pid-seen v n i) × (1 ≤ pid-seen v n i)
+  seen-key : (n k i : ℕ) → Stands v n → k < levels → deepest - k ≡ v .level n → Seen v n i → (pid-keys v k i ≡ n * pid-values + pid-seen v n i) × (1 ≤ pid-seen v n i)
   unfolding below above-at pid-seen
   seen-key n k i s c e h =
       let (b, u) = climbs-to n (v .level (v .own i)) (v .own i) refl (seen-below v n i h) in
@@ -371,7 +371,7 @@ module _ (v : View) (r : Past v) (q : So (quick v)) where
       let m : 1 ≤ v .pid i (v .level n) = has i t (v .level n) (low-level n s) b in
       let high : v .level (v .own i) ≤ deepest = omega (arith, low-level (v .own i) w) in
       let a = top-is v (v .own i) k (v .level n) (namespace-range (v .own i) w) high c e ∙ u in
-      ⊎-elim (λ x. omega (arith, x .0)) (λ x. (x .1 ∙ ap (λ x. x * 65536 + v .pid i (v .level n)) a, m)) (key-is v k (v .level n) i e)
+      ⊎-elim (λ x. omega (arith, x .0)) (λ x. (x .1 ∙ ap (λ x. x * pid-values + v .pid i (v .level n)) a, m)) (key-is v k (v .level n) i e)
     where
       has : (i : ℕ) → Taken v i → (l : ℕ) → l < levels → l ≤ v .level (v .own i) → 1 ≤ v .pid i l
       has i t l b h = left-of (member-of i t .0 .1 l b) (le-leb l _ h)
@@ -390,8 +390,8 @@ module _ (v : View) (r : Past v) (q : So (quick v)) where
       let (ki, oi) = seen-key n (deepest - v .level n) i s k z a in
       let (kj, oj) = seen-key n (deepest - v .level n) j s k z b in
       apart i j
-      (λ c. keys (deepest - v .level n) k j (range j (seen-taken v n j b)) (λ z. omega arith) i c (ki ∙ ap (λ x. n * 65536 + x) e ∙ sym kj))
-      (λ c. keys (deepest - v .level n) k i (range i (seen-taken v n i a)) (λ z. omega arith) j c (kj ∙ ap (λ x. n * 65536 + x) (sym e) ∙ sym ki))
+      (λ c. keys (deepest - v .level n) k j (range j (seen-taken v n j b)) (λ z. omega arith) i c (ki ∙ ap (λ x. n * pid-values + x) e ∙ sym kj))
+      (λ c. keys (deepest - v .level n) k i (range i (seen-taken v n i a)) (λ z. omega arith) j c (kj ∙ ap (λ x. n * pid-values + x) (sym e) ∙ sym ki))
 
   -- ---- unborn namespaces
 

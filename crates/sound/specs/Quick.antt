@@ -1,12 +1,11 @@
 -- The way in which the code decides whether a table is sound: each process once with the namespaces and the parent that it
 -- names, each namespace once with its parent and its init, and the numbers by one key for each process and level.
 -- proofs/Same.antt shows that it says what specs/Sound.antt of the table says.
-use Prim.Native.Nat.{ℕ, zero, suc, _+_, _*_, _-_, _<_}
-use mathlib.Core.Bool.{Bool, true, false, not}
+use Prim.Native.Nat.{ℕ, zero, suc, _+_, _*_, _-_}
+use mathlib.Core.Bool.{Bool, true, not}
 use mathlib.Core.List.{List}
-use mathlib.Core.Path.{_≡_}
 use lib.Dec.{eqb, leb, ltb}
-use lib.ListN.{getD, set, length}
+use lib.ListN.{getD, set}
 use Rattle.table.specs.Limits.{process-slots, namespace-slots, levels, deepest, greatest-pid, no-slot, signals, sigkill, sigstop}
 use Rattle.table.specs.Slots.{no-namespace, pid-at, is-running, is-ended, is-unborn, is-alive, is-dead, init-of}
 use Rattle.rules.specs.Read.{View, taken, namespace-taken, climb}
@@ -178,11 +177,6 @@ mark-process m p = if p .taken then set (set m (p .own) true) (p .children) true
 abbrev pub mark-namespace : List Bool → ℕ → NamespaceRow → List Bool
 mark-namespace m n s = if not (eqb n 0) and s .taken then set m (s .up) true else m
 
--- the marks say of each namespace slot whether f holds
-pub record Marks (m : List Bool) (f : ℕ → Bool) : Type 0 where
-  pub long : length m ≡ namespace-slots
-  pub says : (n : ℕ) → n < namespace-slots → getD m n false ≡ f n
-
 -- the root is held, and what a process has as its own namespace or for its children
 unfoldable pub held-by-processes : View → ℕ → Bool
 held-by-processes v n =
@@ -225,9 +219,13 @@ unfoldable pub top : (ℕ → ℕ) → (ℕ → ℕ) → ℕ → ℕ → ℕ
 top up level zero = itself
 top up level (suc k) = raised up level (deepest - k) (top up level k)
 
+-- as many as a number's 16 bits hold
+abbrev pub pid-values : ℕ
+pid-values = 65536
+
 -- the namespace at a level and the number there as one key
 unfoldable pub pid-key : (ℕ → ℕ) → ℕ → ProcessRow → ℕ
-pid-key top l p = if eqb (p .pid l) 0 then 0 else top (p .own) * 65536 + p .pid l
+pid-key top l p = if eqb (p .pid l) 0 then 0 else top (p .own) * pid-values + p .pid l
 
 abbrev pub pid-keys : View → ℕ → ℕ → ℕ
 pid-keys v k i = pid-key (top (v .up) (v .level) (suc k)) (deepest - k) (process-at v i)

@@ -1,5 +1,7 @@
 // The check of a whole table. Each pass over the table takes the table once; what it does at a slot takes records.
+use table::DEEPEST;
 use table::End;
+use table::GREATEST_PID;
 use table::LEVELS;
 use table::NAMESPACE_SLOTS;
 use table::NO_SLOT;
@@ -9,6 +11,10 @@ use table::PROCESS_SLOTS;
 use table::Pid;
 use table::ProcSlot;
 use table::Process;
+use table::SIGKILL;
+use table::SIGNALS;
+use table::SIGSTOP;
+use table::STATUSES;
 use table::State;
 use table::Table;
 use table::empty_namespace;
@@ -23,14 +29,15 @@ ghost use mathlib.Core.Bool.{not, true};
 ghost use Prim.Native.Nat.{suc, _<_};
 ghost use lib.Dec.{eqb, ltb};
 ghost use lib.ListN.{getD, set};
-ghost use Rattle.table.specs.Limits.{levels as level-count, process-slots};
+ghost use Rattle.table.proofs.MarkLoops.{Marks};
+ghost use Rattle.table.specs.Limits.{levels as level-count, process-slots, namespace-slots};
 ghost use Rattle.table.specs.Slots.{is-unborn, is-dead, pid-at};
 ghost use Rattle.rules.specs.Read.{view};
 ghost use Rattle.rules.specs.Sound.{kept-end, reaches-root, root-process, root-namespace, sound};
-ghost use Rattle.table.specs.Tests.{_and_, _or_, _implies_, agree, if_then_else_, all};
+ghost use Rattle.table.specs.Tests.{_and_, _implies_, agree, if_then_else_, all};
 ghost use Rattle.table.specs.declared.State.the-variants.{Ended};
 ghost use Rattle.tree.specs.Tree.{slot-in, level-in};
-ghost use Rattle.sound.specs.Quick.{process-row, namespace-row, process-at, ended-ok, living-ok, state-ok, signals-ok, pid-ok, pids-ok, member-ok, parent-ok, blank, process-ok, processes-ok, init-ok, life-ok, place-ok, blank-namespace, filled-ok, namespace-ok, namespaces-ok, mark-process, mark-namespace, Marks, held-by-processes, held-by-children, process-in, reach-ok, key-in, differs-at, differ, unborn-key, unborn-keys, raised, itself, pid-key, pid-keys, root-process-ok, root-namespace-ok};
+ghost use Rattle.sound.specs.Quick.{process-row, namespace-row, process-at, ended-ok, living-ok, state-ok, signals-ok, pid-ok, pids-ok, member-ok, parent-ok, blank, process-ok, processes-ok, init-ok, life-ok, place-ok, blank-namespace, filled-ok, namespace-ok, namespaces-ok, mark-process, mark-namespace, held-by-processes, held-by-children, process-in, reach-ok, key-in, differs-at, differ, unborn-key, unborn-keys, raised, itself, pid-key, pid-keys, root-process-ok, root-namespace-ok};
 
 // ---- a process by itself
 
@@ -87,8 +94,8 @@ fn state_ok(up: [NsSlot; NAMESPACE_SLOTS], p: Process, home: Namespace, inner: N
     living_ok(up, p, home, inner)
 }
 
-// Signals that can be handled, as bits: 1 to 31 but 9 and 19.
-const CATCHABLE: u32 = 0xfff7_fdfe;
+// Signals that can be handled, as bits: all but 0, 9 and 19.
+const CATCHABLE: u32 = !(1 | 1 << SIGKILL | 1 << SIGSTOP);
 
 // Whether a process may handle these signals, and the pending ones are among them.
 fn signals_ok(handled: u32, pending: u32) -> bool
@@ -105,12 +112,12 @@ fn kept_ok(end: End) -> bool
     ensures { λ r. ⌜ r ≡ kept-end (Ended end) ⌝ }
 {
     match end {
-        End::Exited(status) => (status as u16) < 256,
+        End::Exited(status) => (status as u16) < STATUSES,
         End::Signaled(s) => {
             if s < 1 {
                 return false;
             }
-            s < 32
+            s < SIGNALS
         }
     }
 }
@@ -124,8 +131,6 @@ fn end_ok(state: State) -> bool
         State::Ended(end) => kept_ok(end),
     }
 }
-
-const GREATEST_PID: u16 = 32767;
 
 // Whether a number may stand at a level: one up to the own level, and none beyond.
 fn pid_ok(pid: Pid, l: usize, level: u8) -> bool
@@ -327,8 +332,6 @@ fn dead_ok(s: Namespace, above: Namespace) -> bool
     true
 }
 
-const DEEPEST: u8 = 7;
-
 // The place of a namespace below its parent.
 fn place_ok(n: NsSlot, s: Namespace, above: Namespace) -> bool
     ensures { λ r. ⌜ r ≡ place-ok (namespace-row (n .0) s) (namespace-row (s .parent .0) above) ⌝ }
@@ -446,7 +449,7 @@ fn mark_namespace(
 
 // The root, and what the processes hold.
 fn held_by_processes(t: Table) -> [bool; NAMESPACE_SLOTS]
-    ensures { λ r. ⌜ Marks r (held-by-processes (view t)) ⌝ }
+    ensures { λ r. ⌜ Marks namespace-slots r (held-by-processes (view t)) ⌝ }
 {
     let mut marks = [false; NAMESPACE_SLOTS];
     marks[0] = true;
@@ -461,7 +464,7 @@ fn held_by_processes(t: Table) -> [bool; NAMESPACE_SLOTS]
 
 // What the namespaces hold.
 fn held_by_children(namespaces: [Namespace; NAMESPACE_SLOTS]) -> [bool; NAMESPACE_SLOTS]
-    ensures { λ r. ⌜ Marks r (held-by-children namespaces) ⌝ }
+    ensures { λ r. ⌜ Marks namespace-slots r (held-by-children namespaces) ⌝ }
 {
     let mut marks = [false; NAMESPACE_SLOTS];
     let mut n: usize = 0;
@@ -472,15 +475,6 @@ fn held_by_children(namespaces: [Namespace; NAMESPACE_SLOTS]) -> [bool; NAMESPAC
         n += 1;
     }
     marks
-}
-
-fn either(a: bool, b: bool) -> bool
-    ensures { λ r. ⌜ r ≡ a or b ⌝ }
-{
-    if a {
-        return true;
-    }
-    b
 }
 
 // ---- parents
@@ -628,6 +622,9 @@ fn themselves() -> [NsSlot; NAMESPACE_SLOTS]
     tops
 }
 
+// As many as 16 bits hold, so that one key holds a slot and a number.
+const PID_VALUES: u32 = 65536;
+
 // The namespace of a process at a level and its number there, or 0 where it has none.
 fn pid_key(tops: [NsSlot; NAMESPACE_SLOTS], level: u8, p: Process) -> u32
     ensures { λ r. ⌜ r ≡ pid-key (slot-in tops) level (process-row p) ⌝ }
@@ -638,7 +635,7 @@ fn pid_key(tops: [NsSlot; NAMESPACE_SLOTS], level: u8, p: Process) -> u32
     }
     let own = p.own;
     let top = parent_of(tops, own);
-    top.0 as u32 * 65536 + pid.0 as u32
+    top.0 as u32 * PID_VALUES + pid.0 as u32
 }
 
 fn pid_keys(t: Table, tops: [NsSlot; NAMESPACE_SLOTS], level: u8) -> [u32; PROCESS_SLOTS]
@@ -777,7 +774,7 @@ fn namespaces_ok(t: Table) -> bool
         } else {
             empty_process()
         };
-        let held = either(by_process[i], by_child[i]);
+        let held = by_process[i] | by_child[i];
         if !namespace_ok(NsSlot(i as u8), held, s, above, init) {
             return false;
         }
@@ -795,8 +792,8 @@ fn pids_differ(t: Table) -> bool
     let levels = levels(namespaces);
     let mut tops = themselves();
     let mut k: u8 = 0;
-    while k < 8 {
-        let level = 7 - k;
+    while k <= DEEPEST {
+        let level = DEEPEST - k;
         let next = raise(up, levels, tops, level);
         tops = next;
         if !all_differ(pid_keys(t, tops, level)) {

@@ -3,12 +3,12 @@
 use Prim.Native.Nat.{ℕ, zero, suc, _<_, _≤_, _+_}
 use mathlib.Core.Bool.{Bool, true, false}
 use mathlib.Core.Logic.{⊎-elim}
-use mathlib.Core.Path.{_≡_, refl, sym, subst, _∙_}
+use mathlib.Core.Path.{_≡_, refl, sym, ap, subst, _∙_}
 use native.Mathlib.Nat.{eq-or-lt-of-le, le-of-suc-le-suc}
 use native.Mathlib.Numerals.{add-one}
 use native.Mathlib.Omega.{arith}
 use Rattle.table.proofs.Chains.{by-bool, pick-yes, pick-no}
-use Rattle.table.specs.Tests.{any}
+use Rattle.table.specs.Tests.{_or_, if_then_else_, any}
 
 pub record Unmet (n : ℕ) (f : ℕ → Bool) (i : ℕ) : Type 0 where
   pub within : i ≤ n
@@ -63,3 +63,16 @@ pub ruleset any-loops = (any-starts, any-goes-on, any-none, any-found, any-retur
 
 -- where the test is another one, as `if !r { return true; }`, or several stand in the loop: with `chains`
 pub ruleset any-loops-by = (any-starts, any-steps, any-none, any-true, any-here, any-returns-false)
+
+-- ---- two tests in one
+
+pub any-or : (n : ℕ) (f g : ℕ → Bool) → any n (λ i. f i or g i) ≡ any n f or any n g
+unfolding any _or_
+any-or zero f g = refl
+any-or (suc n) f g = ap (λ x. if f n or g n then true else x) (any-or n f g) ∙ go (f n) (g n) (any n f) (any n g)
+  where
+    go : (a b x y : Bool) → (if a or b then true else (x or y)) ≡ (if a then true else x) or (if b then true else y)
+    go true b x y = refl
+    go false true true y = refl
+    go false true false y = refl
+    go false false x y = refl

@@ -6,5 +6,6 @@ pub mod FirstLoops
 pub mod SeekLoops
 pub mod FoldLoops
 pub mod MapLoops
+pub mod MarkLoops
 -- Slots read and put.
 pub mod Slots

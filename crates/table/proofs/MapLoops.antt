@@ -2,20 +2,16 @@
 -- is `Mapped n f d l₀ l i`: i is at most n, and l is l₀ with its first i elements changed. `search map-loops` closes the
 -- loop's three needs. d is what lies past the array's end.
 use Prim.Native.Nat.{ℕ, zero, suc, _<_, _≤_, _+_}
-use mathlib.Core.List.{List, map}
+use mathlib.Core.List.{List}
 use mathlib.Core.Logic.{⊎-elim}
 use mathlib.Core.Path.{_≡_, refl, sym, ap, ap₂, subst, fun-ext, _∙_}
-use lib.ListN.{length, getD, set, length-set, length-map, List·getD-map}
-use lib.Seq.{getD-set-same, getD-set-other, set-getD, ext-getD}
+use lib.ListN.{length, getD, set, length-set, List·getD-eq-default}
+use lib.Seq.{getD-set-same, getD-set-other, set-getD}
+use native.Mathlib.Decide.{decLt}
 use native.Mathlib.Nat.{eq-or-lt-of-le, le-of-suc-le-suc}
 use native.Mathlib.Numerals.{add-one}
 use native.Mathlib.Omega.{arith}
-use Rattle.table.specs.Limits.{process-slots, namespace-slots}
-use Rattle.table.specs.Slots.{no-process, no-namespace, changed}
 use Rattle.table.specs.Tests.{changed-to}
-use Rattle.table.specs.declared.Namespace.{Namespace}
-use Rattle.table.specs.declared.Process.{Process}
-use Rattle.table.specs.declared.Table.{Table}
 
 -- ---- the changed list
 
@@ -43,6 +39,13 @@ changed-at f d (suc n) i l h k =
     (λ (q : i < n).
     getD-set-other (changed-to f d n l) n i (f n (getD l n d)) d (λ e. omega arith) ∙ changed-at f d n i l q k)
     (eq-or-lt-of-le (le-of-suc-le-suc h))
+
+-- what counts of a change is what it makes of the elements that are there
+pub changed-same : {A : Type 0} (f g : ℕ → A → A) (d : A) (n : ℕ) (l : List A) → ((i : ℕ) → i < n → f i (getD l i d) ≡ g i (getD l i d)) → changed-to f d n l ≡ changed-to g d n l
+unfolding changed-to
+changed-same f g d zero l h = refl
+changed-same f g d (suc n) l h =
+    ap₂ (λ u x. set u n x) (changed-same f g d n l (λ i k. h i (omega arith))) (h n (omega arith))
 
 -- where f changes nothing the list stands
 pub changed-none : {A : Type 0} (d : A) (n : ℕ) (l : List A) → changed-to (λ i x. x) d n l ≡ l
@@ -82,33 +85,19 @@ pub ruleset map-loops = (map-starts, map-goes-on, map-done)
 
 pub ruleset map-old-loops = (map-starts, map-goes-on-old, map-done)
 
--- ---- the table u that such loops leave of t
+-- ---- the array l that such a loop leaves, read at any slot
 
-pub both-changed : (t u : Table) (f : ℕ → Process → Process) (g : ℕ → Namespace → Namespace) → u .processes ≡ changed-to f no-process process-slots (t .processes) → u .namespaces ≡ changed-to g no-namespace namespace-slots (t .namespaces) → u ≡ changed t f g
-both-changed t u f g p q = ap₂ (λ ps ns. record { processes = ps; namespaces = ns }) p q
+-- h reads f in it: below n in what the loop puts, and from n on in what lies past the end
+pub changed-reads : {A C : Type 0} (h : A → C) (g : ℕ → A → A) (d : A) (n : ℕ) (l₀ l : List A) (f : ℕ → C) → l ≡ changed-to g d n l₀ → length l₀ ≡ n → ((i : ℕ) → i < n → h (g i (getD l₀ i d)) ≡ f i) → ((i : ℕ) → n ≤ i → h d ≡ f i) → _≡_ {A = ℕ → C} (λ i. h (getD l i d)) f
+changed-reads h g d n l₀ l f e k below past = fun-ext (λ i. ap (λ u. h (getD u i d)) e ∙ at i (decLt i n))
+  where
+    at : (i : ℕ) → Dec (i < n) → h (getD (changed-to g d n l₀) i d) ≡ f i
+    at i (yes b) = ap h (changed-at g d n i l₀ b (omega arith)) ∙ below i b
+    at i (no o) =
+        ap h (changed-past g d n i l₀ (omega arith) ∙ List·getD-eq-default l₀ d {n = i} (omega arith)) ∙ past i (omega arith)
 
--- one loop, over the processes or over the namespaces
-pub processes-changed : (t u : Table) (f : ℕ → Process → Process) (i : ℕ) → Mapped process-slots f no-process (t .processes) (u .processes) i → process-slots ≤ i → u .namespaces ≡ t .namespaces → u ≡ changed t f (λ n s. s)
-processes-changed t u f i m h q =
-    both-changed t u f (λ n s. s) (map-done process-slots f no-process (t .processes) (u .processes) i m h)
-    (q ∙ sym (changed-none no-namespace namespace-slots (t .namespaces)))
-
-pub namespaces-changed : (t u : Table) (g : ℕ → Namespace → Namespace) (i : ℕ) → Mapped namespace-slots g no-namespace (t .namespaces) (u .namespaces) i → namespace-slots ≤ i → u .processes ≡ t .processes → u ≡ changed t (λ n p. p) g
-namespaces-changed t u g i m h q =
-    both-changed t u (λ n p. p) g (q ∙ sym (changed-none no-process process-slots (t .processes)))
-    (map-done namespace-slots g no-namespace (t .namespaces) (u .namespaces) i m h)
-
--- ---- an array filled from another
-
--- every element is what g makes of the element at its place of the other
-pub filled : {A B : Type 0} (g : B → A) (e : B) (n : ℕ) (l : List A) (b : List B) → length l ≡ n → length b ≡ n → changed-to (λ i x. g (getD b i e)) (g e) n l ≡ map g b
-filled g e n l b p q =
-    let long : length (changed-to (λ i x. g (getD b i e)) (g e) n l) ≡ length l = changed-length (λ i x. g (getD b i e)) (g e) n l in
-    ext-getD (g e) (changed-to (λ i x. g (getD b i e)) (g e) n l) (map g b)
-    (long ∙ p ∙ sym (length-map b g ∙ q))
-    (λ i h. changed-at (λ i x. g (getD b i e)) (g e) n i l (omega arith) (omega arith) ∙ sym (List·getD-map g b i e))
-
--- so the array l that such a loop leaves, read by h at any slot, reads as the other
+-- so it reads as another array b does from which each element is made
 pub filled-reads : {A B C : Type 0} (g : B → A) (e : B) (h : A → C) (n : ℕ) (l₀ l : List A) (b : List B) → l ≡ changed-to (λ i x. g (getD b i e)) (g e) n l₀ → length l₀ ≡ n → length b ≡ n → _≡_ {A = ℕ → C} (λ i. h (getD l i (g e))) (λ i. h (g (getD b i e)))
 filled-reads g e h n l₀ l b d p q =
-    fun-ext (λ i. ap (λ u. h (getD u i (g e))) (d ∙ filled g e n l₀ b p q) ∙ ap h (List·getD-map g b i e))
+    changed-reads h (λ i x. g (getD b i e)) (g e) n l₀ l (λ i. h (g (getD b i e))) d p (λ i k. refl)
+    (λ i k. ap (λ x. h (g x)) (sym (List·getD-eq-default b e {n = i} (omega arith))))

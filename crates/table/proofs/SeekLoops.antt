@@ -15,13 +15,17 @@ pub record Seeking (f : ℕ → Bool) (g from c : ℕ) : Type 0 where
 pub seek-starts : (f : ℕ → Bool) (g from : ℕ) → Seeking f g from from
 seek-starts f g from = record { rest = refl }
 
-pub seek-again : (f : ℕ → Bool) (g from c : ℕ) → Seeking f g from c → c ≤ g → f c ≡ false → Seeking f g from (c + 1)
-seek-again f g from c s h e = record { rest = s .rest ∙ lowest-on f (suc g) c (omega arith) e }
+-- c is the candidate as the loop over slots leaves it: still the c₀ that the turn began with
+module _ (f : ℕ → Bool) (g from c₀ c : ℕ) (s : Seeking f g from c₀) (still : c ≡ c₀) (h : c₀ ≤ g) where
+  rest : lowest f (suc g - from) from ≡ lowest f (suc g - c) c
+  rest = s .rest ∙ ap (λ k. lowest f (suc g - k) k) (sym still)
 
--- (In a contract `suc g` may have been computed to a number, e.)
-pub seek-found : (f : ℕ → Bool) (g e from c : ℕ) → Seeking f g from c → suc g ≡ e → c ≤ g → f c ≡ true → c ≡ lowest f (e - from) from
-seek-found f g e from c s q h t =
-    sym (ap (λ k. lowest f (k - from) from) (sym q) ∙ s .rest ∙ lowest-here f (suc g) c (omega arith) t)
+  pub seek-again : f c ≡ false → Seeking f g from (c + 1)
+  seek-again e = record { rest = rest ∙ lowest-on f (suc g) c (omega arith) e }
+
+  -- (In a contract `suc g` may have been computed to a number, e.)
+  pub seek-found : (e : ℕ) → suc g ≡ e → f c ≡ true → c ≡ lowest f (e - from) from
+  seek-found e q t = sym (ap (λ k. lowest f (k - from) from) (sym q) ∙ rest ∙ lowest-here f (suc g) c (omega arith) t)
 
 pub seek-past : (f : ℕ → Bool) (g e from c : ℕ) → Seeking f g from c → suc g ≡ e → g < c → c ≡ lowest f (e - from) from
 seek-past f g e from c s q h =

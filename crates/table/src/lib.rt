@@ -7,20 +7,45 @@ ghost use lib.ListN.{getD};
 ghost use Rattle.table.specs.Fresh.{empty-process, empty-namespace, fresh as fresh-table};
 ghost use Rattle.table.specs.Slots.{namespace, pid-at, is-running, is-ended, is-unborn, is-alive, is-dead, init-of, put, put-namespace};
 
-// ---- limits
+// ---- the numbers of document 01, each named once
 
+// One table: 64 process slots and 32 namespace slots.
 pub const PROCESS_SLOTS: usize = 64;
 
 pub const NAMESPACE_SLOTS: usize = 32;
 
+// No slot, in a field that holds one.
+pub const NO_SLOT: u8 = 255;
+
+// The root has level 0, the deepest namespaces level 7; a process has one number for each level.
 pub const LEVELS: usize = 8;
+
+pub const DEEPEST: u8 = (LEVELS - 1) as u8;
+
+// The greatest process number, and where the search for a free one starts again.
+pub const GREATEST_PID: u16 = 32767;
+
+pub const RESTART_PID: u16 = 300;
+
+// Signal numbers are 0 to 31, and 0 is no signal.
+pub const SIGNALS: u8 = 32;
+
+// Signals that document 01 treats by themselves.
+pub const SIGKILL: u8 = 9;
+
+pub const SIGCONT: u8 = 18;
+
+pub const SIGSTOP: u8 = 19;
+
+// The numbers that an exit can keep are 0 to 255.
+pub const STATUSES: u16 = 256;
 
 // ---- slots and numbers: three kinds, none of which can be passed for another
 
-// The slot of a process. 255 stands for none.
+// The slot of a process. NO_SLOT stands for none.
 pub struct ProcSlot(pub u8);
 
-// The slot of a namespace. 255 stands for none.
+// The slot of a namespace. NO_SLOT stands for none.
 pub struct NsSlot(pub u8);
 
 // A process number, as one namespace sees it. 0 stands for none.
@@ -132,9 +157,6 @@ pub struct Outcome {
 }
 
 // ---- the fresh table
-
-// No slot, in a field that holds one.
-pub const NO_SLOT: u8 = 255;
 
 // An empty process slot: all zero, running.
 pub fn empty_process() -> Process

@@ -4,13 +4,12 @@ use mathlib.Core.Path.{_≡_}
 use borrow.Author.Needs.{needs}
 use lib.Dec.{eqb}
 use Rattle.table.proofs.AnyLoops.{Unmet, any-loops}
-use Rattle.table.proofs.SeekLoops.{Seeking}
+use Rattle.table.proofs.SeekLoops.{Seeking, seek-loops}
 use Rattle.table.specs.Limits.{greatest-pid, process-slots}
 use Rattle.rules.specs.Pids.{free-pid}
 use Rattle.rules.specs.Read.{view, seen, pid-seen}
 use Rattle.table.specs.Tests.{_and_}
 use Rattle.tree.proofs.Sights.{named-test}
-use Rattle.numbers.proofs.Seeks.{seeks}
 use Rattle.numbers.proofs.free_from.Statement.{statement}
 use Rattle.numbers.proofs.free_from.Tie as tie
 
@@ -37,7 +36,7 @@ level-of-requires : tie.Need-level-of-requires Inv-loop μ-loop Inv-candidates �
 level-of-requires c κs = search needs
 
 candidates-holds : tie.Need-candidates-holds Inv-loop μ-loop Inv-candidates μ-candidates
-candidates-holds c = search seeks
+candidates-holds c = search seek-loops
 
 loop-holds : tie.Need-loop-holds Inv-loop μ-loop Inv-candidates μ-candidates
 loop-holds c = search (any-loops, needs)
@@ -59,7 +58,7 @@ candidates-less c = search needs
 
 candidates-again : tie.Need-candidates-again Inv-loop μ-loop Inv-candidates μ-candidates
 unfolding free-pid
-candidates-again c = search (seeks, any-loops, named-test)
+candidates-again c = search (seek-loops, any-loops, named-test)
 
 add-i : tie.Need-add-i Inv-loop μ-loop Inv-candidates μ-candidates
 add-i c = search needs
@@ -72,11 +71,11 @@ loop-again c = search (any-loops, named-test, needs)
 
 returns : tie.Need-returns Inv-loop μ-loop Inv-candidates μ-candidates
 unfolding free-pid
-returns c = search seeks
+returns c = search seek-loops
 
 returns-2 : tie.Need-returns-2 Inv-loop μ-loop Inv-candidates μ-candidates
 unfolding free-pid
-returns-2 c = search (seeks, any-loops, named-test)
+returns-2 c = search (seek-loops, any-loops, named-test)
 
 pub free-from-spec : {M : Type 1} → statement M
 free-from-spec =

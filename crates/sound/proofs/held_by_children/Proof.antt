@@ -1,20 +1,25 @@
 -- The marks of each namespace.
+use Prim.Native.Nat.{_-_}
+use mathlib.Core.Bool.{false}
+use mathlib.Core.Path.{_≡_, sym, subst}
 use borrow.Author.Needs.{needs}
-use Prim.Native.Nat.{_-_, _≤_}
-use Rattle.sound.proofs.Marks.{held-from, marks-none, marks-namespace, marks-children}
+use lib.ListN.{replicate}
+use Rattle.table.proofs.FoldLoops.{Turned, turns, fold-loops}
+use Rattle.table.proofs.MarkLoops.{Marks}
 use Rattle.table.specs.Limits.{namespace-slots}
-use Rattle.sound.specs.Quick.{Marks}
+use Rattle.sound.proofs.Marks.{namespace-turn, children-marked}
+use Rattle.sound.specs.Quick.{held-by-children}
 use Rattle.sound.proofs.held_by_children.Statement.{statement}
 use Rattle.sound.proofs.held_by_children.Tie as tie
 
 abbrev Inv-loop : tie.InvT-loop
-Inv-loop namespaces marks₀ n₀ marks n = (n ≤ namespace-slots) × Marks marks (held-from namespaces n)
+Inv-loop namespaces marks₀ n₀ marks n = Turned namespace-slots (namespace-turn namespaces) marks₀ marks n
 
 abbrev μ-loop : tie.MeasureT-loop
 μ-loop namespaces marks₀ n₀ marks n = namespace-slots - n
 
 loop-holds : tie.Need-loop-holds Inv-loop μ-loop
-loop-holds c = (search needs, marks-none (c .args .t1))
+loop-holds c = search fold-loops
 
 mul-s : tie.Need-mul-s Inv-loop μ-loop
 mul-s c = search needs
@@ -35,10 +40,12 @@ loop-less : tie.Need-loop-less Inv-loop μ-loop
 loop-less c = search needs
 
 loop-again : tie.Need-loop-again Inv-loop μ-loop
-loop-again c = (search needs, marks-namespace (c .before .before .before .before .args .t1) (c .before .before .before .loop .n) (c .before .before .before .loop .marks) (c .mark-namespace .result) (c .before .before .before .loop .inv .1) (c .mark-namespace .ensures))
+loop-again c = search fold-loops
 
 returns : tie.Need-returns Inv-loop μ-loop
-returns c = marks-children _ (c .before .loop .n) (c .before .loop .marks) (c .before .loop .inv .0) (search needs) (c .before .loop .inv .1)
+returns c =
+    let e : c .before .loop .marks ≡ turns namespace-slots (namespace-turn (c .before .before .args .t1)) (replicate namespace-slots false) = search fold-loops in
+    subst (λ m. Marks namespace-slots m (held-by-children (c .before .before .args .t1))) (sym e) (children-marked (c .before .before .args .t1))
 
 pub held-by-children-spec : {M : Type 1} → statement M
 held-by-children-spec =

@@ -1,15 +1,20 @@
 -- The marks of each process, after the root.
+use Prim.Native.Nat.{_-_}
+use mathlib.Core.Bool.{true, false}
+use mathlib.Core.Path.{_≡_, sym, subst}
 use borrow.Author.Needs.{needs}
-use Prim.Native.Nat.{_-_, _≤_}
-use Rattle.sound.proofs.Marks.{held-below, marks-start, marks-process, marks-processes}
-use Rattle.table.specs.Limits.{process-slots}
+use lib.ListN.{set, replicate}
+use Rattle.table.proofs.FoldLoops.{Turned, turns, fold-loops}
+use Rattle.table.proofs.MarkLoops.{Marks}
+use Rattle.table.specs.Limits.{process-slots, namespace-slots}
 use Rattle.rules.specs.Read.{view, taken}
-use Rattle.sound.specs.Quick.{Marks}
+use Rattle.sound.proofs.Marks.{process-turn, processes-marked}
+use Rattle.sound.specs.Quick.{held-by-processes}
 use Rattle.sound.proofs.held_by_processes.Statement.{statement}
 use Rattle.sound.proofs.held_by_processes.Tie as tie
 
 abbrev Inv-loop : tie.InvT-loop
-Inv-loop t marks₀ i₀ marks i = (i ≤ process-slots) × Marks marks (held-below (view t) i)
+Inv-loop t marks₀ i₀ marks i = Turned process-slots (process-turn (view t)) marks₀ marks i
 
 abbrev μ-loop : tie.MeasureT-loop
 μ-loop t marks₀ i₀ marks i = process-slots - i
@@ -18,7 +23,7 @@ array-write-marks : tie.Need-array-write-marks Inv-loop μ-loop
 array-write-marks c = search needs
 
 loop-holds : tie.Need-loop-holds Inv-loop μ-loop
-loop-holds c = (search needs, marks-start (view (c .args .t1)))
+loop-holds c = search fold-loops
 
 mul-p : tie.Need-mul-p Inv-loop μ-loop
 mul-p c = search needs
@@ -37,10 +42,12 @@ loop-less c = search needs
 
 loop-again : tie.Need-loop-again Inv-loop μ-loop
 unfolding taken
-loop-again c = (search needs, marks-process (view (c .before .before .before .before .args .t1)) (c .before .before .before .loop .i) (c .before .before .before .loop .marks) (c .mark-process .result) (c .before .before .before .loop .inv .1) (c .mark-process .ensures))
+loop-again c = search fold-loops
 
 returns : tie.Need-returns Inv-loop μ-loop
-returns c = marks-processes (view (c .before .before .args .t1)) (c .before .loop .i) (c .before .loop .marks) (c .before .loop .inv .0) (search needs) (c .before .loop .inv .1)
+returns c =
+    let e : c .before .loop .marks ≡ turns process-slots (process-turn (view (c .before .before .args .t1))) (set (replicate namespace-slots false) 0 true) = search fold-loops in
+    subst (λ m. Marks namespace-slots m (held-by-processes (view (c .before .before .args .t1)))) (sym e) (processes-marked (view (c .before .before .args .t1)))
 
 pub held-by-processes-spec : {M : Type 1} → statement M
 held-by-processes-spec =

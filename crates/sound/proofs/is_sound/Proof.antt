@@ -19,21 +19,36 @@ root-ok-requires c κs = search needs
 
 returns : tie.Need-returns
 unfolding quick
-returns c = let t = c .before .before .args .t in let p : length (t .processes) ≡ process-slots = search (length-mapped, c .before .before .good) in let n : length (t .namespaces) ≡ namespace-slots = search (length-mapped, c .before .before .good) in let e : false ≡ quick (view t) = fails-6-1 _ _ _ _ _ _ (told-not _ _ (c .before .root-ok .ensures) (c .if1 .taken)) in e ∙ same (view t) (past-from t p n)
+returns c =
+    let t = c .before .before .args .t in
+    let p : length (t .processes) ≡ process-slots = search (length-mapped, c .before .before .good) in
+    let n : length (t .namespaces) ≡ namespace-slots = search (length-mapped, c .before .before .good) in
+    let e : false ≡ quick (view t) = fails-6-1 _ _ _ _ _ _ (told-not _ _ (c .before .root-ok .ensures) (c .if1 .taken)) in
+    e ∙ same (view t) (past-from t p n)
 
 processes-ok-requires : tie.Need-processes-ok-requires
 processes-ok-requires c κs = search needs
 
 returns-2 : tie.Need-returns-2
 unfolding quick
-returns-2 c = let t = c .before .before .before .before .args .t in let p : length (t .processes) ≡ process-slots = search (length-mapped, c .before .before .before .before .good) in let n : length (t .namespaces) ≡ namespace-slots = search (length-mapped, c .before .before .before .before .good) in let e : false ≡ quick (view t) = fails-6-2 _ _ _ _ _ _ (told-not _ _ (c .before .processes-ok .ensures) (c .if2 .taken)) in e ∙ same (view t) (past-from t p n)
+returns-2 c =
+    let t = c .before .before .before .before .args .t in
+    let p : length (t .processes) ≡ process-slots = search (length-mapped, c .before .before .before .before .good) in
+    let n : length (t .namespaces) ≡ namespace-slots = search (length-mapped, c .before .before .before .before .good) in
+    let e : false ≡ quick (view t) = fails-6-2 _ _ _ _ _ _ (told-not _ _ (c .before .processes-ok .ensures) (c .if2 .taken)) in
+    e ∙ same (view t) (past-from t p n)
 
 namespaces-ok-requires : tie.Need-namespaces-ok-requires
 namespaces-ok-requires c κs = search needs
 
 returns-3 : tie.Need-returns-3
 unfolding quick
-returns-3 c = let t = c .before .before .before .before .before .before .args .t in let p : length (t .processes) ≡ process-slots = search (length-mapped, c .before .before .before .before .before .before .good) in let n : length (t .namespaces) ≡ namespace-slots = search (length-mapped, c .before .before .before .before .before .before .good) in let e : false ≡ quick (view t) = fails-6-3 _ _ _ _ _ _ (told-not _ _ (c .before .namespaces-ok .ensures) (c .if3 .taken)) in e ∙ same (view t) (past-from t p n)
+returns-3 c =
+    let t = c .before .before .before .before .before .before .args .t in
+    let p : length (t .processes) ≡ process-slots = search (length-mapped, c .before .before .before .before .before .before .good) in
+    let n : length (t .namespaces) ≡ namespace-slots = search (length-mapped, c .before .before .before .before .before .before .good) in
+    let e : false ≡ quick (view t) = fails-6-3 _ _ _ _ _ _ (told-not _ _ (c .before .namespaces-ok .ensures) (c .if3 .taken)) in
+    e ∙ same (view t) (past-from t p n)
 
 parents-requires : tie.Need-parents-requires
 parents-requires c κs = search needs
@@ -43,7 +58,12 @@ all-reach-root-requires c κs = search needs
 
 returns-4 : tie.Need-returns-4
 unfolding quick
-returns-4 c = let t = c .before .before .before .before .before .before .before .before .before .args .t in let p : length (t .processes) ≡ process-slots = search (length-mapped, c .before .before .before .before .before .before .before .before .before .good) in let n : length (t .namespaces) ≡ namespace-slots = search (length-mapped, c .before .before .before .before .before .before .before .before .before .good) in let e : false ≡ quick (view t) = fails-6-4 _ _ _ _ _ _ (told-not _ _ (c .before .all-reach-root .ensures ∙ ap reach-ok (c .before .before .parents .ensures)) (c .if4 .taken)) in e ∙ same (view t) (past-from t p n)
+returns-4 c =
+    let t = c .before .before .before .before .before .before .before .before .before .args .t in
+    let p : length (t .processes) ≡ process-slots = search (length-mapped, c .before .before .before .before .before .before .before .before .before .good) in
+    let n : length (t .namespaces) ≡ namespace-slots = search (length-mapped, c .before .before .before .before .before .before .before .before .before .good) in
+    let e : false ≡ quick (view t) = fails-6-4 _ _ _ _ _ _ (told-not _ _ (c .before .all-reach-root .ensures ∙ ap reach-ok (c .before .before .parents .ensures)) (c .if4 .taken)) in
+    e ∙ same (view t) (past-from t p n)
 
 unborn-keys-requires : tie.Need-unborn-keys-requires
 unborn-keys-requires c κs = search needs
@@ -53,14 +73,24 @@ all-differ-requires c κs = search needs
 
 returns-5 : tie.Need-returns-5
 unfolding quick
-returns-5 c = let t = c .before .before .before .before .before .before .before .before .before .before .before .before .args .t in let p : length (t .processes) ≡ process-slots = search (length-mapped, c .before .before .before .before .before .before .before .before .before .before .before .before .good) in let n : length (t .namespaces) ≡ namespace-slots = search (length-mapped, c .before .before .before .before .before .before .before .before .before .before .before .before .good) in let e : false ≡ quick (view t) = fails-6-5 _ _ _ _ _ _ (told-not _ _ (c .before .all-differ .ensures ∙ ap differ (c .before .before .unborn-keys .ensures)) (c .if5 .taken)) in e ∙ same (view t) (past-from t p n)
+returns-5 c =
+    let t = c .before .before .before .before .before .before .before .before .before .before .before .before .args .t in
+    let p : length (t .processes) ≡ process-slots = search (length-mapped, c .before .before .before .before .before .before .before .before .before .before .before .before .good) in
+    let n : length (t .namespaces) ≡ namespace-slots = search (length-mapped, c .before .before .before .before .before .before .before .before .before .before .before .before .good) in
+    let e : false ≡ quick (view t) = fails-6-5 _ _ _ _ _ _ (told-not _ _ (c .before .all-differ .ensures ∙ ap differ (c .before .before .unborn-keys .ensures)) (c .if5 .taken)) in
+    e ∙ same (view t) (past-from t p n)
 
 pids-differ-requires : tie.Need-pids-differ-requires
 pids-differ-requires c κs = search needs
 
 returns-6 : tie.Need-returns-6
 unfolding quick
-returns-6 c = let t = c .before .before .before .before .before .before .before .before .before .before .before .before .before .args .t in let p : length (t .processes) ≡ process-slots = search (length-mapped, c .before .before .before .before .before .before .before .before .before .before .before .before .before .good) in let n : length (t .namespaces) ≡ namespace-slots = search (length-mapped, c .before .before .before .before .before .before .before .before .before .before .before .before .before .good) in let e : c .pids-differ .result ≡ quick (view t) = passes-6 _ _ _ _ _ _ _ (told-yes _ _ (c .before .before .before .before .before .before .before .before .before .before .before .before .root-ok .ensures) (c .before .before .before .before .before .before .before .before .before .before .before .if1 .left)) (told-yes _ _ (c .before .before .before .before .before .before .before .before .before .before .processes-ok .ensures) (c .before .before .before .before .before .before .before .before .before .if2 .left)) (told-yes _ _ (c .before .before .before .before .before .before .before .before .namespaces-ok .ensures) (c .before .before .before .before .before .before .before .if3 .left)) (told-yes _ _ (c .before .before .before .before .before .all-reach-root .ensures ∙ ap reach-ok (c .before .before .before .before .before .before .parents .ensures)) (c .before .before .before .before .if4 .left)) (told-yes _ _ (c .before .before .all-differ .ensures ∙ ap differ (c .before .before .before .unborn-keys .ensures)) (c .before .if5 .left)) (c .pids-differ .ensures) in e ∙ same (view t) (past-from t p n)
+returns-6 c =
+    let t = c .before .before .before .before .before .before .before .before .before .before .before .before .before .args .t in
+    let p : length (t .processes) ≡ process-slots = search (length-mapped, c .before .before .before .before .before .before .before .before .before .before .before .before .before .good) in
+    let n : length (t .namespaces) ≡ namespace-slots = search (length-mapped, c .before .before .before .before .before .before .before .before .before .before .before .before .before .good) in
+    let e : c .pids-differ .result ≡ quick (view t) = passes-6 _ _ _ _ _ _ _ (told-yes _ _ (c .before .before .before .before .before .before .before .before .before .before .before .before .root-ok .ensures) (c .before .before .before .before .before .before .before .before .before .before .before .if1 .left)) (told-yes _ _ (c .before .before .before .before .before .before .before .before .before .before .processes-ok .ensures) (c .before .before .before .before .before .before .before .before .before .if2 .left)) (told-yes _ _ (c .before .before .before .before .before .before .before .before .namespaces-ok .ensures) (c .before .before .before .before .before .before .before .if3 .left)) (told-yes _ _ (c .before .before .before .before .before .all-reach-root .ensures ∙ ap reach-ok (c .before .before .before .before .before .before .parents .ensures)) (c .before .before .before .before .if4 .left)) (told-yes _ _ (c .before .before .all-differ .ensures ∙ ap differ (c .before .before .before .unborn-keys .ensures)) (c .before .if5 .left)) (c .pids-differ .ensures) in
+    e ∙ same (view t) (past-from t p n)
 
 pub is-sound-spec : {M : Type 1} → statement M
 is-sound-spec =

@@ -2,13 +2,11 @@
 use borrow.Author.Needs.{needs}
 use mathlib.Core.Logic.{⊎-elim}
 use mathlib.Core.Path.{_≡_, ap, _∙_}
-use lib.ListN.{getD}
-use Rattle.table.proofs.Slots.{field-past}
-use Rattle.table.specs.Slots.{process, namespace, no-process, no-namespace, init-of}
+use Rattle.table.specs.Slots.{process, namespace, init-of}
 use Rattle.rules.specs.Read.{view}
 use Prim.Native.Nat.{_-_}
 use mathlib.Core.Path.{ap₂}
-use Rattle.sound.proofs.Records.{empty-row, namespace-reads}
+use Rattle.sound.proofs.Records.{namespace-past, process-past, namespace-reads}
 use Rattle.sound.proofs.Marks.{marks-all}
 use Rattle.table.proofs.AllLoops.{Passed, all-starts, all-goes-on, all-fails, all-passes}
 use Rattle.table.specs.Limits.{namespace-slots}
@@ -66,14 +64,11 @@ element-copy-out-init c = search needs
 empty-process-requires : tie.Need-empty-process-requires Inv-loop μ-loop
 empty-process-requires c κs = search needs
 
-array-read-either : tie.Need-array-read-either Inv-loop μ-loop
-array-read-either c = search needs
+array-read-held : tie.Need-array-read-held Inv-loop μ-loop
+array-read-held c = search needs
 
-array-read-either-2 : tie.Need-array-read-either-2 Inv-loop μ-loop
-array-read-either-2 c = search needs
-
-either-requires : tie.Need-either-requires Inv-loop μ-loop
-either-requires c κs = search needs
+array-read-held-2 : tie.Need-array-read-held-2 Inv-loop μ-loop
+array-read-held-2 c = search needs
 
 cast-t36 : tie.Need-cast-t36 Inv-loop μ-loop
 cast-t36 c = search needs
@@ -82,8 +77,20 @@ namespace-ok-requires : tie.Need-namespace-ok-requires Inv-loop μ-loop
 namespace-ok-requires c κs = search needs
 
 returns : tie.Need-returns Inv-loop μ-loop
-unfolding namespaces-ok
-returns c = let t = c .before .before .before .before .before .before .before .before .before .before .before .before .before .before .args .t1 in let i = c .before .before .before .before .before .before .before .before .before .before .loop .i in let s = namespace t i in let above : c .before .before .before .before .before .before .if1 .above ≡ namespace t (s .parent .0) = ⊎-elim (λ w. w .2) (λ w. let h = w .0 .left in let e : no-namespace ≡ getD (t .namespaces) (s .parent .0) no-namespace = search (field-past, c .before .before .before .before .before .before .before .before .before .before .before .before .before .before .good) in w .2 ∙ w .1 .ensures ∙ e) (c .before .before .before .before .before .before .if1 .came) in let k = c .before .before .before .before .before .init .result .0 in let read : process-row (c .before .before .before .if2 .init) ≡ process-row (process t k) = ⊎-elim (λ w. ap process-row (w .2)) (λ w. let h = w .0 .left in let e : no-process ≡ getD (t .processes) k no-process = search (field-past, c .before .before .before .before .before .before .before .before .before .before .before .before .before .before .good) in ap process-row (w .2 ∙ w .1 .ensures) ∙ empty-row ∙ ap process-row e) (c .before .before .before .if2 .came) in let init = read ∙ ap (λ k. process-row (process t k)) (c .before .before .before .before .before .init .ensures) in let l = c .before .before .before .before .before .before .before .before .before .loop-test .taken in let held = c .before .before .either .ensures ∙ ap₂ (λ x y. x or y) (c .before .before .before .before .before .before .before .before .before .before .before .before .held-by-processes .ensures .says i l) (c .before .before .before .before .before .before .before .before .before .before .before .held-by-children .ensures .says i l) ∙ marks-all t i in let e = namespace-reads t i _ _ _ (c .before .namespace-ok .result) held above init (c .before .namespace-ok .ensures) in all-fails namespace-slots _ i (c .before .namespace-ok .result) l e (c .if3 .taken)
+unfolding namespaces-ok _or_
+returns c =
+    let t = c .before .before .before .before .before .before .before .before .before .before .before .before .before .args .t1 in
+    let good = c .before .before .before .before .before .before .before .before .before .before .before .before .before .good in
+    let i = c .before .before .before .before .before .before .before .before .before .loop .i in
+    let l = c .before .before .before .before .before .before .before .before .loop-test .taken in
+    let s = namespace t i in
+    let above : c .before .before .before .before .before .if1 .above ≡ namespace t (s .parent .0) = ⊎-elim (λ w. w .2) (λ (a, b, e). search (namespace-past, good)) (c .before .before .before .before .before .if1 .came) in
+    let k = c .before .before .before .before .init .result .0 in
+    let read : process-row (c .before .before .if2 .init) ≡ process-row (process t k) = ⊎-elim (λ w. ap process-row (w .2)) (λ (a, b, e). search (process-past, good)) (c .before .before .if2 .came) in
+    let init = read ∙ ap (λ k. process-row (process t k)) (c .before .before .before .before .init .ensures) in
+    let held = ap₂ (λ x y. x or y) (c .before .before .before .before .before .before .before .before .before .before .before .held-by-processes .ensures .says i l) (c .before .before .before .before .before .before .before .before .before .before .held-by-children .ensures .says i l) ∙ marks-all t i in
+    let e = namespace-reads t i _ _ _ (c .before .namespace-ok .result) held above init (c .before .namespace-ok .ensures) in
+    all-fails namespace-slots _ i (c .before .namespace-ok .result) l e (c .if3 .taken)
 
 add-i : tie.Need-add-i Inv-loop μ-loop
 add-i c = search needs
@@ -92,7 +99,20 @@ loop-less : tie.Need-loop-less Inv-loop μ-loop
 loop-less c = search needs
 
 loop-again : tie.Need-loop-again Inv-loop μ-loop
-loop-again c = let t = c .before .before .before .before .before .before .before .before .before .before .before .before .before .before .args .t1 in let i = c .before .before .before .before .before .before .before .before .before .before .loop .i in let s = namespace t i in let above : c .before .before .before .before .before .before .if1 .above ≡ namespace t (s .parent .0) = ⊎-elim (λ w. w .2) (λ w. let h = w .0 .left in let e : no-namespace ≡ getD (t .namespaces) (s .parent .0) no-namespace = search (field-past, c .before .before .before .before .before .before .before .before .before .before .before .before .before .before .good) in w .2 ∙ w .1 .ensures ∙ e) (c .before .before .before .before .before .before .if1 .came) in let k = c .before .before .before .before .before .init .result .0 in let read : process-row (c .before .before .before .if2 .init) ≡ process-row (process t k) = ⊎-elim (λ w. ap process-row (w .2)) (λ w. let h = w .0 .left in let e : no-process ≡ getD (t .processes) k no-process = search (field-past, c .before .before .before .before .before .before .before .before .before .before .before .before .before .before .good) in ap process-row (w .2 ∙ w .1 .ensures) ∙ empty-row ∙ ap process-row e) (c .before .before .before .if2 .came) in let init = read ∙ ap (λ k. process-row (process t k)) (c .before .before .before .before .before .init .ensures) in let l = c .before .before .before .before .before .before .before .before .before .loop-test .taken in let held = c .before .before .either .ensures ∙ ap₂ (λ x y. x or y) (c .before .before .before .before .before .before .before .before .before .before .before .before .held-by-processes .ensures .says i l) (c .before .before .before .before .before .before .before .before .before .before .before .held-by-children .ensures .says i l) ∙ marks-all t i in let e = namespace-reads t i _ _ _ (c .before .namespace-ok .result) held above init (c .before .namespace-ok .ensures) in all-goes-on namespace-slots _ i (c .before .namespace-ok .result) (c .before .before .before .before .before .before .before .before .before .before .loop .inv) l e (c .if3 .left)
+unfolding _or_
+loop-again c =
+    let t = c .before .before .before .before .before .before .before .before .before .before .before .before .before .args .t1 in
+    let good = c .before .before .before .before .before .before .before .before .before .before .before .before .before .good in
+    let i = c .before .before .before .before .before .before .before .before .before .loop .i in
+    let l = c .before .before .before .before .before .before .before .before .loop-test .taken in
+    let s = namespace t i in
+    let above : c .before .before .before .before .before .if1 .above ≡ namespace t (s .parent .0) = ⊎-elim (λ w. w .2) (λ (a, b, e). search (namespace-past, good)) (c .before .before .before .before .before .if1 .came) in
+    let k = c .before .before .before .before .init .result .0 in
+    let read : process-row (c .before .before .if2 .init) ≡ process-row (process t k) = ⊎-elim (λ w. ap process-row (w .2)) (λ (a, b, e). search (process-past, good)) (c .before .before .if2 .came) in
+    let init = read ∙ ap (λ k. process-row (process t k)) (c .before .before .before .before .init .ensures) in
+    let held = ap₂ (λ x y. x or y) (c .before .before .before .before .before .before .before .before .before .before .before .held-by-processes .ensures .says i l) (c .before .before .before .before .before .before .before .before .before .before .held-by-children .ensures .says i l) ∙ marks-all t i in
+    let e = namespace-reads t i _ _ _ (c .before .namespace-ok .result) held above init (c .before .namespace-ok .ensures) in
+    all-goes-on namespace-slots _ i (c .before .namespace-ok .result) (c .before .before .before .before .before .before .before .before .before .loop .inv) l e (c .if3 .left)
 
 returns-2 : tie.Need-returns-2 Inv-loop μ-loop
 unfolding namespaces-ok
@@ -118,9 +138,8 @@ namespaces-ok-spec =
     mul-init
     element-copy-out-init
     empty-process-requires
-    array-read-either
-    array-read-either-2
-    either-requires
+    array-read-held
+    array-read-held-2
     cast-t36
     namespace-ok-requires
     returns

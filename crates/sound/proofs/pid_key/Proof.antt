@@ -2,7 +2,7 @@
 use Prim.Native.Nat.{_+_, _*_}
 use mathlib.Core.Path.{refl, ap₂}
 use Rattle.table.proofs.Chains.{if-yes, if-no, told-equal, told-other}
-use Rattle.sound.specs.Quick.{pid-key}
+use Rattle.sound.specs.Quick.{pid-values, pid-key}
 use borrow.Author.Needs.{needs}
 use Rattle.sound.proofs.pid_key.Statement.{statement}
 use Rattle.sound.proofs.pid_key.Tie as tie
@@ -31,7 +31,7 @@ add-result c = search needs
 
 returns-2 : tie.Need-returns-2
 unfolding pid-key
-returns-2 c = if-no _ _ _ _ (told-other _ _ _ (c .before .before .before .before .before .before .pid-at .ensures) (c .before .before .before .before .if1 .left)) (ap₂ (λ x y. x * 65536 + y) (c .before .before .parent-of .ensures) (c .before .before .before .before .before .before .pid-at .ensures))
+returns-2 c = if-no _ _ _ _ (told-other _ _ _ (c .before .before .before .before .before .before .pid-at .ensures) (c .before .before .before .before .if1 .left)) (ap₂ (λ x y. x * pid-values + y) (c .before .before .parent-of .ensures) (c .before .before .before .before .before .before .pid-at .ensures))
 
 pub pid-key-spec : {M : Type 1} → statement M
 pid-key-spec =

@@ -1,28 +1,27 @@
 -- Each key at its place.
-use mathlib.Core.Path.{_≡_}
+use Prim.Native.Nat.{ℕ, _-_}
+use mathlib.Core.Path.{_≡_, refl, ap}
+use borrow.Author.Needs.{needs}
 use lib.ListN.{getD}
-use mathlib.Core.Path.{ap}
+use Rattle.table.proofs.MapLoops.{Mapped, map-old-loops, map-done, changed-reads}
 use Rattle.table.proofs.Slots.{field-past}
+use Rattle.table.specs.Limits.{process-slots}
 use Rattle.table.specs.Slots.{no-process}
 use Rattle.rules.specs.Read.{taken, view}
-use Rattle.sound.proofs.Fills.{blank-keys, Filling, fill-starts, fill-goes-on, fill-stays, fill-done}
-use Rattle.sound.specs.Quick.{process-row, process-at, pid-key}
-use borrow.Author.Needs.{needs}
-use Prim.Native.Nat.{ℕ, _-_}
-use mathlib.Core.Path.{refl}
-use Rattle.table.specs.Limits.{process-slots}
 use Rattle.tree.specs.Tree.{slot-in}
+use Rattle.sound.specs.Quick.{process-row, process-at, pid-key}
 use Rattle.sound.proofs.pid_keys.Statement.{statement}
 use Rattle.sound.proofs.pid_keys.Tie as tie
 
 abbrev Inv-loop : tie.InvT-loop
-Inv-loop tops level t keys₀ i₀ keys i = Filling process-slots (λ (k : ℕ). k) 0 (λ k. pid-key (slot-in tops) level (process-at (view t) k)) (λ k. 0) keys i
+Inv-loop tops level t keys₀ i₀ keys i =
+    Mapped process-slots (λ k x. pid-key (slot-in tops) level (process-at (view t) k)) 0 keys₀ keys i
 
 abbrev μ-loop : tie.MeasureT-loop
 μ-loop tops level t keys₀ i₀ keys i = process-slots - i
 
 loop-holds : tie.Need-loop-holds Inv-loop μ-loop
-loop-holds c = fill-starts process-slots (λ (k : ℕ). k) 0 _ (λ k. 0) _ refl (blank-keys process-slots)
+loop-holds c = search map-old-loops
 
 mul-p : tie.Need-mul-p Inv-loop μ-loop
 mul-p c = search needs
@@ -47,11 +46,16 @@ loop-less c = search needs
 
 loop-again : tie.Need-loop-again Inv-loop μ-loop
 unfolding taken
-loop-again c = fill-goes-on process-slots (λ (k : ℕ). k) 0 _ (λ k. 0) _ _ _ (c .before .before .before .loop .inv) (search needs) (c .pid-key .ensures)
+loop-again c = search map-old-loops
 
 returns : tie.Need-returns Inv-loop μ-loop
 unfolding taken pid-key
-returns c = let a = c .before .before .args in fill-done process-slots (λ (k : ℕ). k) 0 _ (λ k. 0) _ _ (c .before .loop .inv) (search needs) (λ k h. let e : no-process ≡ getD (a .t1 .processes) k no-process = search field-past in ap (λ p. pid-key (slot-in (a .tops)) (a .level) (process-row p)) e)
+returns c =
+    let a = c .before .before .args in
+    changed-reads (λ (k : ℕ). k) _ 0 process-slots _ _ _ (map-done process-slots _ 0 _ _ _ (c .before .loop .inv) (search needs)) refl (λ k h. refl)
+    (λ k h.
+    let e : no-process ≡ getD (a .t1 .processes) k no-process = search field-past in
+    ap (λ p. pid-key (slot-in (a .tops)) (a .level) (process-row p)) e)
 
 pub pid-keys-spec : {M : Type 1} → statement M
 pid-keys-spec =

@@ -31,9 +31,6 @@ loop-holds : tie.Need-loop-holds Inv-loop μ-loop
 unfolding top
 loop-holds c = (all-starts level-count _, c .themselves .ensures)
 
-sub-level : tie.Need-sub-level Inv-loop μ-loop
-sub-level c = search needs
-
 raise-requires : tie.Need-raise-requires Inv-loop μ-loop
 raise-requires c κs = search needs
 
@@ -44,7 +41,12 @@ all-differ-requires : tie.Need-all-differ-requires Inv-loop μ-loop
 all-differ-requires c κs = search needs
 
 returns : tie.Need-returns Inv-loop μ-loop
-returns c = let v = view (c .before .before .before .before .before .before .before .before .before .before .args .t) in let k = c .before .before .before .before .before .loop .k in let next = next-top v k _ _ _ _ (c .before .before .before .before .before .before .before .before .ups .ensures) (c .before .before .before .before .before .before .before .levels .ensures) (c .before .before .before .before .before .loop .inv .1) (c .before .before .before .raise .ensures) in let e = next-differs v k _ _ (c .before .all-differ .result) next (c .before .before .pid-keys .ensures) (c .before .all-differ .ensures) in all-fails level-count _ k (c .before .all-differ .result) (c .before .before .before .before .loop-test .taken) e (c .if1 .taken)
+returns c =
+    let v = view (c .before .before .before .before .before .before .before .before .before .before .args .t) in
+    let k = c .before .before .before .before .before .loop .k in
+    let next = next-top v k _ _ _ _ (c .before .before .before .before .before .before .before .before .ups .ensures) (c .before .before .before .before .before .before .before .levels .ensures) (c .before .before .before .before .before .loop .inv .1) (c .before .before .before .raise .ensures) in
+    let e = next-differs v k _ _ (c .before .all-differ .result) next (c .before .before .pid-keys .ensures) (c .before .all-differ .ensures) in
+    all-fails level-count _ k (c .before .all-differ .result) (search needs) e (c .if1 .taken)
 
 add-k : tie.Need-add-k Inv-loop μ-loop
 add-k c = search needs
@@ -53,7 +55,12 @@ loop-less : tie.Need-loop-less Inv-loop μ-loop
 loop-less c = search needs
 
 loop-again : tie.Need-loop-again Inv-loop μ-loop
-loop-again c = let v = view (c .before .before .before .before .before .before .before .before .before .before .args .t) in let k = c .before .before .before .before .before .loop .k in let next = next-top v k _ _ _ _ (c .before .before .before .before .before .before .before .before .ups .ensures) (c .before .before .before .before .before .before .before .levels .ensures) (c .before .before .before .before .before .loop .inv .1) (c .before .before .before .raise .ensures) in let e = next-differs v k _ _ (c .before .all-differ .result) next (c .before .before .pid-keys .ensures) (c .before .all-differ .ensures) in (all-goes-on level-count _ k (c .before .all-differ .result) (c .before .before .before .before .before .loop .inv .0) (c .before .before .before .before .loop-test .taken) e (c .if1 .left), rw add-one next)
+loop-again c =
+    let v = view (c .before .before .before .before .before .before .before .before .before .before .args .t) in
+    let k = c .before .before .before .before .before .loop .k in
+    let next = next-top v k _ _ _ _ (c .before .before .before .before .before .before .before .before .ups .ensures) (c .before .before .before .before .before .before .before .levels .ensures) (c .before .before .before .before .before .loop .inv .1) (c .before .before .before .raise .ensures) in
+    let e = next-differs v k _ _ (c .before .all-differ .result) next (c .before .before .pid-keys .ensures) (c .before .all-differ .ensures) in
+    (all-goes-on level-count _ k (c .before .all-differ .result) (c .before .before .before .before .before .loop .inv .0) (search needs) e (c .if1 .left), rw add-one next)
 
 returns-2 : tie.Need-returns-2 Inv-loop μ-loop
 returns-2 c = all-passes level-count _ _ (c .before .loop .inv .0) (search needs)
@@ -68,7 +75,6 @@ pids-differ-spec =
     levels-requires
     themselves-requires
     loop-holds
-    sub-level
     raise-requires
     pid-keys-requires
     all-differ-requires

@@ -1,13 +1,11 @@
 -- A loop that tests every slot with the records that its process names.
 use borrow.Author.Needs.{needs}
 use mathlib.Core.Logic.{⊎-elim}
-use mathlib.Core.Path.{_≡_, ap, _∙_}
-use lib.ListN.{getD}
-use Rattle.table.proofs.Slots.{field-past}
-use Rattle.table.specs.Slots.{process, namespace, no-process, no-namespace}
+use mathlib.Core.Path.{_≡_, ap}
+use Rattle.table.specs.Slots.{process, namespace}
 use Rattle.rules.specs.Read.{view}
 use Prim.Native.Nat.{_-_}
-use Rattle.sound.proofs.Records.{empty-row, process-reads}
+use Rattle.sound.proofs.Records.{namespace-past, process-past, process-reads}
 use Rattle.table.proofs.AllLoops.{Passed, all-starts, all-goes-on, all-fails, all-passes}
 use Rattle.table.specs.Limits.{process-slots}
 use Rattle.tree.specs.Tree.{slot-in}
@@ -74,7 +72,16 @@ process-ok-requires c κs = search needs
 
 returns : tie.Need-returns Inv-loop μ-loop
 unfolding processes-ok
-returns c = let t = c .before .before .before .before .before .before .before .before .before .before .before .before .before .args .t1 in let i = c .before .before .before .before .before .before .before .before .before .before .loop .i in let p = process t i in let home : c .before .before .before .before .before .before .if1 .home ≡ namespace t (p .own .0) = ⊎-elim (λ w. w .2) (λ w. let h = w .0 .left in let e : no-namespace ≡ getD (t .namespaces) (p .own .0) no-namespace = search (field-past, c .before .before .before .before .before .before .before .before .before .before .before .before .before .good) in w .2 ∙ w .1 .ensures ∙ e) (c .before .before .before .before .before .before .if1 .came) in let inner : c .before .before .before .before .if2 .inner ≡ namespace t (p .children .0) = ⊎-elim (λ w. w .2) (λ w. let h = w .0 .left in let e : no-namespace ≡ getD (t .namespaces) (p .children .0) no-namespace = search (field-past, c .before .before .before .before .before .before .before .before .before .before .before .before .before .good) in w .2 ∙ w .1 .ensures ∙ e) (c .before .before .before .before .if2 .came) in let parent : process-row (c .before .before .if3 .parent) ≡ process-row (process t (p .parent .0)) = ⊎-elim (λ w. ap process-row (w .2)) (λ w. let h = w .0 .left in let e : no-process ≡ getD (t .processes) (p .parent .0) no-process = search (field-past, c .before .before .before .before .before .before .before .before .before .before .before .before .before .good) in ap process-row (w .2 ∙ w .1 .ensures) ∙ empty-row ∙ ap process-row e) (c .before .before .if3 .came) in let e = process-reads t i (slot-in (c .before .before .before .before .before .before .before .before .before .before .before .ups .result)) _ _ _ (c .before .process-ok .result) (c .before .before .before .before .before .before .before .before .before .before .before .ups .ensures) home inner parent (c .before .process-ok .ensures) in all-fails process-slots _ i (c .before .process-ok .result) (c .before .before .before .before .before .before .before .before .before .loop-test .taken) e (c .if4 .taken)
+returns c =
+    let t = c .before .before .before .before .before .before .before .before .before .before .before .before .before .args .t1 in
+    let good = c .before .before .before .before .before .before .before .before .before .before .before .before .before .good in
+    let i = c .before .before .before .before .before .before .before .before .before .before .loop .i in
+    let p = process t i in
+    let home : c .before .before .before .before .before .before .if1 .home ≡ namespace t (p .own .0) = ⊎-elim (λ w. w .2) (λ (a, b, e). search (namespace-past, good)) (c .before .before .before .before .before .before .if1 .came) in
+    let inner : c .before .before .before .before .if2 .inner ≡ namespace t (p .children .0) = ⊎-elim (λ w. w .2) (λ (a, b, e). search (namespace-past, good)) (c .before .before .before .before .if2 .came) in
+    let parent : process-row (c .before .before .if3 .parent) ≡ process-row (process t (p .parent .0)) = ⊎-elim (λ w. ap process-row (w .2)) (λ (a, b, e). search (process-past, good)) (c .before .before .if3 .came) in
+    let e = process-reads t i (slot-in (c .before .before .before .before .before .before .before .before .before .before .before .ups .result)) _ _ _ (c .before .process-ok .result) (c .before .before .before .before .before .before .before .before .before .before .before .ups .ensures) home inner parent (c .before .process-ok .ensures) in
+    all-fails process-slots _ i (c .before .process-ok .result) (c .before .before .before .before .before .before .before .before .before .loop-test .taken) e (c .if4 .taken)
 
 add-i : tie.Need-add-i Inv-loop μ-loop
 add-i c = search needs
@@ -83,7 +90,16 @@ loop-less : tie.Need-loop-less Inv-loop μ-loop
 loop-less c = search needs
 
 loop-again : tie.Need-loop-again Inv-loop μ-loop
-loop-again c = let t = c .before .before .before .before .before .before .before .before .before .before .before .before .before .args .t1 in let i = c .before .before .before .before .before .before .before .before .before .before .loop .i in let p = process t i in let home : c .before .before .before .before .before .before .if1 .home ≡ namespace t (p .own .0) = ⊎-elim (λ w. w .2) (λ w. let h = w .0 .left in let e : no-namespace ≡ getD (t .namespaces) (p .own .0) no-namespace = search (field-past, c .before .before .before .before .before .before .before .before .before .before .before .before .before .good) in w .2 ∙ w .1 .ensures ∙ e) (c .before .before .before .before .before .before .if1 .came) in let inner : c .before .before .before .before .if2 .inner ≡ namespace t (p .children .0) = ⊎-elim (λ w. w .2) (λ w. let h = w .0 .left in let e : no-namespace ≡ getD (t .namespaces) (p .children .0) no-namespace = search (field-past, c .before .before .before .before .before .before .before .before .before .before .before .before .before .good) in w .2 ∙ w .1 .ensures ∙ e) (c .before .before .before .before .if2 .came) in let parent : process-row (c .before .before .if3 .parent) ≡ process-row (process t (p .parent .0)) = ⊎-elim (λ w. ap process-row (w .2)) (λ w. let h = w .0 .left in let e : no-process ≡ getD (t .processes) (p .parent .0) no-process = search (field-past, c .before .before .before .before .before .before .before .before .before .before .before .before .before .good) in ap process-row (w .2 ∙ w .1 .ensures) ∙ empty-row ∙ ap process-row e) (c .before .before .if3 .came) in let e = process-reads t i (slot-in (c .before .before .before .before .before .before .before .before .before .before .before .ups .result)) _ _ _ (c .before .process-ok .result) (c .before .before .before .before .before .before .before .before .before .before .before .ups .ensures) home inner parent (c .before .process-ok .ensures) in all-goes-on process-slots _ i (c .before .process-ok .result) (c .before .before .before .before .before .before .before .before .before .before .loop .inv) (c .before .before .before .before .before .before .before .before .before .loop-test .taken) e (c .if4 .left)
+loop-again c =
+    let t = c .before .before .before .before .before .before .before .before .before .before .before .before .before .args .t1 in
+    let good = c .before .before .before .before .before .before .before .before .before .before .before .before .before .good in
+    let i = c .before .before .before .before .before .before .before .before .before .before .loop .i in
+    let p = process t i in
+    let home : c .before .before .before .before .before .before .if1 .home ≡ namespace t (p .own .0) = ⊎-elim (λ w. w .2) (λ (a, b, e). search (namespace-past, good)) (c .before .before .before .before .before .before .if1 .came) in
+    let inner : c .before .before .before .before .if2 .inner ≡ namespace t (p .children .0) = ⊎-elim (λ w. w .2) (λ (a, b, e). search (namespace-past, good)) (c .before .before .before .before .if2 .came) in
+    let parent : process-row (c .before .before .if3 .parent) ≡ process-row (process t (p .parent .0)) = ⊎-elim (λ w. ap process-row (w .2)) (λ (a, b, e). search (process-past, good)) (c .before .before .if3 .came) in
+    let e = process-reads t i (slot-in (c .before .before .before .before .before .before .before .before .before .before .before .ups .result)) _ _ _ (c .before .process-ok .result) (c .before .before .before .before .before .before .before .before .before .before .before .ups .ensures) home inner parent (c .before .process-ok .ensures) in
+    all-goes-on process-slots _ i (c .before .process-ok .result) (c .before .before .before .before .before .before .before .before .before .before .loop .inv) (c .before .before .before .before .before .before .before .before .before .loop-test .taken) e (c .if4 .left)
 
 returns-2 : tie.Need-returns-2 Inv-loop μ-loop
 unfolding processes-ok

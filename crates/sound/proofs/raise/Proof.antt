@@ -1,17 +1,16 @@
 -- Each namespace that is below the level goes one up.
+use Prim.Native.Nat.{_-_}
 use native.Mathlib.Omega.{arith}
-use mathlib.Core.Path.{_≡_, ap, _∙_}
+use mathlib.Core.Path.{_≡_, refl, ap}
+use borrow.Author.Needs.{needs}
 use borrow.Author.Tests.{le-ltb}
 use lib.Dec.{ltb}
 use lib.ListN.{getD}
 use Rattle.table.proofs.Chains.{if-no}
+use Rattle.table.proofs.MapLoops.{Mapped, map-loops, map-goes-on, map-done, changed-reads}
 use Rattle.table.proofs.Slots.{array-past}
-use Rattle.table.specs.Tests.{if_then_else_}
-use borrow.Author.Needs.{needs}
-use Prim.Native.Nat.{ℕ, _-_}
-use mathlib.Core.Path.{refl}
-use Rattle.sound.proofs.Fills.{Filling, fill-starts, fill-goes-on, fill-done}
 use Rattle.table.specs.Limits.{namespace-slots}
+use Rattle.table.specs.Tests.{if_then_else_}
 use Rattle.table.specs.declared.NsSlot.{NsSlot}
 use Rattle.tree.specs.Tree.{slot-in, level-in}
 use Rattle.sound.specs.Quick.{raised as raised-to}
@@ -19,13 +18,14 @@ use Rattle.sound.proofs.raise.Statement.{statement}
 use Rattle.sound.proofs.raise.Tie as tie
 
 abbrev Inv-loop : tie.InvT-loop
-Inv-loop up level levels raised₀ n₀ raised n = Filling namespace-slots (λ (s : NsSlot). s .0) (record { 0 = 0 }) (raised-to (slot-in up) (level-in levels) level (slot-in raised₀)) (slot-in raised₀) raised n
+Inv-loop up level levels raised₀ n₀ raised n =
+    Mapped namespace-slots (λ k (x : NsSlot). record { 0 = if ltb level (level-in levels k) then slot-in up (x .0) else x .0 }) (record { 0 = 0 }) raised₀ raised n
 
 abbrev μ-loop : tie.MeasureT-loop
 μ-loop up level levels raised₀ n₀ raised n = namespace-slots - n
 
 loop-holds : tie.Need-loop-holds Inv-loop μ-loop
-loop-holds c = fill-starts namespace-slots (λ (s : NsSlot). s .0) (record { 0 = 0 }) _ _ _ (search needs) (λ k. refl)
+loop-holds c = search map-loops
 
 array-copy-out-top : tie.Need-array-copy-out-top Inv-loop μ-loop
 array-copy-out-top c = search needs
@@ -46,12 +46,18 @@ loop-less : tie.Need-loop-less Inv-loop μ-loop
 loop-less c = search needs
 
 loop-again : tie.Need-loop-again Inv-loop μ-loop
-unfolding raised-to
-loop-again c = let a = c .before .before .before .before .args in let k = c .before .before .before .loop .n in let m = c .before .before .before .loop .inv in fill-goes-on namespace-slots (λ (s : NsSlot). s .0) (record { 0 = 0 }) _ _ _ _ _ m (search needs) (c .raise-one .ensures ∙ ap (λ x. if ltb (a .level) (level-in (a .t2) k) then slot-in (a .up) x else x) (m .rest k (search needs)))
+loop-again c =
+    map-goes-on namespace-slots _ _ _ _ _ _ (c .before .before .before .loop .inv) (search needs) (ap (λ k. record { 0 = k }) (c .raise-one .ensures))
 
 returns : tie.Need-returns Inv-loop μ-loop
 unfolding raised-to
-returns c = let a = c .before .before .args in fill-done namespace-slots (λ (s : NsSlot). s .0) (record { 0 = 0 }) _ _ _ _ (c .before .loop .inv) (search needs) (λ k h. let e : 0 ≡ getD (a .t2) k 0 = search array-past in if-no _ _ _ _ (le-ltb (a .level) (level-in (a .t2) k) (omega arith)) refl)
+returns c =
+    let a = c .before .before .args in
+    changed-reads (λ (s : NsSlot). s .0) _ (record { 0 = 0 }) namespace-slots _ _ _ (map-done namespace-slots _ _ _ _ _ (c .before .loop .inv) (search needs)) (search needs) (λ k h. refl)
+    (λ k h.
+    let e : 0 ≡ getD (a .t2) k 0 = search array-past in
+    let z : record { 0 = 0 } ≡ getD (a .tops) k (record { 0 = 0 }) = search array-past in
+    if-no _ _ _ _ (le-ltb (a .level) (level-in (a .t2) k) (omega arith)) (ap (λ s. s .0) z))
 
 pub raise-spec : {M : Type 1} → statement M
 raise-spec =

@@ -1,11 +1,11 @@
 -- Each namespace at its place.
-use mathlib.Core.Path.{sym}
-use borrow.Author.Tests.{lt-ltb, le-ltb}
-use Rattle.table.proofs.Chains.{pick-yes, pick-no}
-use Rattle.sound.proofs.Fills.{blank-namespaces, Filling, fill-starts, fill-goes-on, fill-stays, fill-done}
+use Prim.Native.Nat.{_-_}
+use mathlib.Core.Path.{refl, sym}
 use borrow.Author.Needs.{needs}
-use Prim.Native.Nat.{ℕ, _-_}
-use mathlib.Core.Path.{refl}
+use borrow.Author.Tests.{lt-ltb, le-ltb}
+use lib.ListN.{replicate}
+use Rattle.table.proofs.Chains.{pick-yes, pick-no}
+use Rattle.table.proofs.MapLoops.{Mapped, map-old-loops, changed-reads}
 use Rattle.table.specs.Limits.{namespace-slots}
 use Rattle.table.specs.declared.NsSlot.{NsSlot}
 use Rattle.sound.specs.Quick.{itself}
@@ -13,13 +13,13 @@ use Rattle.sound.proofs.themselves.Statement.{statement}
 use Rattle.sound.proofs.themselves.Tie as tie
 
 abbrev Inv-loop : tie.InvT-loop
-Inv-loop tops₀ n₀ tops n = Filling namespace-slots (λ (s : NsSlot). s .0) (record { 0 = 0 }) itself (λ k. 0) tops n
+Inv-loop tops₀ n₀ tops n = Mapped namespace-slots (λ k x. record { 0 = k }) (record { 0 = 0 }) tops₀ tops n
 
 abbrev μ-loop : tie.MeasureT-loop
 μ-loop tops₀ n₀ tops n = namespace-slots - n
 
 loop-holds : tie.Need-loop-holds Inv-loop μ-loop
-loop-holds c = fill-starts namespace-slots (λ (s : NsSlot). s .0) (record { 0 = 0 }) itself (λ k. 0) _ refl (blank-namespaces namespace-slots)
+loop-holds c = search map-old-loops
 
 cast-t5 : tie.Need-cast-t5 Inv-loop μ-loop
 cast-t5 c = search needs
@@ -34,12 +34,13 @@ loop-less : tie.Need-loop-less Inv-loop μ-loop
 loop-less c = search needs
 
 loop-again : tie.Need-loop-again Inv-loop μ-loop
-unfolding itself
-loop-again c = fill-goes-on namespace-slots (λ (s : NsSlot). s .0) (record { 0 = 0 }) itself (λ k. 0) _ _ _ (c .before .loop .inv) (search needs) (sym (pick-yes _ (c .before .loop .n) 0 (lt-ltb _ _ (c .loop-test .taken))))
+loop-again c = search map-old-loops
 
 returns : tie.Need-returns Inv-loop μ-loop
 unfolding itself
-returns c = fill-done namespace-slots (λ (s : NsSlot). s .0) (record { 0 = 0 }) itself (λ k. 0) _ _ (c .before .loop .inv) (search needs) (λ k h. sym (pick-no _ k 0 (le-ltb _ _ h)))
+returns c =
+    changed-reads (λ (s : NsSlot). s .0) (λ k x. record { 0 = k }) (record { 0 = 0 }) namespace-slots (replicate namespace-slots (record { 0 = 0 })) (c .before .loop .tops) itself (search map-old-loops) refl
+    (λ k h. sym (pick-yes _ k 0 (lt-ltb k namespace-slots h))) (λ k h. sym (pick-no _ k 0 (le-ltb k namespace-slots h)))
 
 pub themselves-spec : {M : Type 1} → statement M
 themselves-spec =

@@ -1,28 +1,28 @@
 -- Each key at its place.
-use borrow.Author.Needs.{needs}
-use mathlib.Core.Logic.{⊎-elim}
-use mathlib.Core.Path.{_≡_, ap, _∙_}
-use lib.ListN.{getD}
-use Rattle.table.proofs.Slots.{field-past}
-use Rattle.table.specs.Slots.{process, namespace, no-process, no-namespace}
-use Rattle.rules.specs.Read.{view, taken, namespace-taken}
 use Prim.Native.Nat.{ℕ, _-_}
-use mathlib.Core.Path.{refl}
-use Rattle.sound.proofs.Fills.{Filling, fill-starts, fill-goes-on, fill-done, blank-keys}
+use mathlib.Core.Logic.{⊎-elim}
+use mathlib.Core.Path.{_≡_, refl, ap, _∙_}
+use borrow.Author.Needs.{needs}
+use lib.ListN.{getD}
+use Rattle.table.proofs.MapLoops.{Mapped, map-old-loops, map-goes-on-old, map-done, changed-reads}
+use Rattle.table.proofs.Slots.{field-past}
 use Rattle.table.specs.Limits.{process-slots}
+use Rattle.table.specs.Slots.{process, namespace, no-process}
 use Rattle.table.specs.Tests.{_and_}
+use Rattle.rules.specs.Read.{view, taken, namespace-taken}
+use Rattle.sound.proofs.Records.{namespace-past}
 use Rattle.sound.specs.Quick.{process-row, namespace-row, unborn-key, unborn-keys as unborn-keys-of}
 use Rattle.sound.proofs.unborn_keys.Statement.{statement}
 use Rattle.sound.proofs.unborn_keys.Tie as tie
 
 abbrev Inv-loop : tie.InvT-loop
-Inv-loop t keys₀ i₀ keys i = Filling process-slots (λ (k : ℕ). k) 0 (unborn-keys-of (view t)) (λ k. 0) keys i
+Inv-loop t keys₀ i₀ keys i = Mapped process-slots (λ k x. unborn-keys-of (view t) k) 0 keys₀ keys i
 
 abbrev μ-loop : tie.MeasureT-loop
 μ-loop t keys₀ i₀ keys i = process-slots - i
 
 loop-holds : tie.Need-loop-holds Inv-loop μ-loop
-loop-holds c = fill-starts process-slots (λ (k : ℕ). k) 0 _ (λ k. 0) _ refl (blank-keys process-slots)
+loop-holds c = search map-old-loops
 
 mul-p : tie.Need-mul-p Inv-loop μ-loop
 mul-p c = search needs
@@ -59,11 +59,22 @@ loop-less c = search needs
 
 loop-again : tie.Need-loop-again Inv-loop μ-loop
 unfolding taken namespace-taken
-loop-again c = let t = c .before .before .before .before .before .before .args .t1 in let i = c .before .before .before .before .before .loop .i in let p = process t i in let inner : c .before .if1 .inner ≡ namespace t (p .children .0) = ⊎-elim (λ w. w .2) (λ w. let h = w .0 .left in let e : no-namespace ≡ getD (t .namespaces) (p .children .0) no-namespace = search field-past in w .2 ∙ w .1 .ensures ∙ e) (c .before .if1 .came) in fill-goes-on process-slots (λ (k : ℕ). k) 0 _ (λ k. 0) _ _ _ (c .before .before .before .before .before .loop .inv) (search needs) (c .unborn-key .ensures ∙ ap (λ s. unborn-key (process-row p) (namespace-row (p .children .0) s)) inner)
+loop-again c =
+    let t = c .before .before .before .before .before .before .args .t1 in
+    let i = c .before .before .before .before .before .loop .i in
+    let p = process t i in
+    let inner : c .before .if1 .inner ≡ namespace t (p .children .0) = ⊎-elim (λ w. w .2) (λ (a, b, e). search namespace-past) (c .before .if1 .came) in
+    map-goes-on-old process-slots _ _ _ _ _ _ (c .before .before .before .before .before .loop .inv) (search needs)
+    (c .unborn-key .ensures ∙ ap (λ s. unborn-key (process-row p) (namespace-row (p .children .0) s)) inner)
 
 returns : tie.Need-returns Inv-loop μ-loop
 unfolding taken namespace-taken unborn-key _and_
-returns c = let t = c .before .before .args .t1 in fill-done process-slots (λ (k : ℕ). k) 0 _ (λ k. 0) _ _ (c .before .loop .inv) (search needs) (λ k h. let e : no-process ≡ getD (t .processes) k no-process = search field-past in ap (λ p. unborn-key (process-row p) (namespace-row (p .children .0) (namespace t (p .children .0)))) e)
+returns c =
+    let t = c .before .before .args .t1 in
+    changed-reads (λ (k : ℕ). k) _ 0 process-slots _ _ _ (map-done process-slots _ 0 _ _ _ (c .before .loop .inv) (search needs)) refl (λ k h. refl)
+    (λ k h.
+    let e : no-process ≡ getD (t .processes) k no-process = search field-past in
+    ap (λ p. unborn-key (process-row p) (namespace-row (p .children .0) (namespace t (p .children .0)))) e)
 
 pub unborn-keys-spec : {M : Type 1} → statement M
 unborn-keys-spec =
