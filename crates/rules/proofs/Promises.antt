@@ -4,10 +4,11 @@ use Rattle.rules.proofs.Keeps.Exact as Exact
 use Rattle.rules.proofs.Keeps.Fixed as Fixed
 use Rattle.rules.proofs.Keeps.Finds as Finds
 use Rattle.rules.proofs.Keeps.Fresh as Fresh
+use Rattle.rules.proofs.Keeps.Killed as Killed
 use Rattle.rules.proofs.Keeps.Lines as Lines
 use Rattle.rules.proofs.Keeps.Numbers as Numbers
 use Rattle.rules.proofs.Keeps.Refusals as Refusals
-use Rattle.rules.specs.Claims.{RefusalLeaves, KeepsSound, NamespaceFixed, SignalFinds, SubtreeFalls, AnswersListed, NumbersKept, NumberFresh, EndExact}
+use Rattle.rules.specs.Claims.{RefusalLeaves, KeepsSound, NamespaceFixed, SignalFinds, SignalExact, SubtreeFalls, AnswersListed, NumbersKept, NamespacesKept, NumberFresh, EndExact}
 
 -- A refusal leaves the whole table unchanged and tells the host no slot.
 pub refusal-leaves : RefusalLeaves
@@ -25,6 +26,10 @@ namespace-fixed = Fixed.namespace-fixed
 pub signal-finds : SignalFinds
 signal-finds = Finds.signal-finds
 
+-- What each process becomes by a granted kill.
+pub signal-exact : SignalExact
+signal-exact = Killed.signal-exact
+
 -- A namespace's first process takes its whole subtree down.
 pub subtree-falls : SubtreeFalls
 subtree-falls = Fixed.subtree-falls
@@ -36,6 +41,10 @@ answers-listed = Lines.answers-listed
 -- A process that stays in the table keeps its numbers at all levels and its own namespace.
 pub numbers-kept : NumbersKept
 numbers-kept = Numbers.numbers-kept
+
+-- A namespace slot that is taken before and after a call is the same namespace's.
+pub namespaces-kept : NamespacesKept
+namespaces-kept = Fixed.namespaces-kept
 
 -- A newborn has in its own namespace and in each above it the next number there, which nobody had; it becomes the last.
 pub number-fresh : NumberFresh

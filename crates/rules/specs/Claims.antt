@@ -6,20 +6,25 @@ use mathlib.Core.Path.{_≡_}
 use lib.Dec.{eqb, ltb}
 use lib.IntN.{ℤ, pos, negsuc}
 use Rattle.rules.specs.Calls.{targets, pid-to, within, natural, names-group, status}
+use Rattle.rules.specs.Delivery.{action-on, resumed, with-pending}
+use Rattle.rules.specs.Records.{with-parent, with-state, as-ended}
 use Rattle.table.specs.Limits.{no-slot, process-slots, namespace-slots, signals, deepest, greatest-pid, restart-pid, sigkill, sigstop}
 use Rattle.table.specs.Slots.{process, is-running}
-use Rattle.rules.specs.Read.{View, view, taken, living, namespace-taken, alive, dead, init, is-init, below, seen, pid-seen, child-of}
+use Rattle.rules.specs.Read.{View, view, taken, living, namespace-taken, alive, dead, unborn, init, is-init, below, seen, pid-seen, child-of}
 use Rattle.rules.specs.Sound.{SoundTable, sound, shaped}
 use Rattle.rules.specs.Step.{step, runs}
 use Rattle.table.specs.Tests.{_and_, _or_, if_then_else_, all, any, some-of}
-use Rattle.table.specs.declared.Answer.the-variants.{Refused}
+use Rattle.table.specs.declared.Action.{Action}
+use Rattle.table.specs.declared.Action.the-variants.{Nothing, Resume, Stop, Finish, Pend}
+use Rattle.table.specs.declared.Answer.the-variants.{Refused, Number}
 use Rattle.table.specs.declared.Call.{Call}
 use Rattle.table.specs.declared.Call.the-variants.{Clone, CloneNew, Unshare, Setns, Kill, Exit, Wait, Getpid, Getppid, Handle, Poll}
 use Rattle.table.specs.declared.End.{End}
 use Rattle.table.specs.declared.End.the-variants.{Exited, Signaled}
 use Rattle.table.specs.declared.Refusal.{Refusal}
 use Rattle.table.specs.declared.Refusal.the-variants.{Unsound, NotRunning, Einval, Enosys, Esrch, Ebusy, Echild, Enospc, Enomem, Eagain}
-use Rattle.table.specs.declared.State.the-variants.{Ended}
+use Rattle.table.specs.declared.Process.{Process}
+use Rattle.table.specs.declared.State.the-variants.{Stopped, Ended}
 use Rattle.table.specs.declared.Table.{Table}
 
 -- ---- demand 1
@@ -234,6 +239,17 @@ NumbersKept =
     → ((l : ℕ) → view (step t c call .table) .pid i l ≡ view t .pid i l)
     × (view (step t c call .table) .own i ≡ view t .own i)
 
+-- A namespace slot that is taken before and after a call is the same namespace's: it keeps its parent and its level, a
+-- living one its init unless it dies, and a dead one stays dead. (No call frees one and gives its slot away again.)
+unfoldable pub NamespacesKept : Type 0
+NamespacesKept =
+    (t : Table) (c n : ℕ) (call : Call) → SoundTable t → So (namespace-taken (view t) n)
+    → So (namespace-taken (view (step t c call .table)) n)
+    → (view (step t c call .table) .up n ≡ view t .up n)
+    × (view (step t c call .table) .level n ≡ view t .level n)
+    × ((So (unborn (view t) n) → ⊥)
+    → (view (step t c call .table) .life n ≡ view t .life n) ⊎ So (dead (view (step t c call .table)) n))
+
 -- no process in the table, ended or not, has the number k in n
 unfoldable pub Unused : View → ℕ → ℕ → Type 0
 Unused v n k = (i : ℕ) → So (seen v n i) → pid-seen v n i ≡ k → ⊥
@@ -281,3 +297,52 @@ pub record EndExact : Type 0 where
       (t : Table) (c i : ℕ) → SoundTable t → So (runs (view t) c) → So (living (view t) i) → So (is-init (view t) i)
       → So (seen (view t) (view t .own c) i) → (view t .own i ≡ view t .own c → ⊥)
       → EndsExactly t (step t c (Kill (pos (pid-to (view t) c i)) (pos sigkill)) .table) i (Signaled sigkill)
+
+-- ---- what a kill does, t before and u after it
+
+-- the parent of the process at i then: as before, or where that one ended the init of its namespace
+unfoldable pub heir : Table → Table → ℕ → ℕ
+heir t u i =
+    let p = view t .parent i in
+    if living (view t) p and not (living (view u) p) then init (view t) (view t .own p) else p
+
+-- what a signal's action makes of a record by itself
+unfoldable pub struck : Process → ℕ → Action → Process
+struck q s Nothing = q
+struck q s Resume = resumed q
+struck q s Stop = with-state q Stopped
+struck q s Finish = as-ended q (Signaled s)
+struck q s Pend = with-pending q s
+
+-- the process at j is an init that the kill ends: by 9, from a namespace above
+unfoldable pub felled : View → ℕ → ℤ → ℤ → ℕ → Bool
+felled v c n s j =
+    meant v c n j and living v j and is-init v j and not (eqb (v .own j) (v .own c)) and eqb (natural s) sigkill
+
+-- A granted kill n s by the process at c.
+pub record SignalDone (t u : Table) (c : ℕ) (n s : ℤ) : Type 0 where
+  -- Removed are exactly those who lie with their parent in the subtree of an init that the kill ends.
+  pub removed :
+      (i : ℕ) → So (taken (view t) i)
+      → (So (taken (view u) i) → ⊥)
+      ↔ ((j : ℕ) × So (felled (view t) c n s j) × So (seen (view t) (view t .own j) i) × So (seen (view t) (view t .own j) (view t .parent i)))
+  -- The others of such a subtree stay for their outside parent, ended: by 9, if not before.
+  pub swept :
+      (i j : ℕ) → So (felled (view t) c n s j) → So (seen (view t) (view t .own j) i) → So (taken (view u) i)
+      → process u i
+      ≡ with-parent (if view t .ended i then process t i else as-ended (process t i) (Signaled sigkill)) (heir t u i)
+  -- Who is meant, in no such subtree, gets what the signal does to it.
+  pub reached :
+      (i : ℕ) → So (meant (view t) c n i) → ((j : ℕ) → So (felled (view t) c n s j) → So (seen (view t) (view t .own j) i) → ⊥)
+      → process u i
+      ≡ with-parent (struck (process t i) (natural s) (action-on (view t) (view t .own c) i (natural s))) (heir t u i)
+  -- Nobody else's record changes, but that orphans are handed over.
+  pub spared :
+      (i : ℕ) → (So (meant (view t) c n i) → ⊥) → ((j : ℕ) → So (felled (view t) c n s j) → So (seen (view t) (view t .own j) i) → ⊥)
+      → process u i ≡ with-parent (process t i) (heir t u i)
+
+-- Each kill that is granted does so.
+unfoldable pub SignalExact : Type 0
+SignalExact =
+    (t : Table) (c : ℕ) (n s : ℤ) → SoundTable t → step t c (Kill n s) .reply .answer ≡ Number 0
+    → SignalDone t (step t c (Kill n s) .table) c n s

@@ -79,7 +79,7 @@ by-exit t c s h r z o =
 
 -- ---- by a signal
 
-kill-acts : (v : View) (i from : ℕ) → Lives v i → (v .own i ≡ from → ⊥) → action-on v from i 9 ≡ Finish
+pub kill-acts : (v : View) (i from : ℕ) → Lives v i → (v .own i ≡ from → ⊥) → action-on v from i 9 ≡ Finish
 unfolding action-on default-action _or_ _and_
 kill-acts v i from l o = rw (l, and-not (is-init v i) (ne-eqb (v .own i) from o))
 

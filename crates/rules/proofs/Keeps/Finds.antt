@@ -156,16 +156,16 @@ pub record Same (v u : View) : Type 0 where
   pub ups : u .up ≡ v .up
   pub levels : u .level ≡ v .level
 
-below-same : (v u : View) → Same v u → (a b : ℕ) → below u a b ≡ below v a b
+pub below-same : (v u : View) → Same v u → (a b : ℕ) → below u a b ≡ below v a b
 unfolding below
 below-same v u s a b = ap₂ (λ (up level : ℕ → ℕ). climb up (level a) a b) (s .ups) (s .levels)
 
-seen-back : (v u : View) → Same v u → (n i : ℕ) → Seen u n i → Seen v n i
+pub seen-back : (v u : View) → Same v u → (n i : ℕ) → Seen u n i → Seen v n i
 seen-back v u s n i h =
     let (t, e) = s .shrinks i (seen-taken u n i h) in
     is-seen v n i t (subst (λ m. Below v m n) e (sym (below-same v u s (u .own i) n) ∙ seen-below u n i h))
 
-seen-still : (v u : View) → Same v u → (n i : ℕ) → Seen v n i → Taken u i → Seen u n i
+pub seen-still : (v u : View) → Same v u → (n i : ℕ) → Seen v n i → Taken u i → Seen u n i
 seen-still v u s n i h t = is-seen u n i t (below-same v u s (u .own i) n ∙ subst (λ m. Below v m n) (sym (s .shrinks i t .1)) (seen-below v n i h))
 
 same-trans : (a b c : View) → Same a b → Same b c → Same a c
