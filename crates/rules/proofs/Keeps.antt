@@ -28,4 +28,7 @@ pub mod Numbers
 pub mod Lines
 pub mod Fresh
 pub mod Exact
+pub mod MemberExact
+pub mod Child
+pub mod Clones
 pub mod Killed

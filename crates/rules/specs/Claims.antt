@@ -24,7 +24,7 @@ use Rattle.table.specs.declared.End.the-variants.{Exited, Signaled}
 use Rattle.table.specs.declared.Refusal.{Refusal}
 use Rattle.table.specs.declared.Refusal.the-variants.{Unsound, NotRunning, Einval, Enosys, Esrch, Ebusy, Echild, Enospc, Enomem, Eagain}
 use Rattle.table.specs.declared.Process.{Process}
-use Rattle.table.specs.declared.State.the-variants.{Stopped, Ended}
+use Rattle.table.specs.declared.State.the-variants.{Running, Stopped, Ended}
 use Rattle.table.specs.declared.Table.{Table}
 
 -- ---- demand 1
@@ -346,3 +346,56 @@ unfoldable pub SignalExact : Type 0
 SignalExact =
     (t : Table) (c : ℕ) (n s : ℤ) → SoundTable t → step t c (Kill n s) .reply .answer ≡ Number 0
     → SignalDone t (step t c (Kill n s) .table) c n s
+
+-- ---- a clone, and a member's end
+
+-- The child at k that the caller bore into n, with the answer a, by a call that took t to u.
+pub record Born (t u : Table) (c k n a : ℕ) : Type 0 where
+  -- Its slot was empty.
+  pub new : So (taken (view t) k) → ⊥
+  pub here : So (taken (view u) k)
+  -- Its parent is the caller, its own namespace n, and its children's too; it runs, without signals and mark.
+  pub kin : (view u .parent k ≡ c) × (view u .own k ≡ n) × (view u .children k ≡ n)
+  pub bare :
+      (view u .state k ≡ Running) × (view u .handled k ≡ 0) × (view u .pending k ≡ 0) × (view u .unshared k ≡ false)
+  -- If n is unborn (or a slot not taken yet) the child is its init.
+  pub first : So (unborn (view t) n) → So (alive (view u) n) × (init (view u) n ≡ k)
+  -- The answer is its number in the caller's namespace.
+  pub answer : a ≡ pid-seen (view u) (view t .own c) k
+  -- Nobody else's record changes.
+  pub others : (i : ℕ) → (i ≡ k → ⊥) → process u i ≡ process t i
+
+-- A granted clone tells the host the slot of exactly the child, and no other call tells one.
+pub record CloneTells : Type 0 where
+  pub plain :
+      (t : Table) (c a : ℕ) → SoundTable t → step t c Clone .reply .answer ≡ Number a
+      → Born t (step t c Clone .table) c (step t c Clone .reply .child .0) (view t .children c) a
+  pub in-new :
+      (t : Table) (c a : ℕ) → SoundTable t → step t c CloneNew .reply .answer ≡ Number a
+      → (n : ℕ)
+      × Born t (step t c CloneNew .table) c (step t c CloneNew .reply .child .0) n a
+      × (So (namespace-taken (view t) n) → ⊥)
+      × (view (step t c CloneNew .table) .up n ≡ view t .own c)
+  pub no-other :
+      (t : Table) (c : ℕ) (call : Call) → (call ≡ Clone → ⊥) → (call ≡ CloneNew → ⊥)
+      → step t c call .reply .child .0 ≡ no-slot
+
+-- "An end", of the process at p, no init, for the reason e, by a call that took t to u.
+pub record MemberEnds (t u : Table) (p : ℕ) (e : End) : Type 0 where
+  -- It is ended and keeps its numbers, its namespace and its parent.
+  pub itself : process u p ≡ as-ended (process t p) e
+  -- Its children go to the init of its namespace.
+  pub children :
+      (i : ℕ) → So (child-of (view t) p i) → process u i ≡ with-parent (process t i) (init (view t) (view t .own p))
+  -- Nobody else changes.
+  pub others : (i : ℕ) → (i ≡ p → ⊥) → (So (child-of (view t) p i) → ⊥) → process u i ≡ process t i
+
+-- One that is no init ends so by its exit, and by a signal sent to it by number whose action is to end it.
+pub record MemberEndExact : Type 0 where
+  pub by-exit :
+      (t : Table) (c : ℕ) (s : ℤ) → SoundTable t → So (runs (view t) c) → (So (is-init (view t) c) → ⊥)
+      → MemberEnds t (step t c (Exit s) .table) c (Exited (status s))
+  pub by-signal :
+      (t : Table) (c i s : ℕ) → SoundTable t → So (runs (view t) c) → So (seen (view t) (view t .own c) i)
+      → (So (is-init (view t) i) → ⊥) → s < signals → action-on (view t) (view t .own c) i s ≡ Finish
+      → MemberEnds t (step t c (Kill (pos (pid-to (view t) c i)) (pos s)) .table) i (Signaled s)

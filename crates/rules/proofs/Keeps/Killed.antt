@@ -21,7 +21,7 @@ use Rattle.rules.proofs.Laws.Below.{below-trans}
 use Rattle.rules.proofs.Laws.Facts.{Facts, Taken, Lives, Below, Seen, Other, lives-taken, not-ended, seen-taken, seen-below, is-seen, facts, Sane, sane}
 use Rattle.rules.proofs.Laws.Lists.{In, Distinct, some-of-in, in-some-of, sorted-distinct, only-distinct, ascending-sorted}
 use Rattle.rules.proofs.Laws.Slots.{living-own-alive, init-living, init-own, own-taken}
-use Rattle.rules.proofs.Laws.Steps.{runs-lives, step-made, step-refused}
+use Rattle.rules.proofs.Laws.Steps.{runs-lives, outcome-of}
 use Rattle.rules.proofs.Laws.Tests.{choose, isnt-not, yes-or-no, no-so, left, right, both, not-iff, tests}
 use Rattle.rules.specs.Answers.{answers, granted, is-refused, refused}
 use Rattle.rules.specs.Calls.{kill, natural, names-group, others, pid-to, targets, named, within}
@@ -31,7 +31,7 @@ use Rattle.rules.specs.Freeing.{freed}
 use Rattle.rules.specs.Read.{View, all-seen, init, is-init, living, seen, taken, view}
 use Rattle.rules.specs.Records.{as-ended, with-parent}
 use Rattle.rules.specs.Sound.{SoundTable, zero-process}
-use Rattle.rules.specs.Step.{make, runs, step}
+use Rattle.rules.specs.Step.{make, runs}
 use Rattle.table.specs.Limits.{process-slots, signals}
 use Rattle.table.specs.Slots.{is-ended, pid-at, process}
 use Rattle.table.specs.Tests.{_and_, if_then_else_}
@@ -221,19 +221,15 @@ module _ (t : Table) (c : ℕ) (h : SoundTable t) (r : So (runs (view t) c)) (n 
 -- each kill that is granted
 pub signal-exact : SignalExact
 unfolding SignalExact make kill answers granted refused is-refused
-signal-exact t c n s h = go (runs (view t) c) refl
+signal-exact t c n s h =
+    outcome-of Done t c (Kill n s) h (refuse NotRunning) (λ r.
+    choose Done (not (within 0 signals s)) (λ a. refuse Einval) (λ a.
+    choose Done (names-group n) (λ b. refuse Enosys) (λ b.
+    choose Done (eqb (length (targets (view t) c n)) 0) (λ d. refuse Esrch) (λ d q.
+    signal-done t c h r n s (K.natural-low s (isnt-not _ a))))))
   where
     Done : Outcome → Type 0
     Done o = o .reply .answer ≡ Number 0 → SignalDone t (o .table) c n s
 
-    no : (e : Refusal) → Done (refused t e)
-    no e q = absurd (false≢true (sym (ap is-refused q)))
-
-    go : (b : Bool) → runs (view t) c ≡ b → Done (step t c (Kill n s))
-    go true r =
-        subst Done (sym (step-made t c (Kill n s) h r))
-        (choose Done (not (within 0 signals s)) (λ a. no Einval) (λ a.
-        choose Done (names-group n) (λ b. no Enosys) (λ b.
-        choose Done (eqb (length (targets (view t) c n)) 0) (λ d. no Esrch) (λ d q.
-        signal-done t c h r n s (K.natural-low s (isnt-not _ a))))))
-    go false r = subst Done (sym (step-refused t c (Kill n s) h r)) (no NotRunning)
+    refuse : (e : Refusal) → Done (refused t e)
+    refuse e q = absurd (false≢true (sym (ap is-refused q)))
