@@ -24,7 +24,7 @@ use Rattle.rules.proofs.Laws.Steps.{made-or-refused}
 use Rattle.rules.proofs.Laws.Tests.{isnt-so, zero-or, choose, left, right, both, isnt-not}
 use Rattle.rules.specs.Answers.{answers, granted, refused}
 use Rattle.rules.specs.Calls.{kill, names-group, natural, targets, within, named, others, pid-to}
-use Rattle.rules.specs.Claims.{SignalFinds, meant}
+use Rattle.rules.specs.Claims.{SignalFinds, meant, numbered}
 use Rattle.rules.specs.Delivery.{act, action-on, deliver, deliver-all}
 use Rattle.rules.specs.Ends.{end, init-ends, member-ends, namespace-dies}
 use Rattle.rules.specs.Freeing.{freed}
@@ -66,7 +66,7 @@ module _ (v : View) (f : Facts v) (c : ℕ) (here : Taken v c) where
 
   -- exactly those that the kill means are among the found
   pub targets-meant : (n : ℤ) (i : ℕ) → So (some-of (eqb i) (targets v c n)) ↔ So (meant v c n i)
-  unfolding targets meant others all-seen
+  unfolding targets meant numbered others all-seen
   targets-meant (pos n) i = (λ h. there (eqb (named v c (pos n)) process-slots) refl (some-of-in i _ h), λ h. back h)
     where
       there : (b : Bool) → eqb (named v c (pos n)) process-slots ≡ b → In i (if b then [] else named v c (pos n) ∷ []) → So (seen v (v .own c) i and eqb (pid-to v c i) n)
