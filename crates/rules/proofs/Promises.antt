@@ -3,7 +3,6 @@ use Rattle.rules.proofs.Keeps.Changes as Changes
 use Rattle.rules.proofs.Keeps.Clones as Clones
 use Rattle.rules.proofs.Keeps.Exact as Exact
 use Rattle.rules.proofs.Keeps.Fixed as Fixed
-use Rattle.rules.proofs.Keeps.Finds as Finds
 use Rattle.rules.proofs.Keeps.Fresh as Fresh
 use Rattle.rules.proofs.Keeps.Killed as Killed
 use Rattle.rules.proofs.Keeps.Lines as Lines
@@ -50,7 +49,7 @@ clone-tells = Clones.clone-tells
 
 -- A signal finds exactly the processes of the caller's namespace and those below.
 pub signal-finds : SignalFinds
-signal-finds = Finds.signal-finds
+signal-finds = Killed.signal-finds
 
 -- What a granted kill makes of each process: of those it means, of a fallen subtree, of orphans, and of all others.
 pub signal-exact : SignalExact

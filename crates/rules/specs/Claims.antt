@@ -203,8 +203,8 @@ pub record CloneTells : Type 0 where
 
 -- ---- demand 2: signals
 
--- A signal finds exactly the processes of the caller's namespace and those below: who is found, and that the
--- record of nobody else, outside, changes.
+-- A signal finds exactly the processes of the caller's namespace and those below: who is found, and that nobody's record
+-- changes whom the caller does not see.
 pub record SignalFinds : Type 0 where
   pub finds :
       (t : Table) (c i : ℕ) (n : ℤ) → SoundTable t → So (runs (view t) c)
@@ -213,7 +213,7 @@ pub record SignalFinds : Type 0 where
       (t : Table) (c i : ℕ) (n s : ℤ) → SoundTable t → (So (seen (view t) (view t .own c) i) → ⊥)
       → process (after t c (Kill n s)) i ≡ process t i
 
--- the parent of the process at i then: as before, or where that one ended the init of its namespace
+-- the parent of the process at i once t has become u: as before, or where that one ended the init of its namespace
 unfoldable pub heir : Table → Table → ℕ → ℕ
 heir t u i =
     let p = view t .parent i in
@@ -232,6 +232,10 @@ unfoldable pub felled : View → ℕ → ℤ → ℤ → ℕ → Bool
 felled v c n s j =
     meant v c n j and living v j and is-init v j and not (eqb (v .own j) (v .own c)) and eqb (natural s) sigkill
 
+-- the process at i lies in the subtree of such an init
+abbrev pub Falls : View → ℕ → ℤ → ℤ → ℕ → Type 0
+Falls v c n s i = (j : ℕ) × So (felled v c n s j) × So (seen v (v .own j) i)
+
 -- A granted kill n s by the process at c.
 pub record SignalDone (t u : Table) (c : ℕ) (n s : ℤ) : Type 0 where
   -- Removed are exactly those who lie with their parent in the subtree of an init that the kill ends.
@@ -241,17 +245,17 @@ pub record SignalDone (t u : Table) (c : ℕ) (n s : ℤ) : Type 0 where
       ↔ ((j : ℕ) × So (felled (view t) c n s j) × So (seen (view t) (view t .own j) i) × So (seen (view t) (view t .own j) (view t .parent i)))
   -- The others of such a subtree stay for their outside parent, ended: by 9, if not before.
   pub swept :
-      (i j : ℕ) → So (felled (view t) c n s j) → So (seen (view t) (view t .own j) i) → So (taken (view u) i)
+      (i : ℕ) → Falls (view t) c n s i → So (taken (view u) i)
       → process u i
       ≡ with-parent (if view t .ended i then process t i else as-ended (process t i) (Signaled sigkill)) (heir t u i)
   -- Who is meant, in no such subtree, gets what the signal does to it.
   pub reached :
-      (i : ℕ) → So (meant (view t) c n i) → ((j : ℕ) → So (felled (view t) c n s j) → So (seen (view t) (view t .own j) i) → ⊥)
+      (i : ℕ) → (Falls (view t) c n s i → ⊥) → So (meant (view t) c n i)
       → process u i
       ≡ with-parent (struck (process t i) (natural s) (action-on (view t) (view t .own c) i (natural s))) (heir t u i)
   -- Nobody else's record changes, but that orphans are handed over.
   pub spared :
-      (i : ℕ) → (So (meant (view t) c n i) → ⊥) → ((j : ℕ) → So (felled (view t) c n s j) → So (seen (view t) (view t .own j) i) → ⊥)
+      (i : ℕ) → (Falls (view t) c n s i → ⊥) → (So (meant (view t) c n i) → ⊥)
       → process u i ≡ with-parent (process t i) (heir t u i)
 
 -- Each kill that is granted does so.

@@ -8,23 +8,23 @@ use mathlib.Core.Path.{_≡_, refl, sym, _∙_, ap, subst}
 use borrow.Author.Tests.{ne-eqb, le-leb, lt-ltb}
 use lib.Dec.{eqb}
 use lib.IntN.{ℤ, pos}
-use Rattle.rules.proofs.Keeps.End.{end-view, end-sane}
-use Rattle.rules.proofs.Keeps.Finds.{counted, meant-named, end-leaves, freed-leaves}
+use Rattle.rules.proofs.Keeps.End.{end-view, end-sane, init-ended-at}
+use Rattle.rules.proofs.Keeps.Finds.{counted, meant-named, freed-leaves}
 use Rattle.rules.proofs.Keeps.Freed.{freed-view}
 use Rattle.rules.proofs.Keeps.InitEnds.{gone, subtree-gone}
 use Rattle.rules.proofs.Keeps.Premises as K
-use Rattle.rules.proofs.Laws.Facts.{seen-taken, Facts, Taken, Lives, Seen, Other, lives-taken, is-seen, Sane, sane, facts}
+use Rattle.rules.proofs.Laws.Facts.{seen-taken, Facts, Taken, Lives, Seen, Other, lives-taken, Sane, sane, facts}
 use Rattle.rules.proofs.Laws.Steps.{step-made, runs-lives, remainder}
 use Rattle.rules.proofs.Laws.Tests.{yes-or-no, isnt-so, no-so, choose, left, right, both, and-not}
-use Rattle.rules.proofs.Laws.Tree.{below-refl}
 use Rattle.rules.specs.Answers.{answers, granted}
 use Rattle.rules.specs.Calls.{exit, kill, named, pid-to, status, targets}
 use Rattle.rules.specs.Claims.{EndsExactly, EndExact}
 use Rattle.rules.specs.Delivery.{act, action-on, default-action, deliver, deliver-all}
-use Rattle.rules.specs.Ends.{end}
+use Rattle.rules.specs.Ends.{end, init-ends}
 use Rattle.rules.specs.Freeing.{freed}
 use Rattle.table.specs.Limits.{process-slots, signals}
 use Rattle.rules.specs.Read.{View, is-init, seen, taken, view}
+use Rattle.table.specs.Slots.{process}
 use Rattle.rules.specs.Sound.{SoundTable, kept-end}
 use Rattle.rules.specs.Step.{make, runs, step}
 use Rattle.table.specs.Tests.{_and_, _or_, if_then_else_}
@@ -50,14 +50,14 @@ gone-removed v n c e = (λ i t. (removed i t, λ (a, b) x. false≢true (rw (bot
     removed i t o = ⊎-elim (λ g. (left _ _ g, right _ _ g)) (λ g. absurd (o (rw g t))) (yes-or-no (gone v n i))
 
 pub ends-exactly : (t : Table) → Sane t → (c : ℕ) (e : End) → Lives (view t) c → Other c → So (kept-end (Ended e)) → So (is-init (view t) c) → EndsExactly t (freed (end t c e)) c e
-unfolding taken
+unfolding taken init-ends
 ends-exactly t s c e l o k z =
     let shape = end-sane t s c e l o k .shape-of in
     let x = subst (Fallen v n c e) (sym (freed-view (end t c e) shape)) fallen in
     record {
       removed = x .0;
       left = x .1;
-      outside = λ i a. freed-leaves (end t c e) shape i ∙ end-leaves t s n c e (is-seen v n c (lives-taken v c l) (below-refl v n)) i a;
+      outside = λ i a. freed-leaves (end t c e) shape i ∙ outside i (isnt-so a);
     }
   where
     v : View
@@ -65,6 +65,9 @@ ends-exactly t s c e l o k z =
 
     n : ℕ
     n = view t .own c
+
+    outside : (i : ℕ) → seen v n i ≡ false → process (end t c e) i ≡ process t i
+    outside i o = init-ended-at t s c e (lives-taken v c l) z i ∙ rw o
 
     fallen : Fallen v n c e (view (end t c e))
     fallen = subst (Fallen v n c e) (sym (end-view t s c e (lives-taken v c l))) (choose (Fallen v n c e) (is-init v c) (λ i. gone-removed v n c e) (λ i. absurd (no-so i z)))

@@ -14,24 +14,25 @@ use Rattle.rules.proofs.Keeps.Deliver.{Each, Safe, each-of}
 use Rattle.rules.proofs.Keeps.Exact.{kill-acts}
 use Rattle.rules.proofs.Keeps.Finds.{targets-meant, freed-leaves}
 use Rattle.rules.proofs.Keeps.Fixed.{processes-fall}
+use Rattle.rules.proofs.Keeps.Freed.{freed-keeps}
 use Rattle.rules.proofs.Keeps.Premises as K
 use Rattle.rules.proofs.Keeps.Signals.{all-trace, all-rest, all-hit}
 use Rattle.rules.proofs.Keeps.Trace.{Fell, InFell, Rest, Trace, trace-refl, shrinks, heir-cases, heir-new, heir-old}
 use Rattle.rules.proofs.Laws.Below.{below-trans}
 use Rattle.rules.proofs.Laws.Facts.{Facts, Taken, Lives, Below, Seen, Other, lives-taken, not-ended, seen-taken, seen-below, is-seen, facts, Sane, sane}
 use Rattle.rules.proofs.Laws.Lists.{In, Distinct, some-of-in, in-some-of, sorted-distinct, only-distinct, ascending-sorted}
-use Rattle.rules.proofs.Laws.Slots.{living-own-alive, init-living, init-own, own-taken}
+use Rattle.rules.proofs.Laws.Slots.{child-seen, living-own-alive, init-living, init-own, own-taken}
 use Rattle.rules.proofs.Laws.Steps.{runs-lives, outcome-of}
 use Rattle.rules.proofs.Laws.Tests.{choose, isnt-not, yes-or-no, no-so, left, right, both, not-iff, tests}
 use Rattle.rules.specs.Answers.{answers, granted, is-refused, refused}
 use Rattle.rules.specs.Calls.{kill, natural, names-group, others, pid-to, targets, named, within}
-use Rattle.rules.specs.Claims.{SignalDone, SignalExact, felled, heir, meant, struck}
+use Rattle.rules.specs.Claims.{Falls, SignalDone, SignalExact, SignalFinds, felled, heir, meant, numbered, struck}
 use Rattle.rules.specs.Delivery.{action-on, deliver-all}
 use Rattle.rules.specs.Freeing.{freed}
 use Rattle.rules.specs.Read.{View, all-seen, init, is-init, living, seen, taken, view}
 use Rattle.rules.specs.Records.{as-ended, with-parent}
 use Rattle.rules.specs.Sound.{SoundTable, zero-process}
-use Rattle.rules.specs.Step.{make, runs}
+use Rattle.rules.specs.Step.{make, runs, step}
 use Rattle.table.specs.Limits.{process-slots, signals}
 use Rattle.table.specs.Slots.{is-ended, pid-at, process}
 use Rattle.table.specs.Tests.{_and_, if_then_else_}
@@ -55,6 +56,11 @@ targets-distinct v f c here (pos n) = go (eqb (named v c (pos n)) process-slots)
     go false = (λ h. h, tt)
 targets-distinct v f c here (negsuc n) =
     only-distinct _ _ (sorted-distinct (pid-to v c) (all-seen v (v .own c)) (ascending-sorted (seen v (v .own c)) (pid-to v c) process-slots (λ i j l m a b e. omega (arith, f .differ (v .own c) (own-taken v f c here) i j a b e))))
+
+-- an empty slot names the root init
+empty-parent : (u : Table) → Facts (view u) → (i : ℕ) → (Taken (view u) i → ⊥) → view u .parent i ≡ 0
+unfolding zero-process
+empty-parent u f i o = (simp tests at (f .empty-process i o)) .0 .0 .0 .0 .0 .1
 
 module _ (t : Table) (c : ℕ) (h : SoundTable t) (r : So (runs (view t) c)) (n s : ℤ) (low : natural s < signals) where
   abbrev v : View
@@ -103,7 +109,7 @@ module _ (t : Table) (c : ℕ) (h : SoundTable t) (r : So (runs (view t) c)) (n 
   seen-up : (m j i : ℕ) → Below v m (v .own j) → Seen v m i → Seen v (v .own j) i
   seen-up m j i b a = is-seen v (v .own j) i (seen-taken v m i a) (below-trans v f _ m _ (seen-below v m i a) b)
 
-  in-felled : (i : ℕ) → InFell t w i → (j : ℕ) × So (felled v c n s j) × Seen v (v .own j) i
+  in-felled : (i : ℕ) → InFell t w i → Falls v c n s i
   in-felled i (m, z, a) = let (j, d, b) = felled-of m z in (j, d, seen-up m j i b a)
 
   -- nobody in them lives
@@ -159,10 +165,6 @@ module _ (t : Table) (c : ℕ) (h : SoundTable t) (r : So (runs (view t) c)) (n 
   stays : (i : ℕ) → (InFell t w i → ⊥) → Taken v i → Taken (view w) i
   stays i o y = ⊎-elim (λ a. a) (λ a. let (m, z, b, d) = x .removed i y (no-so a) in absurd (o (m, z, b))) (yes-or-no (taken (view w) i))
 
-  empty-parent : (u : Table) → Facts (view u) → (i : ℕ) → (Taken (view u) i → ⊥) → view u .parent i ≡ 0
-  unfolding zero-process
-  empty-parent u f i o = (simp tests at (f .empty-process i o)) .0 .0 .0 .0 .0 .1
-
   parent-then : (i : ℕ) → (InFell t w i → ⊥) → view w .parent i ≡ heir t w i
   parent-then i o =
       ⊎-elim (λ y. x .parents i (stays i o y))
@@ -172,9 +174,9 @@ module _ (t : Table) (c : ℕ) (h : SoundTable t) (r : So (runs (view t) c)) (n 
       (yes-or-no (taken v i))
 
   -- its record then
-  kept-as : (i : ℕ) (q : Process) → Rest t w i q → ((j : ℕ) → So (felled v c n s j) → Seen v (v .own j) i → ⊥) → process w i ≡ with-parent q (heir t w i)
+  kept-as : (i : ℕ) (q : Process) → Rest t w i q → (Falls v c n s i → ⊥) → process w i ≡ with-parent q (heir t w i)
   kept-as i q a o =
-      let no : InFell t w i → ⊥ = λ z. let (j, d, b) = in-felled i z in o j d b in
+      let no : InFell t w i → ⊥ = λ z. o (in-felled i z) in
       ⊎-elim (λ z. absurd (no z)) (λ e. e ∙ ap (with-parent q) (parent-then i no)) a
 
   -- ---- once namespaces are freed
@@ -213,9 +215,9 @@ module _ (t : Table) (c : ℕ) (h : SoundTable t) (r : So (runs (view t) c)) (n 
           λ o. let (m, z, a, b) = x .removed i y (λ q. o (taken-then i ∙ q)) in let (j, d, e) = felled-of m z in (j, d, seen-up m j i e a, seen-up m j _ e b),
           λ (j, d, a, b) q. no-more i j d b (sym (taken-then i) ∙ q),
         );
-        swept = λ i j d b y. as-then i (swept-by i) (swept-as i j d b (sym (taken-then i) ∙ y));
-        reached = λ i m o. let q = struck (process t i) k (action-on v from i k) in as-then i q (kept-as i q (hit i m) o);
-        spared = λ i m o. as-then i (process t i) (kept-as i (process t i) (all-rest k from low P t (sane t h) (targets v c n) safe each i (λ z. m (targets-meant v f c here n i .0 (in-some-of i _ z)))) o);
+        swept = λ i (j, d, b) y. as-then i (swept-by i) (swept-as i j d b (sym (taken-then i) ∙ y));
+        reached = λ i o m. let q = struck (process t i) k (action-on v from i k) in as-then i q (kept-as i q (hit i m) o);
+        spared = λ i o m. as-then i (process t i) (kept-as i (process t i) (all-rest k from low P t (sane t h) (targets v c n) safe each i (λ z. m (targets-meant v f c here n i .0 (in-some-of i _ z)))) o);
       }
 
 -- each kill that is granted
@@ -233,3 +235,51 @@ signal-exact t c n s h =
 
     refuse : (e : Refusal) → Done (refused t e)
     refuse e q = absurd (false≢true (sym (ap is-refused q)))
+
+-- ---- who is not seen
+
+module _ (t u : Table) (c : ℕ) (n s : ℤ) (f : Facts (view t)) (g : Facts (view u)) (done : SignalDone t u c n s) where
+  meant-seen : (n : ℤ) (i : ℕ) → So (meant (view t) c n i) → Seen (view t) (view t .own c) i
+  unfolding meant numbered
+  meant-seen (pos n) i m = left _ _ m
+  meant-seen (negsuc n) i m = left _ _ m
+
+  falls-seen : (i : ℕ) → Falls (view t) c n s i → Seen (view t) (view t .own c) i
+  unfolding felled
+  falls-seen i (j, d, b) =
+      let a = meant-seen n j (left _ _ (left _ _ (left _ _ (left _ _ d)))) in
+      is-seen (view t) _ i (seen-taken (view t) _ i b) (below-trans (view t) f _ _ _ (seen-below (view t) _ i b) (seen-below (view t) _ j a))
+
+  -- its record is as it was but for the parent, and so is its parent's, which lives on
+  unseen : (i : ℕ) → (Seen (view t) (view t .own c) i → ⊥) → process u i ≡ with-parent (process t i) (heir t u i)
+  unseen i o = done .spared i (λ a. o (falls-seen i a)) (λ m. o (meant-seen n i m))
+
+  parent-on : (i : ℕ) → (Seen (view t) (view t .own c) i → ⊥) → Lives (view t) (view t .parent i) → Lives (view u) (view t .parent i)
+  unfolding living taken
+  parent-on i o l =
+      ⊎-elim
+      (λ h. ap (λ (p : Process). not (eqb (pid-at p 0) 0) and not (is-ended (p .state))) (unseen (view t .parent i) (λ a. o (child-seen (view t) f _ i h a))) ∙ l)
+      (λ h. subst (Lives (view u)) (sym (empty-parent t f i (no-so h))) (g .root-lives))
+      (yes-or-no (taken (view t) i))
+
+  unseen-same : (i : ℕ) → (Seen (view t) (view t .own c) i → ⊥) → process u i ≡ process t i
+  unseen-same i o = unseen i o ∙ ap (with-parent (process t i)) (heir-old t u i (parent-on i o))
+
+-- a kill changes no record of a process that the caller does not see
+spares : (t : Table) (c i : ℕ) (n s : ℤ) → SoundTable t → (Seen (view t) (view t .own c) i → ⊥) → process (step t c (Kill n s) .table) i ≡ process t i
+unfolding make kill answers granted refused
+spares t c i n s h o =
+    outcome-of Kept t c (Kill n s) h refl (λ r.
+    choose Kept (not (within 0 signals s)) (λ a. refl) (λ a.
+    choose Kept (names-group n) (λ b. refl) (λ b.
+    choose Kept (eqb (length (targets (view t) c n)) 0) (λ d. refl) (λ d.
+    let low = K.natural-low s (isnt-not _ a) in
+    let x = deliver-all-sane t (sane t h) (view t .own c) (natural s) low (targets (view t) c n) (K.targets-safe (view t) (facts t h) c n) in
+    unseen-same t _ c n s (facts t h) (facts _ (freed-keeps _ (x .shape-of) (x .facts))) (signal-done t c h r n s low) i o))))
+  where
+    Kept : Outcome → Type 0
+    Kept u = process (u .table) i ≡ process t i
+
+pub signal-finds : SignalFinds
+unfolding runs
+signal-finds = record { finds = λ t c i n h r. targets-meant (view t) (facts t h) c (left _ _ r) n i; spares = spares }

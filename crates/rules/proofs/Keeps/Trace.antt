@@ -7,13 +7,12 @@ use mathlib.Core.Logic.{_⊎_, inl, inr, ⊎-elim}
 use mathlib.Core.Path.{_≡_, refl, sym, _∙_, ap, ap₂, subst}
 use lib.Dec.{eqb}
 use lib.ListN.{getD}
-use Rattle.rules.proofs.Keeps.Finds.{Same, below-same, seen-back}
 use Rattle.rules.proofs.Keeps.Fixed.{Shrinks, Stay, stay-trans}
-use Rattle.rules.proofs.Laws.Facts.{Facts, Taken, Lives, Stands, Below, Seen, Other, lives-taken, lives-or-ended, not-ended, seen-below, is-seen, Sane}
+use Rattle.rules.proofs.Laws.Facts.{Facts, Taken, Lives, Stands, Below, Seen, Other, lives-taken, lives-or-ended, not-ended, seen-taken, seen-below, is-seen, Sane}
 use Rattle.rules.proofs.Laws.Slots.{alive-taken, alive-not-dead, living-own-alive, init-own, init-living}
 use Rattle.rules.proofs.Laws.Tests.{yes-or-no, no-so, isnt-so, left, right, both, not-iff}
 use Rattle.rules.specs.Claims.{heir}
-use Rattle.rules.specs.Read.{View, alive, init, is-init, living, taken, view}
+use Rattle.rules.specs.Read.{View, alive, below, climb, init, is-init, living, taken, view}
 use Rattle.rules.specs.Records.{as-ended, with-parent}
 use Rattle.table.specs.Slots.{init-of, is-alive, is-ended, is-unborn, no-pid, process}
 use Rattle.table.specs.Tests.{_and_, if_then_else_}
@@ -86,8 +85,14 @@ module _ {k from : ℕ} {P : ℕ → Type 0} (t u : Table) (s : Sane t) (r : San
   unfolding taken
   shrinks i h = let (a, b) = x .kin i h in (subst (λ (ps : List Pid). So (not (eqb (getD ps 0 no-pid .0) 0))) b h, ap (λ (n : NsSlot). n .0) a)
 
-  pub same : Same v (view u)
-  same = record { shrinks = shrinks; ups = x .ups; levels = x .levels }
+  pub below-before : (a b : ℕ) → below (view u) a b ≡ below v a b
+  unfolding below
+  below-before a b = ap₂ (λ (up level : ℕ → ℕ). climb up (level a) a b) (x .ups) (x .levels)
+
+  pub seen-before : (m i : ℕ) → Seen (view u) m i → Seen v m i
+  seen-before m i h =
+      let (a, e) = shrinks i (seen-taken (view u) m i h) in
+      is-seen v m i a (subst (λ n. Below v n m) e (sym (below-before (view u .own i) m) ∙ seen-below (view u) m i h))
 
   -- what lives then lived before, with the same init
   pub was-alive : (m : ℕ) → So (alive (view u) m) → view u .life m ≡ v .life m
@@ -119,9 +124,6 @@ module _ {k from : ℕ} {P : ℕ → Type 0} (t u : Table) (s : Sane t) (r : San
       let q = shrinks (init v m) (lives-taken (view u) _ l) .1 ∙ init-own v f m a in
       let b = subst (λ n. So (alive (view u) n)) q (living-own-alive (view u) g (init v m) l) in
       (b, λ y. o (subst (Lives (view w)) (ap init-of (was-alive m b)) y))
-
-  pub seen-before : (m i : ℕ) → Seen (view u) m i → Seen v m i
-  seen-before = seen-back v (view u) same
 
   -- a parent in a subtree then is one of a parent in it before
   pub parent-before : (m i : ℕ) → Taken (view u) i → Seen (view u) m (view u .parent i) → Seen v m (v .parent i)
@@ -208,7 +210,7 @@ module _ {k from : ℕ} {P : ℕ → Type 0} (t u w : Table) (s : Sane t) (r : S
       (λ l.
       let (j, a, b, c, d, e, g) = y .heads m (fell-after t u s r x w m z l) in
       let q = shrinks t u s r x j (lives-taken (view u) j c) .1 in
-      (j, a, b, x .lives j c, sym (was-init t u s r x j c) ∙ d, λ o. e (q ∙ o), subst (λ o. Below (view t) m o) q (sym (below-same (view t) (view u) (same t u s r x) m (view u .own j)) ∙ g)))
+      (j, a, b, x .lives j c, sym (was-init t u s r x j c) ∙ d, λ o. e (q ∙ o), subst (λ o. Below (view t) m o) q (sym (below-before t u s r x m (view u .own j)) ∙ g)))
       (λ l. x .heads m (z .0, no-so l))
       (yes-or-no (living (view u) (init (view t) m)))
 
