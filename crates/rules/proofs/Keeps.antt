@@ -18,8 +18,17 @@ pub mod Changes
 -- what follows
 pub mod Fixed
 pub mod Finds
+pub mod Trace
+pub mod PutTrace
+pub mod MemberTrace
+pub mod InitTrace
+pub mod Signals
 pub mod Refusals
 pub mod Numbers
 pub mod Lines
 pub mod Fresh
 pub mod Exact
+pub mod MemberExact
+pub mod Child
+pub mod Clones
+pub mod Killed

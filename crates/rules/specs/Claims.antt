@@ -6,204 +6,48 @@ use mathlib.Core.Path.{_≡_}
 use lib.Dec.{eqb, ltb}
 use lib.IntN.{ℤ, pos, negsuc}
 use Rattle.rules.specs.Calls.{targets, pid-to, within, natural, names-group, status}
+use Rattle.rules.specs.Delivery.{action-on, resumed, with-pending}
+use Rattle.rules.specs.Records.{with-parent, with-state, as-ended}
 use Rattle.table.specs.Limits.{no-slot, process-slots, namespace-slots, signals, deepest, greatest-pid, restart-pid, sigkill, sigstop}
 use Rattle.table.specs.Slots.{process, is-running}
-use Rattle.rules.specs.Read.{View, view, taken, living, namespace-taken, alive, dead, init, is-init, below, seen, pid-seen, child-of}
+use Rattle.rules.specs.Read.{View, view, taken, living, namespace-taken, alive, dead, unborn, init, is-init, below, seen, pid-seen, child-of}
 use Rattle.rules.specs.Sound.{SoundTable, sound, shaped}
 use Rattle.rules.specs.Step.{step, runs}
 use Rattle.table.specs.Tests.{_and_, _or_, if_then_else_, all, any, some-of}
-use Rattle.table.specs.declared.Answer.the-variants.{Refused}
+use Rattle.table.specs.declared.Action.{Action}
+use Rattle.table.specs.declared.Action.the-variants.{Nothing, Resume, Stop, Finish, Pend}
+use Rattle.table.specs.declared.Answer.the-variants.{Refused, Number}
 use Rattle.table.specs.declared.Call.{Call}
 use Rattle.table.specs.declared.Call.the-variants.{Clone, CloneNew, Unshare, Setns, Kill, Exit, Wait, Getpid, Getppid, Handle, Poll}
 use Rattle.table.specs.declared.End.{End}
 use Rattle.table.specs.declared.End.the-variants.{Exited, Signaled}
 use Rattle.table.specs.declared.Refusal.{Refusal}
 use Rattle.table.specs.declared.Refusal.the-variants.{Unsound, NotRunning, Einval, Enosys, Esrch, Ebusy, Echild, Enospc, Enomem, Eagain}
-use Rattle.table.specs.declared.State.the-variants.{Ended}
+use Rattle.table.specs.declared.Process.{Process}
+use Rattle.table.specs.declared.State.the-variants.{Running, Stopped, Ended}
 use Rattle.table.specs.declared.Table.{Table}
 
--- ---- demand 1
+-- the table after a call
+abbrev pub after : Table → ℕ → Call → Table
+after t c call = step t c call .table
+
+-- ---- demand 1: an answer for each call, and what a refusal leaves
 
 -- A refusal leaves the whole table unchanged and tells the host no slot.
 unfoldable pub RefusalLeaves : Type 0
 RefusalLeaves =
     (t : Table) (c : ℕ) (call : Call) (e : Refusal) → step t c call .reply .answer ≡ Refused e
-    → (step t c call .table ≡ t) × (step t c call .reply .child .0 ≡ no-slot)
-
--- ---- demand 2
-
--- Each call leaves a sound table sound.
-unfoldable pub KeepsSound : Type 0
-KeepsSound = (t : Table) (c : ℕ) (call : Call) → SoundTable t → SoundTable (step t c call .table)
-
--- A process never changes namespace. (No call frees a slot and gives it away again.)
-unfoldable pub NamespaceFixed : Type 0
-NamespaceFixed =
-    (t : Table) (c i : ℕ) (call : Call) → SoundTable t → So (taken (view t) i) → So (taken (view (step t c call .table)) i)
-    → view (step t c call .table) .own i ≡ view t .own i
-
--- the process at i is one that the caller's kill n means: seen, and of that number, or neither the caller nor number 1
-unfoldable pub meant : View → ℕ → ℤ → ℕ → Bool
-meant v c (pos n) i = seen v (v .own c) i and eqb (pid-to v c i) n
-meant v c (negsuc n) i = seen v (v .own c) i and (not (eqb i c) and not (eqb (pid-to v c i) 1))
-
--- A signal finds exactly the processes of the caller's namespace and those below: what is found, and that no other
--- process's record changes.
-pub record SignalFinds : Type 0 where
-  pub finds :
-      (t : Table) (c i : ℕ) (n : ℤ) → SoundTable t → So (runs (view t) c)
-      → So (some-of (eqb i) (targets (view t) c n)) ↔ So (meant (view t) c n i)
-  pub spares :
-      (t : Table) (c i : ℕ) (n s : ℤ) → SoundTable t → (So (seen (view t) (view t .own c) i) → ⊥)
-      → process (step t c (Kill n s) .table) i ≡ process t i
-
--- A namespace's first process takes its whole subtree down: after a call in which the init of a living n ended, every
--- process of the subtree is ended or removed, and every namespace of it is dead or freed.
-unfoldable pub SubtreeFalls : Type 0
-SubtreeFalls =
-    (t : Table) (c n : ℕ) (call : Call) → SoundTable t → So (alive (view t) n)
-    → (So (living (view (step t c call .table)) (init (view t) n)) → ⊥)
-    → ((i : ℕ) → So (seen (view t) n i) → So (living (view (step t c call .table)) i) → ⊥)
-    × ((m : ℕ) → So (below (view t) m n) → So (namespace-taken (view (step t c call .table)) m)
-    → So (dead (view (step t c call .table)) m))
-
--- ---- demand 2, sentence by sentence
-
--- "Negative numbers": the lines of the table, each with what it says of a call by the process at c, whatever the other
--- lines say.
+    → (after t c call ≡ t) × (step t c call .reply .child .0 ≡ no-slot)
 
 -- the number k is that of the process at i, seen from the caller's namespace
 unfoldable pub numbered : View → ℕ → ℤ → ℕ → Bool
 numbered v c (pos k) i = seen v (v .own c) i and eqb (pid-to v c i) k
 numbered v c (negsuc k) i = false
 
--- -1001: the caller's slot is beyond 63, empty, ended or stopped
-unfoldable pub line-1001 : View → ℕ → Bool
-line-1001 v c = not (ltb c process-slots) or not (taken v c) or not (is-running (v .state c))
-
--- -22: kill: signal not 0 to 31; handle: signal not 1 to 31, or 9 or 19; unshare: mark already set
-unfoldable pub line-22 : View → ℕ → Call → Bool
-line-22 v c Clone = false
-line-22 v c CloneNew = false
-line-22 v c Unshare = v .unshared c
-line-22 v c (Setns n) = false
-line-22 v c (Kill n s) = not (within 0 signals s)
-line-22 v c (Exit s) = false
-line-22 v c Wait = false
-line-22 v c Getpid = false
-line-22 v c Getppid = false
-line-22 v c (Handle s on) = not (within 1 signals s) or eqb (natural s) sigkill or eqb (natural s) sigstop
-line-22 v c Poll = false
-
--- -38: kill: number 0 or below -1
-unfoldable pub line-38 : View → ℕ → Call → Bool
-line-38 v c Clone = false
-line-38 v c CloneNew = false
-line-38 v c Unshare = false
-line-38 v c (Setns n) = false
-line-38 v c (Kill n s) = names-group n
-line-38 v c (Exit s) = false
-line-38 v c Wait = false
-line-38 v c Getpid = false
-line-38 v c Getppid = false
-line-38 v c (Handle s on) = false
-line-38 v c Poll = false
-
--- -3: kill, setns: no such process seen; setns: it has ended; kill -1: no target
-unfoldable pub line-3 : View → ℕ → Call → Bool
-line-3 v c Clone = false
-line-3 v c CloneNew = false
-line-3 v c Unshare = false
-line-3 v c (Setns n) = not (any process-slots (λ i. numbered v c n i and not (v .ended i)))
-line-3 v c (Kill n s) = not (any process-slots (meant v c n))
-line-3 v c (Exit s) = false
-line-3 v c Wait = false
-line-3 v c Getpid = false
-line-3 v c Getppid = false
-line-3 v c (Handle s on) = false
-line-3 v c Poll = false
-
--- -16: exit by the root init
-unfoldable pub line-16 : View → ℕ → Call → Bool
-line-16 v c Clone = false
-line-16 v c CloneNew = false
-line-16 v c Unshare = false
-line-16 v c (Setns n) = false
-line-16 v c (Kill n s) = false
-line-16 v c (Exit s) = eqb c 0
-line-16 v c Wait = false
-line-16 v c Getpid = false
-line-16 v c Getppid = false
-line-16 v c (Handle s on) = false
-line-16 v c Poll = false
-
--- -10: wait: no children
-unfoldable pub line-10 : View → ℕ → Call → Bool
-line-10 v c Clone = false
-line-10 v c CloneNew = false
-line-10 v c Unshare = false
-line-10 v c (Setns n) = false
-line-10 v c (Kill n s) = false
-line-10 v c (Exit s) = false
-line-10 v c Wait = not (any process-slots (child-of v c))
-line-10 v c Getpid = false
-line-10 v c Getppid = false
-line-10 v c (Handle s on) = false
-line-10 v c Poll = false
-
--- -28: clone new, unshare: own level is 7
-unfoldable pub line-28 : View → ℕ → Call → Bool
-line-28 v c Clone = false
-line-28 v c CloneNew = eqb (v .level (v .own c)) deepest
-line-28 v c Unshare = eqb (v .level (v .own c)) deepest
-line-28 v c (Setns n) = false
-line-28 v c (Kill n s) = false
-line-28 v c (Exit s) = false
-line-28 v c Wait = false
-line-28 v c Getpid = false
-line-28 v c Getppid = false
-line-28 v c (Handle s on) = false
-line-28 v c Poll = false
-
--- -12: plain clone: the children's namespace is dead
-unfoldable pub line-12 : View → ℕ → Call → Bool
-line-12 v c Clone = dead v (v .children c)
-line-12 v c CloneNew = false
-line-12 v c Unshare = false
-line-12 v c (Setns n) = false
-line-12 v c (Kill n s) = false
-line-12 v c (Exit s) = false
-line-12 v c Wait = false
-line-12 v c Getpid = false
-line-12 v c Getppid = false
-line-12 v c (Handle s on) = false
-line-12 v c Poll = false
-
--- -11: no room: clone with 64 processes, or clone new or unshare with 32 namespaces (every slot is taken)
-unfoldable pub line-11 : View → ℕ → Call → Bool
-line-11 v c Clone = all process-slots (taken v)
-line-11 v c CloneNew = all process-slots (taken v) or all namespace-slots (namespace-taken v)
-line-11 v c Unshare = all namespace-slots (namespace-taken v)
-line-11 v c (Setns n) = false
-line-11 v c (Kill n s) = false
-line-11 v c (Exit s) = false
-line-11 v c Wait = false
-line-11 v c Getpid = false
-line-11 v c Getppid = false
-line-11 v c (Handle s on) = false
-line-11 v c Poll = false
-
-unfoldable pub line : Table → ℕ → Call → Refusal → Bool
-line t c call Unsound = not (sound t)
-line t c call NotRunning = line-1001 (view t) c
-line t c call Einval = line-22 (view t) c call
-line t c call Enosys = line-38 (view t) c call
-line t c call Esrch = line-3 (view t) c call
-line t c call Ebusy = line-16 (view t) c call
-line t c call Echild = line-10 (view t) c call
-line t c call Enospc = line-28 (view t) c call
-line t c call Enomem = line-12 (view t) c call
-line t c call Eagain = line-11 (view t) c call
+-- the process at i is one that the caller's kill n means: of that number, or seen and neither the caller nor number 1
+unfoldable pub meant : View → ℕ → ℤ → ℕ → Bool
+meant v c (pos n) i = numbered v c (pos n) i
+meant v c (negsuc n) i = seen v (v .own c) i and (not (eqb i c) and not (eqb (pid-to v c i) 1))
 
 -- Order: -1000, -1001, -22, -38, -3, -16, -10, -28, -12, -11.
 unfoldable pub place : Refusal → ℕ
@@ -218,6 +62,50 @@ place Enospc = 7
 place Enomem = 8
 place Eagain = 9
 
+-- the test b for the number e, and f for the others
+abbrev pub given-if : Refusal → Bool → (Refusal → Bool) → Refusal → Bool
+given-if e b f d = if eqb (place d) (place e) then b else f d
+
+abbrev pub no-more : Refusal → Bool
+no-more d = false
+
+-- no room: clone with 64 processes, clone new or unshare with 32 namespaces (every slot is taken)
+abbrev pub full : View → Bool
+full v = all process-slots (taken v)
+
+abbrev pub namespaces-taken : View → Bool
+namespaces-taken v = all namespace-slots (namespace-taken v)
+
+-- "Negative numbers", by the call: what its lines of the table say of a call by the process at c, whatever the other
+-- lines say.
+unfoldable pub lines : View → ℕ → Call → Refusal → Bool
+lines v c Clone = given-if Enomem (dead v (v .children c)) (given-if Eagain (full v) no-more)
+lines v c CloneNew =
+    given-if Enospc (eqb (v .level (v .own c)) deepest) (given-if Eagain (full v or namespaces-taken v) no-more)
+lines v c Unshare =
+    given-if Einval (v .unshared c)
+    (given-if Enospc (eqb (v .level (v .own c)) deepest) (given-if Eagain (namespaces-taken v) no-more))
+lines v c (Setns n) = given-if Esrch (not (any process-slots (λ i. numbered v c n i and not (v .ended i)))) no-more
+lines v c (Kill n s) =
+    given-if Einval (not (within 0 signals s))
+    (given-if Enosys (names-group n) (given-if Esrch (not (any process-slots (meant v c n))) no-more))
+lines v c (Exit s) = given-if Ebusy (eqb c 0) no-more
+lines v c Wait = given-if Echild (not (any process-slots (child-of v c))) no-more
+lines v c Getpid = no-more
+lines v c Getppid = no-more
+lines v c (Handle s on) =
+    given-if Einval (not (within 1 signals s) or eqb (natural s) sigkill or eqb (natural s) sigstop) no-more
+lines v c Poll = no-more
+
+-- -1001: the caller's slot is beyond 63, empty, ended or stopped
+unfoldable pub not-running : View → ℕ → Bool
+not-running v c = not (ltb c process-slots) or not (taken v c) or not (is-running (v .state c))
+
+-- with the first two lines, which are those of each call
+unfoldable pub line : Table → ℕ → Call → Refusal → Bool
+line t c call =
+    given-if Unsound (not (sound t)) (given-if NotRunning (not-running (view t) c) (lines (view t) c call))
+
 -- Each negative number is given exactly when its line says so and no earlier line does, on any table of the declared
 -- type, by any caller.
 unfoldable pub AnswersListed : Type 0
@@ -226,13 +114,38 @@ AnswersListed =
     → (step t c call .reply .answer ≡ Refused e)
     ↔ (So (line t c call e) × ((d : Refusal) → place d < place e → So (line t c call d) → ⊥))
 
+-- ---- demand 2: soundness
+
+-- Each call leaves a sound table sound.
+unfoldable pub KeepsSound : Type 0
+KeepsSound = (t : Table) (c : ℕ) (call : Call) → SoundTable t → SoundTable (after t c call)
+
+-- ---- demand 2: namespaces, slots and numbers
+
+-- A process never changes namespace. (No call frees a slot and gives it away again.)
+unfoldable pub NamespaceFixed : Type 0
+NamespaceFixed =
+    (t : Table) (c i : ℕ) (call : Call) → SoundTable t → So (taken (view t) i) → So (taken (view (after t c call)) i)
+    → view (after t c call) .own i ≡ view t .own i
+
 -- A process that stays in the table, ended or not, keeps its numbers at all levels and its own namespace. (So a slot
 -- that is taken before and after a call is the same process's: no call frees a slot and gives it away again.)
 unfoldable pub NumbersKept : Type 0
 NumbersKept =
-    (t : Table) (c i : ℕ) (call : Call) → SoundTable t → So (taken (view t) i) → So (taken (view (step t c call .table)) i)
-    → ((l : ℕ) → view (step t c call .table) .pid i l ≡ view t .pid i l)
-    × (view (step t c call .table) .own i ≡ view t .own i)
+    (t : Table) (c i : ℕ) (call : Call) → SoundTable t → So (taken (view t) i) → So (taken (view (after t c call)) i)
+    → ((l : ℕ) → view (after t c call) .pid i l ≡ view t .pid i l)
+    × (view (after t c call) .own i ≡ view t .own i)
+
+-- A namespace slot that is taken before and after a call is the same namespace's: it keeps its parent and its level, a
+-- living one its init unless it dies, and a dead one stays dead. (No call frees one and gives its slot away again.)
+unfoldable pub NamespacesKept : Type 0
+NamespacesKept =
+    (t : Table) (c n : ℕ) (call : Call) → SoundTable t → So (namespace-taken (view t) n)
+    → So (namespace-taken (view (after t c call)) n)
+    → (view (after t c call) .up n ≡ view t .up n)
+    × (view (after t c call) .level n ≡ view t .level n)
+    × ((So (unborn (view t) n) → ⊥)
+    → (view (after t c call) .life n ≡ view t .life n) ⊎ So (dead (view (after t c call)) n))
 
 -- no process in the table, ended or not, has the number k in n
 unfoldable pub Unused : View → ℕ → ℕ → Type 0
@@ -252,10 +165,116 @@ pub record NextNumber (v : View) (n k : ℕ) : Type 0 where
 unfoldable pub NumberFresh : Type 0
 NumberFresh =
     (t : Table) (c i : ℕ) (call : Call) → SoundTable t → (So (taken (view t) i) → ⊥)
-    → So (taken (view (step t c call .table)) i)
-    → (n : ℕ) → So (below (view (step t c call .table)) (view (step t c call .table) .own i) n)
-    → NextNumber (view t) n (pid-seen (view (step t c call .table)) n i)
-    × (view (step t c call .table) .last n ≡ pid-seen (view (step t c call .table)) n i)
+    → So (taken (view (after t c call)) i)
+    → (n : ℕ) → So (below (view (after t c call)) (view (after t c call) .own i) n)
+    → NextNumber (view t) n (pid-seen (view (after t c call)) n i)
+    × (view (after t c call) .last n ≡ pid-seen (view (after t c call)) n i)
+
+-- The child at k that the caller bore into n, with the answer a, by a call that took t to u.
+pub record Born (t u : Table) (c k n a : ℕ) : Type 0 where
+  -- Its slot was empty.
+  pub new : So (taken (view t) k) → ⊥
+  pub here : So (taken (view u) k)
+  -- Its parent is the caller, its own namespace n, and its children's too; it runs, without signals and mark.
+  pub kin : (view u .parent k ≡ c) × (view u .own k ≡ n) × (view u .children k ≡ n)
+  pub bare :
+      (view u .state k ≡ Running) × (view u .handled k ≡ 0) × (view u .pending k ≡ 0) × (view u .unshared k ≡ false)
+  -- If n is unborn (or a slot not taken yet) the child is its init.
+  pub first : So (unborn (view t) n) → So (alive (view u) n) × (init (view u) n ≡ k)
+  -- The answer is its number in the caller's namespace.
+  pub answer : a ≡ pid-seen (view u) (view t .own c) k
+  -- Nobody else's record changes.
+  pub others : (i : ℕ) → (i ≡ k → ⊥) → process u i ≡ process t i
+
+-- A granted clone tells the host the slot of exactly the child, and no other call tells one.
+pub record CloneTells : Type 0 where
+  pub plain :
+      (t : Table) (c a : ℕ) → SoundTable t → step t c Clone .reply .answer ≡ Number a
+      → Born t (after t c Clone) c (step t c Clone .reply .child .0) (view t .children c) a
+  pub in-new :
+      (t : Table) (c a : ℕ) → SoundTable t → step t c CloneNew .reply .answer ≡ Number a
+      → (n : ℕ)
+      × Born t (after t c CloneNew) c (step t c CloneNew .reply .child .0) n a
+      × (So (namespace-taken (view t) n) → ⊥)
+      × (view (after t c CloneNew) .up n ≡ view t .own c)
+  pub no-other :
+      (t : Table) (c : ℕ) (call : Call) → (call ≡ Clone → ⊥) → (call ≡ CloneNew → ⊥)
+      → step t c call .reply .child .0 ≡ no-slot
+
+-- ---- demand 2: signals
+
+-- A signal finds exactly the processes of the caller's namespace and those below: who is found, and that nobody's record
+-- changes whom the caller does not see.
+pub record SignalFinds : Type 0 where
+  pub finds :
+      (t : Table) (c i : ℕ) (n : ℤ) → SoundTable t → So (runs (view t) c)
+      → So (some-of (eqb i) (targets (view t) c n)) ↔ So (meant (view t) c n i)
+  pub spares :
+      (t : Table) (c i : ℕ) (n s : ℤ) → SoundTable t → (So (seen (view t) (view t .own c) i) → ⊥)
+      → process (after t c (Kill n s)) i ≡ process t i
+
+-- the parent of the process at i once t has become u: as before, or where that one ended the init of its namespace
+unfoldable pub heir : Table → Table → ℕ → ℕ
+heir t u i =
+    let p = view t .parent i in
+    if living (view t) p and not (living (view u) p) then init (view t) (view t .own p) else p
+
+-- what a signal's action makes of a record by itself
+unfoldable pub struck : Process → ℕ → Action → Process
+struck q s Nothing = q
+struck q s Resume = resumed q
+struck q s Stop = with-state q Stopped
+struck q s Finish = as-ended q (Signaled s)
+struck q s Pend = with-pending q s
+
+-- the process at j is an init that the kill ends: by 9, from a namespace above
+unfoldable pub felled : View → ℕ → ℤ → ℤ → ℕ → Bool
+felled v c n s j =
+    meant v c n j and living v j and is-init v j and not (eqb (v .own j) (v .own c)) and eqb (natural s) sigkill
+
+-- the process at i lies in the subtree of such an init
+abbrev pub Falls : View → ℕ → ℤ → ℤ → ℕ → Type 0
+Falls v c n s i = (j : ℕ) × So (felled v c n s j) × So (seen v (v .own j) i)
+
+-- A granted kill n s by the process at c.
+pub record SignalDone (t u : Table) (c : ℕ) (n s : ℤ) : Type 0 where
+  -- Removed are exactly those who lie with their parent in the subtree of an init that the kill ends.
+  pub removed :
+      (i : ℕ) → So (taken (view t) i)
+      → (So (taken (view u) i) → ⊥)
+      ↔ ((j : ℕ) × So (felled (view t) c n s j) × So (seen (view t) (view t .own j) i) × So (seen (view t) (view t .own j) (view t .parent i)))
+  -- The others of such a subtree stay for their outside parent, ended: by 9, if not before.
+  pub swept :
+      (i : ℕ) → Falls (view t) c n s i → So (taken (view u) i)
+      → process u i
+      ≡ with-parent (if view t .ended i then process t i else as-ended (process t i) (Signaled sigkill)) (heir t u i)
+  -- Who is meant, in no such subtree, gets what the signal does to it.
+  pub reached :
+      (i : ℕ) → (Falls (view t) c n s i → ⊥) → So (meant (view t) c n i)
+      → process u i
+      ≡ with-parent (struck (process t i) (natural s) (action-on (view t) (view t .own c) i (natural s))) (heir t u i)
+  -- Nobody else's record changes, but that orphans are handed over.
+  pub spared :
+      (i : ℕ) → (Falls (view t) c n s i → ⊥) → (So (meant (view t) c n i) → ⊥)
+      → process u i ≡ with-parent (process t i) (heir t u i)
+
+-- Each kill that is granted does so.
+unfoldable pub SignalExact : Type 0
+SignalExact =
+    (t : Table) (c : ℕ) (n s : ℤ) → SoundTable t → step t c (Kill n s) .reply .answer ≡ Number 0
+    → SignalDone t (after t c (Kill n s)) c n s
+
+-- ---- demand 2: ends
+
+-- A namespace's first process takes its whole subtree down: after a call in which the init of a living n ended, every
+-- process of the subtree is ended or removed, and every namespace of it is dead or freed.
+unfoldable pub SubtreeFalls : Type 0
+SubtreeFalls =
+    (t : Table) (c n : ℕ) (call : Call) → SoundTable t → So (alive (view t) n)
+    → (So (living (view (after t c call)) (init (view t) n)) → ⊥)
+    → ((i : ℕ) → So (seen (view t) n i) → So (living (view (after t c call)) i) → ⊥)
+    × ((m : ℕ) → So (below (view t) m n) → So (namespace-taken (view (after t c call)) m)
+    → So (dead (view (after t c call)) m))
 
 -- "An end", of the init at c, for the reason e, by a call that took t to u.
 pub record EndsExactly (t u : Table) (c : ℕ) (e : End) : Type 0 where
@@ -276,8 +295,28 @@ pub record EndsExactly (t u : Table) (c : ℕ) (e : End) : Type 0 where
 pub record EndExact : Type 0 where
   pub by-exit :
       (t : Table) (c : ℕ) (s : ℤ) → SoundTable t → So (runs (view t) c) → So (is-init (view t) c) → (c ≡ 0 → ⊥)
-      → EndsExactly t (step t c (Exit s) .table) c (Exited (status s))
+      → EndsExactly t (after t c (Exit s)) c (Exited (status s))
   pub by-signal :
       (t : Table) (c i : ℕ) → SoundTable t → So (runs (view t) c) → So (living (view t) i) → So (is-init (view t) i)
       → So (seen (view t) (view t .own c) i) → (view t .own i ≡ view t .own c → ⊥)
-      → EndsExactly t (step t c (Kill (pos (pid-to (view t) c i)) (pos sigkill)) .table) i (Signaled sigkill)
+      → EndsExactly t (after t c (Kill (pos (pid-to (view t) c i)) (pos sigkill))) i (Signaled sigkill)
+
+-- "An end", of the process at p, no init, for the reason e, by a call that took t to u.
+pub record MemberEnds (t u : Table) (p : ℕ) (e : End) : Type 0 where
+  -- It is ended and keeps its numbers, its namespace and its parent.
+  pub itself : process u p ≡ as-ended (process t p) e
+  -- Its children go to the init of its namespace.
+  pub children :
+      (i : ℕ) → So (child-of (view t) p i) → process u i ≡ with-parent (process t i) (init (view t) (view t .own p))
+  -- Nobody else changes.
+  pub others : (i : ℕ) → (i ≡ p → ⊥) → (So (child-of (view t) p i) → ⊥) → process u i ≡ process t i
+
+-- One that is no init ends so by its exit, and by a signal sent to it by number whose action is to end it.
+pub record MemberEndExact : Type 0 where
+  pub by-exit :
+      (t : Table) (c : ℕ) (s : ℤ) → SoundTable t → So (runs (view t) c) → (So (is-init (view t) c) → ⊥)
+      → MemberEnds t (after t c (Exit s)) c (Exited (status s))
+  pub by-signal :
+      (t : Table) (c i s : ℕ) → SoundTable t → So (runs (view t) c) → So (seen (view t) (view t .own c) i)
+      → (So (is-init (view t) i) → ⊥) → s < signals → action-on (view t) (view t .own c) i s ≡ Finish
+      → MemberEnds t (after t c (Kill (pos (pid-to (view t) c i)) (pos s))) i (Signaled s)

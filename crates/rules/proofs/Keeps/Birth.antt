@@ -149,7 +149,7 @@ module _ (v : View) (f : Facts v) (c n k : ℕ) (c-lives : Lives v c) (here : St
   fresh : (m : ℕ) → Below v n m → Fresh v m (next-pid v m)
   fresh m b = next-fresh v m
 
-  k-taken : Taken w k
+  pub k-taken : Taken w k
   unfolding taken
   k-taken = let b = root-above v f n here in let x : w .pid k 0 ≡ next-pid v 0 = subst (λ l. w .pid k l ≡ next-pid v 0) (f .root-level) (born-pid 0 b) in not-iff (eqb (w .pid k 0) 0) .1 (λ z. omega (arith, fresh 0 b .above, sym x, eqb-true (w .pid k 0) 0 z))
 

@@ -184,23 +184,34 @@ module _ (t : Table) (c : ℕ) (h : SoundTable t) (r : So (runs (view t) c)) whe
   handled s x y n m true = let (a, b, k) = sets t (sane t h) c lives in signalled c lives _ _ (on-ok _ _ _ x n m k) (with-signal-lt signals _ s a y) b
   handled s x y n m false = let (a, b, k) = sets t (sane t h) c lives in signalled c lives (without-signal (v .handled c) s) (without-signal (v .pending c) s) (off-ok _ _ _ k) (omega (arith, without-signal-le (v .handled c) s, a)) (omega (arith, without-signal-le (v .pending c) s, b))
 
+  -- a clone that is not refused
+  pub may-bear : dead v (v .children c) ≡ false → eqb (free-slot v) process-slots ≡ false → MayBear v c (v .children c)
+  may-bear a b =
+      let (s, d) = f .children c here lives in
+      record { lives = lives; namespace = s; below = d; not-dead = no-so a; up-own = λ u. f .unborn-own _ s u c here refl; room = eqb-false _ process-slots b; holder = λ m s u o. held-in t h .holder m s u; held-by = λ m s. inr (held-in t h .held-by m s) }
+
+  pub may-bear-new : eqb (own-level v c) deepest ≡ false → eqb (free-slot v) process-slots or eqb (free-namespace-slot v) namespace-slots ≡ false
+      → Change t (new-namespace t c) × (free-namespace-slot v < namespace-slots) × MayBear (view (new-namespace t c)) c (free-namespace-slot v)
+  may-bear-new a b =
+      let deep = eqb-false (own-level v c) deepest a in
+      let room = eqb-false (free-namespace-slot v) namespace-slots (or-false-right _ _ b) in
+      let q = K.ready-next t c h r deep room in (
+        makes-namespace c lives deep room,
+        K.free-namespace-is v room .0,
+        record { lives = q .lives; namespace = q .namespace; below = q .below; not-dead = q .not-dead; up-own = q .up-own; room = λ e. eqb-false _ process-slots (or-false-left _ _ b) (sym (q .slot) ∙ e); holder = q .holder; held-by = q .held-by },
+      )
+
   -- each call makes one of these of the table
   pub call-made : (call : Call) → Made t (make t c call .table)
   unfolding make clone clone-new unshare setns set-children kill exit wait getpid getppid handle poll answers granted refused
   call-made Clone =
       choose (Gives t) (dead v (v .children c)) (λ a. nothing-done) (λ a.
-      choose (Gives t) (eqb (free-slot v) process-slots) (λ b. nothing-done) (λ b.
-      let (s, d) = f .children c here lives in
-      born c (v .children c)
-      (record { lives = lives; namespace = s; below = d; not-dead = no-so a; up-own = λ u. f .unborn-own _ s u c here refl; room = eqb-false _ process-slots b; holder = λ m s u o. held-in t h .holder m s u; held-by = λ m s. inr (held-in t h .held-by m s) })))
+      choose (Gives t) (eqb (free-slot v) process-slots) (λ b. nothing-done) (λ b. born c (v .children c) (may-bear a b)))
   call-made CloneNew =
       choose (Gives t) (eqb (own-level v c) deepest) (λ a. nothing-done) (λ a.
       choose (Gives t) (eqb (free-slot v) process-slots or eqb (free-namespace-slot v) namespace-slots) (λ b. nothing-done) (λ b.
-      let deep = eqb-false (own-level v c) deepest a in
-      let room = eqb-false (free-namespace-slot v) namespace-slots (or-false-right _ _ b) in
-      let q = K.ready-next t c h r deep room in
-      born-in-new c (free-namespace-slot v) (makes-namespace c lives deep room) (K.free-namespace-is v room .0)
-      (record { lives = q .lives; namespace = q .namespace; below = q .below; not-dead = q .not-dead; up-own = q .up-own; room = λ e. eqb-false _ process-slots (or-false-left _ _ b) (sym (q .slot) ∙ e); holder = q .holder; held-by = q .held-by })))
+      let (x, l, m) = may-bear-new a b in
+      born-in-new c (free-namespace-slot v) x l m))
   call-made Unshare =
       choose (Gives t) (process t c .unshared) (λ a. nothing-done) (λ a.
       choose (Gives t) (eqb (own-level v c) deepest) (λ b. nothing-done) (λ b.

@@ -5,7 +5,7 @@ use mathlib.Core.Bool.{Bool, true, false, not, So}
 use mathlib.Core.Path.{_≡_, refl, _∙_, ap, sym, subst, ap₂}
 use borrow.Author.Tests.{ne-eqb}
 use lib.Dec.{eqb}
-use Rattle.rules.proofs.Keeps.Changed.{getD-replicate, view-changed, shaped-changed, process-shaped, pick}
+use Rattle.rules.proofs.Keeps.Changed.{getD-replicate, changed-at, process-count, view-changed, shaped-changed, process-shaped, pick}
 use Rattle.rules.proofs.Keeps.InitEnds.{gone, subtree-gone, subtree-facts}
 use Rattle.rules.proofs.Keeps.MemberEnds.{member-gone, member-facts}
 use Rattle.rules.proofs.Laws.Below.{shallow-below, no-level}
@@ -108,11 +108,19 @@ module _ (t : Table) (s : Sane t) (p : ℕ) (e : End) (here : Taken (view t) p) 
   unfolding child-of
   no-child i l = false-and (taken v i) _ (λ k. omega (arith, f .in-range i k))
 
+  member-out : (i : ℕ) → process-slots ≤ i → member-ends v p e i no-process ≡ no-process
+  unfolding member-ends
+  member-out i l = rw (ne-eqb i p (λ x. omega (arith, f .in-range p here)), no-child i l)
+
+  -- each record then
+  pub member-at : (i : ℕ) → process after-member i ≡ member-ends v p e i (process t i)
+  member-at = changed-at (member-ends v p e) no-process process-slots (t .processes) (process-count t g) member-out
+
   -- what is read then
   pub member-view : view after-member ≡ member-gone v p q e
   unfolding member-ends
   member-view =
-      view-changed t (member-ends v p e) (λ n s. s) g out (λ n l. refl)
+      view-changed t (member-ends v p e) (λ n s. s) g member-out (λ n l. refl)
       ∙ (λ j. record {
         own = λ i. none-of (λ x. x .own .0) (eqb i p) (child-of v p i) (process t i) refl refl j;
         children = λ i. two (λ x. x .children .0) (eqb i p) (child-of v p i) (process t i) refl j;
@@ -128,9 +136,6 @@ module _ (t : Table) (s : Sane t) (p : ℕ) (e : End) (here : Taken (view t) p) 
         last = v .last;
         life = v .life;
       })
-    where
-      out : (i : ℕ) → process-slots ≤ i → member-ends v p e i no-process ≡ no-process
-      out i l = rw (ne-eqb i p (λ x. omega (arith, f .in-range p here)), no-child i l)
 
   pub member-shape : So (shaped after-member)
   unfolding member-ends
@@ -160,6 +165,14 @@ module _ (t : Table) (s : Sane t) (p : ℕ) (e : End) (here : Taken (view t) p) 
   is-out : (i : ℕ) → process-slots ≤ i → seen v n i ≡ false
   is-out i l = isnt-so (λ s. omega (arith, f .in-range i (seen-taken v n i s)))
 
+  subtree-out : (i : ℕ) → process-slots ≤ i → init-ends v p e i no-process ≡ no-process
+  unfolding init-ends
+  subtree-out i l = rw (is-out i l)
+
+  -- each record then
+  pub subtree-at : (i : ℕ) → process after-init i ≡ init-ends v p e i (process t i)
+  subtree-at = changed-at (init-ends v p e) no-process process-slots (t .processes) (process-count t g) subtree-out
+
   namespace-out : (m : ℕ) → namespace-slots ≤ m → below v m n ≡ false
   namespace-out m l =
       let low = f .in-namespace n (f .members p here .0 .0) in
@@ -172,7 +185,7 @@ module _ (t : Table) (s : Sane t) (p : ℕ) (e : End) (here : Taken (view t) p) 
   pub subtree-view : view after-init ≡ subtree-gone v n p e
   unfolding init-ends namespace-dies gone
   subtree-view =
-      view-changed t (init-ends v p e) (namespace-dies v n) g (λ i l. rw (is-out i l)) (λ m l. rw (namespace-out m l))
+      view-changed t (init-ends v p e) (namespace-dies v n) g subtree-out (λ m l. rw (namespace-out m l))
       ∙ (λ j. record {
         own = λ i. plain e (process t i) (λ x. x .own .0) (seen v n i) (seen v n (v .parent i)) (eqb i p) (v .ended i) (λ x. refl) j;
         children = λ i. cleared e (process t i) (λ x. x .children .0) no-slot (seen v n i) (seen v n (v .parent i)) (eqb i p) (v .ended i) (λ x. refl) (λ s d. bare i s d .0 .0 .0) j;
@@ -203,6 +216,15 @@ module _ (t : Table) (s : Sane t) (p : ℕ) (e : End) (here : Taken (view t) p) 
   end-shape : So (shaped (end t p e))
   unfolding end
   end-shape = choose (λ u. So (shaped u)) (is-init v p) (λ i. subtree-shape) (λ i. member-shape)
+
+-- each record once the process at p has ended, an init or another
+pub init-ended-at : (t : Table) (s : Sane t) (p : ℕ) (e : End) → Taken (view t) p → So (is-init (view t) p) → (i : ℕ) → process (end t p e) i ≡ init-ends (view t) p e i (process t i)
+unfolding end
+init-ended-at t s p e here z i = rw (z, end) (subtree-at t s p e here i)
+
+pub member-ended-at : (t : Table) (s : Sane t) (p : ℕ) (e : End) → Taken (view t) p → is-init (view t) p ≡ false → (i : ℕ) → process (end t p e) i ≡ member-ends (view t) p e i (process t i)
+unfolding end
+member-ended-at t s p e here z i = rw (z, end) (member-at t s p e here i)
 
 -- an end leaves the tree of namespaces
 pub end-tree : (t : Table) (s : Sane t) (p : ℕ) (e : End) → Taken (view t) p → (view (end t p e) .up ≡ view t .up) × (view (end t p e) .level ≡ view t .level)

@@ -1,30 +1,30 @@
 -- What the end of an init removes, ends and leaves.
-use Prim.Native.Nat.{ℕ}
+use Prim.Native.Nat.{ℕ, _<_}
 use native.Mathlib.Omega.{arith}
 use mathlib.Core.Bool.{false, So, false≢true}
 use mathlib.Core.List.{_∷_, []}
 use mathlib.Core.Logic.{_↔_, ⊎-elim}
 use mathlib.Core.Path.{_≡_, refl, sym, _∙_, ap, subst}
-use borrow.Author.Tests.{ne-eqb}
+use borrow.Author.Tests.{ne-eqb, le-leb, lt-ltb}
 use lib.Dec.{eqb}
 use lib.IntN.{ℤ, pos}
-use Rattle.rules.proofs.Keeps.End.{end-view, end-sane}
-use Rattle.rules.proofs.Keeps.Finds.{counted, meant-named, end-leaves, freed-leaves}
+use Rattle.rules.proofs.Keeps.End.{end-view, end-sane, init-ended-at}
+use Rattle.rules.proofs.Keeps.Finds.{counted, meant-named, freed-leaves}
 use Rattle.rules.proofs.Keeps.Freed.{freed-view}
 use Rattle.rules.proofs.Keeps.InitEnds.{gone, subtree-gone}
 use Rattle.rules.proofs.Keeps.Premises as K
-use Rattle.rules.proofs.Laws.Facts.{seen-taken, Facts, Taken, Lives, Seen, Other, lives-taken, is-seen, Sane, sane, facts}
+use Rattle.rules.proofs.Laws.Facts.{seen-taken, Facts, Taken, Lives, Seen, Other, lives-taken, Sane, sane, facts}
 use Rattle.rules.proofs.Laws.Steps.{step-made, runs-lives, remainder}
 use Rattle.rules.proofs.Laws.Tests.{yes-or-no, isnt-so, no-so, choose, left, right, both, and-not}
-use Rattle.rules.proofs.Laws.Tree.{below-refl}
 use Rattle.rules.specs.Answers.{answers, granted}
 use Rattle.rules.specs.Calls.{exit, kill, named, pid-to, status, targets}
 use Rattle.rules.specs.Claims.{EndsExactly, EndExact}
 use Rattle.rules.specs.Delivery.{act, action-on, default-action, deliver, deliver-all}
-use Rattle.rules.specs.Ends.{end}
+use Rattle.rules.specs.Ends.{end, init-ends}
 use Rattle.rules.specs.Freeing.{freed}
-use Rattle.table.specs.Limits.{process-slots}
+use Rattle.table.specs.Limits.{process-slots, signals}
 use Rattle.rules.specs.Read.{View, is-init, seen, taken, view}
+use Rattle.table.specs.Slots.{process}
 use Rattle.rules.specs.Sound.{SoundTable, kept-end}
 use Rattle.rules.specs.Step.{make, runs, step}
 use Rattle.table.specs.Tests.{_and_, _or_, if_then_else_}
@@ -32,6 +32,7 @@ use Rattle.table.specs.declared.Action.the-variants.{Finish}
 use Rattle.table.specs.declared.Call.the-variants.{Exit, Kill}
 use Rattle.table.specs.declared.End.the-variants.{Exited, Signaled}
 use Rattle.table.specs.declared.End.{End}
+use Rattle.table.specs.declared.Outcome.{Outcome}
 use Rattle.table.specs.declared.State.the-variants.{Ended}
 use Rattle.table.specs.declared.Table.{Table}
 
@@ -49,14 +50,14 @@ gone-removed v n c e = (λ i t. (removed i t, λ (a, b) x. false≢true (rw (bot
     removed i t o = ⊎-elim (λ g. (left _ _ g, right _ _ g)) (λ g. absurd (o (rw g t))) (yes-or-no (gone v n i))
 
 pub ends-exactly : (t : Table) → Sane t → (c : ℕ) (e : End) → Lives (view t) c → Other c → So (kept-end (Ended e)) → So (is-init (view t) c) → EndsExactly t (freed (end t c e)) c e
-unfolding taken
+unfolding taken init-ends
 ends-exactly t s c e l o k z =
     let shape = end-sane t s c e l o k .shape-of in
     let x = subst (Fallen v n c e) (sym (freed-view (end t c e) shape)) fallen in
     record {
       removed = x .0;
       left = x .1;
-      outside = λ i a. freed-leaves (end t c e) shape i ∙ end-leaves t s n c e (is-seen v n c (lives-taken v c l) (below-refl v n)) i a;
+      outside = λ i a. freed-leaves (end t c e) shape i ∙ outside i (isnt-so a);
     }
   where
     v : View
@@ -65,25 +66,28 @@ ends-exactly t s c e l o k z =
     n : ℕ
     n = view t .own c
 
+    outside : (i : ℕ) → seen v n i ≡ false → process (end t c e) i ≡ process t i
+    outside i o = init-ended-at t s c e (lives-taken v c l) z i ∙ rw o
+
     fallen : Fallen v n c e (view (end t c e))
     fallen = subst (Fallen v n c e) (sym (end-view t s c e (lives-taken v c l))) (choose (Fallen v n c e) (is-init v c) (λ i. gone-removed v n c e) (λ i. absurd (no-so i z)))
 
-by-exit : (t : Table) (c : ℕ) (s : ℤ) → SoundTable t → So (runs (view t) c) → So (is-init (view t) c) → (c ≡ 0 → ⊥) → EndsExactly t (step t c (Exit s) .table) c (Exited (status s))
+pub exit-made : (t : Table) (c : ℕ) (s : ℤ) → SoundTable t → So (runs (view t) c) → Other c → step t c (Exit s) .table ≡ freed (end t c (Exited (status s)))
 unfolding make exit answers granted
+exit-made t c s h r o = ap (λ (x : Outcome). x .table) (step-made t c (Exit s) h r) ∙ rw (ne-eqb c 0 o, exit)
+
+by-exit : (t : Table) (c : ℕ) (s : ℤ) → SoundTable t → So (runs (view t) c) → So (is-init (view t) c) → (c ≡ 0 → ⊥) → EndsExactly t (step t c (Exit s) .table) c (Exited (status s))
 by-exit t c s h r z o =
-    subst (λ x. EndsExactly t x c (Exited (status s))) (sym (ap (λ x. x .table) (step-made t c (Exit s) h r) ∙ made))
+    subst (λ x. EndsExactly t x c (Exited (status s))) (sym (exit-made t c s h r o))
     (ends-exactly t (sane t h) c (Exited (status s)) (runs-lives t c r) o (remainder s) z)
-  where
-    made : make t c (Exit s) .table ≡ freed (end t c (Exited (status s)))
-    made = rw (ne-eqb c 0 o, exit)
 
 -- ---- by a signal
 
-kill-acts : (v : View) (i from : ℕ) → Lives v i → (v .own i ≡ from → ⊥) → action-on v from i 9 ≡ Finish
+pub kill-acts : (v : View) (i from : ℕ) → Lives v i → (v .own i ≡ from → ⊥) → action-on v from i 9 ≡ Finish
 unfolding action-on default-action _or_ _and_
 kill-acts v i from l o = rw (l, and-not (is-init v i) (ne-eqb (v .own i) from o))
 
-module _ (t : Table) (c i : ℕ) (h : SoundTable t) (r : So (runs (view t) c)) (s : Seen (view t) (view t .own c) i) where
+module _ (t : Table) (c i : ℕ) (h : SoundTable t) (r : So (runs (view t) c)) (seen-i : Seen (view t) (view t .own c) i) where
   abbrev v : View
   v = view t
 
@@ -99,20 +103,25 @@ module _ (t : Table) (c i : ℕ) (h : SoundTable t) (r : So (runs (view t) c)) (
   found : targets v c (pos k) ≡ i ∷ []
   unfolding targets k
   found =
-      let e : named v c (pos k) ≡ i = meant-named v f c here k i s refl in
-      let l = f .in-range i (seen-taken v (v .own c) i s) in
+      let e : named v c (pos k) ≡ i = meant-named v f c here k i seen-i refl in
+      let l = f .in-range i (seen-taken v (v .own c) i seen-i) in
       rw (e, ne-eqb i process-slots (λ q. omega (arith, q, l)))
 
-  kill-made : Lives v i → (v .own i ≡ v .own c → ⊥) → make t c (Kill (pos k) (pos 9)) .table ≡ freed (end t i (Signaled 9))
-  unfolding make kill answers granted _and_ deliver-all deliver act k
-  kill-made l o =
-      let z : eqb k 0 ≡ false = ne-eqb k 0 (counted v f c here i s) in
-      rw (z, found, kill-acts v i (v .own c) l o, kill)
+  kill-made : (s : ℕ) → s < signals → make t c (Kill (pos k) (pos s)) .table ≡ freed (deliver t (v .own c) i s)
+  unfolding make kill answers granted _and_ deliver-all k
+  kill-made s l =
+      let z : eqb k 0 ≡ false = ne-eqb k 0 (counted v f c here i seen-i) in
+      rw (le-leb 0 s (omega arith), lt-ltb s signals l, z, found, kill)
+
+  -- a signal by number that ends its target
+  pub finish-made : (s : ℕ) → s < signals → action-on v (v .own c) i s ≡ Finish → step t c (Kill (pos (pid-to v c i)) (pos s)) .table ≡ freed (end t i (Signaled s))
+  unfolding deliver act k
+  finish-made s l e = ap (λ (o : Outcome). o .table) (step-made t c (Kill (pos k) (pos s)) h r) ∙ kill-made s l ∙ ap (λ a. freed (act t i s a)) e
 
 by-signal : (t : Table) (c i : ℕ) → SoundTable t → So (runs (view t) c) → Lives (view t) i → So (is-init (view t) i) → Seen (view t) (view t .own c) i → (view t .own i ≡ view t .own c → ⊥) → EndsExactly t (step t c (Kill (pos (pid-to (view t) c i)) (pos 9)) .table) i (Signaled 9)
-unfolding k _and_
+unfolding _and_
 by-signal t c i h r l z s o =
-    subst (λ x. EndsExactly t x i (Signaled 9)) (sym (ap (λ x. x .table) (step-made t c (Kill (pos (k t c i h r s)) (pos 9)) h r) ∙ kill-made t c i h r s l o))
+    subst (λ x. EndsExactly t x i (Signaled 9)) (sym (finish-made t c i h r s 9 (omega arith) (kill-acts (view t) i (view t .own c) l o)))
     (ends-exactly t (sane t h) i (Signaled 9) l other refl z)
   where
     other : i ≡ 0 → ⊥

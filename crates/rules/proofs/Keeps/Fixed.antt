@@ -20,7 +20,7 @@ use Rattle.rules.proofs.Laws.Tests.{yes-or-no, same-or, isnt-so, choose
 use Rattle.rules.proofs.Laws.Tree.{climb-cases}
 use Rattle.rules.specs.Births.{birth}
 use Rattle.rules.specs.Calls.{new-namespace}
-use Rattle.rules.specs.Claims.{NamespaceFixed, SubtreeFalls}
+use Rattle.rules.specs.Claims.{NamespaceFixed, NamespacesKept, SubtreeFalls}
 use Rattle.rules.specs.Ends.{end}
 use Rattle.rules.specs.Freeing.{freed, kept}
 use Rattle.table.specs.Limits.{namespace-slots}
@@ -109,30 +109,30 @@ namespace-fixed t c i call h x y = made-or-refused (λ u. Taken (view u) i → v
 
 -- ---- a namespace's first process takes its whole subtree down
 
--- A namespace stays below its parent, and one that has had an init keeps its condition or is dead.
-abbrev Onward : View → View → ℕ → Type 0
-Onward v u m = (u .up m ≡ v .up m) × ((So (unborn v m) → ⊥) → (u .life m ≡ v .life m) ⊎ So (dead u m))
+-- A namespace keeps its parent and its level, and one that has had an init keeps its condition or is dead.
+abbrev pub Onward : View → View → ℕ → Type 0
+Onward v u m = (u .up m ≡ v .up m) × (u .level m ≡ v .level m) × ((So (unborn v m) → ⊥) → (u .life m ≡ v .life m) ⊎ So (dead u m))
 
 -- No namespace goes.
-abbrev Stay : View → View → Type 0
+abbrev pub Stay : View → View → Type 0
 Stay v u = (m : ℕ) → Stands v m → Stands u m × Onward v u m
 
 onward-trans : (a b c : View) (m : ℕ) → Onward a b m → Onward b c m → Onward a c m
-onward-trans a b c m x y = (y .0 ∙ x .0, λ o. ⊎-elim (λ e. kept-on o e) (λ d. ⊎-elim (λ e. inr (ap is-dead e ∙ d)) (λ e. inr e) (y .1 (dead-unborn (b .life m) d))) (x .1 o))
+onward-trans a b c m x y = (y .0 ∙ x .0, y .1 ∙ x .1, λ o. ⊎-elim (λ e. kept-on o e) (λ d. ⊎-elim (λ e. inr (ap is-dead e ∙ d)) (λ e. inr e) (y .2 (dead-unborn (b .life m) d))) (x .2 o))
   where
     kept-on : (So (unborn a m) → ⊥) → b .life m ≡ a .life m → (c .life m ≡ a .life m) ⊎ So (dead c m)
-    kept-on o e = ⊎-elim (λ d. inl (d ∙ e)) (λ d. inr d) (y .1 (λ q. o (ap is-unborn (sym e) ∙ q)))
+    kept-on o e = ⊎-elim (λ d. inl (d ∙ e)) (λ d. inr d) (y .2 (λ q. o (ap is-unborn (sym e) ∙ q)))
 
-stay-trans : (a b c : View) → Stay a b → Stay b c → Stay a c
+pub stay-trans : (a b c : View) → Stay a b → Stay b c → Stay a c
 stay-trans a b c x y m h = let (s, o) = x m h in let (r, q) = y m s in (r, onward-trans a b c m o q)
 
 -- ---- each change
 
-end-stays : (t : Table) (s : Sane t) (p : ℕ) (e : End) → Lives (view t) p → Stay (view t) (view (end t p e))
+pub end-stays : (t : Table) (s : Sane t) (p : ℕ) (e : End) → Lives (view t) p → Stay (view t) (view (end t p e))
 unfolding namespace-taken
 end-stays t s p e lives =
     subst (Stay (view t)) (sym (end-view t s p e (lives-taken (view t) p lives)))
-    (choose (Stay (view t)) (is-init (view t) p) (λ i m h. (h, (refl, λ o. by (below (view t) m (view t .own p)) (view t .life m)))) (λ i m h. (h, (refl, λ o. inl refl))))
+    (choose (Stay (view t)) (is-init (view t) p) (λ i m h. (h, (refl, refl, λ o. by (below (view t) m (view t .own p)) (view t .life m)))) (λ i m h. (h, (refl, refl, λ o. inl refl))))
   where
     by : (b : Bool) (l : Life) → ((if b then Dead else l) ≡ l) ⊎ So (is-dead (if b then Dead else l))
     by true l = inr refl
@@ -143,25 +143,25 @@ unfolding namespace-taken
 new-stays t s c room =
     let (low, free) = K.free-namespace-is (view t) room in
     subst (Stay (view t)) (sym (new-namespace-view t (s .shape-of) c low))
-    (λ m h. let e = ne-eqb m (free-namespace-slot (view t)) (λ q. free (subst (Stands (view t)) q h)) in (rw e h, (rw e, λ o. inl (rw e))))
+    (λ m h. let e = ne-eqb m (free-namespace-slot (view t)) (λ q. free (subst (Stands (view t)) q h)) in (rw e h, (rw e, rw e, λ o. inl (rw e))))
 
 change-stays : (t u : Table) → Sane t → Change t u → Stay (view t) (view u)
 unfolding namespace-taken
 change-stays t u s (ends p e l o ok) = end-stays t s p e l
-change-stays t u s (signals-of c l x o k h q ok a b) = λ m h. (h, (refl, λ o. inl refl))
-change-stays t u s (turns c m mark l k) = λ m h. (h, (refl, λ o. inl refl))
-change-stays t u s (reaps d o) = λ m h. (h, (refl, λ o. inl refl))
+change-stays t u s (signals-of c l x o k h q ok a b) = λ m h. (h, (refl, refl, λ o. inl refl))
+change-stays t u s (turns c m mark l k) = λ m h. (h, (refl, refl, λ o. inl refl))
+change-stays t u s (reaps d o) = λ m h. (h, (refl, refl, λ o. inl refl))
 change-stays t u s (makes-namespace c l a b) = new-stays t s c b
 
 run-stays : (t u : Table) → Sane t → Run t u → Stay (view t) (view u)
-run-stays t u s start = λ m h. (h, (refl, λ o. inl refl))
+run-stays t u s start = λ m h. (h, (refl, refl, λ o. inl refl))
 run-stays t u s (more {u = x} r c) = stay-trans (view t) (view x) (view u) (run-stays t x s r) (change-stays x u (run-sane t x s r) c)
 
 birth-stays : (t : Table) → Sane t → (c n : ℕ) → MayBear (view t) c n → Stay (view t) (view (birth t c n))
 unfolding namespace-taken
 birth-stays t s c n m =
     subst (Stay (view t)) (sym (birth-view t (s .shape-of) (s .facts) c n (m .namespace) (K.free-slot-is (view t) (m .room) .0)))
-    (λ a h. (h, (refl, λ o. inl (by (below (view t) n a) (view t .life a) o))))
+    (λ a h. (h, (refl, refl, λ o. inl (by (below (view t) n a) (view t .life a) o))))
   where
     by : (b : Bool) (l : Life) → (So (is-unborn l) → ⊥) → (if b then (if is-unborn l then Alive (record { 0 = free-slot (view t) }) else l) else l) ≡ l
     by false l o = refl
@@ -178,7 +178,7 @@ freed-onward t s m h = subst (λ u. Onward (view t) u m) (sym e) (go (kept (view
     e = freed-view t (s .shape-of)
 
     go : (b : Bool) → kept (view t) m ≡ b → Onward (view t) (restrict (kept (view t)) (view t)) m
-    go true k = (rw k, λ o. inl (rw k))
+    go true k = (rw k, rw k, λ o. inl (rw k))
     go false k =
         let g : Stands (restrict (kept (view t)) (view t)) m = subst (λ u. Stands u m) e h in
         ⊎-elim
@@ -186,21 +186,28 @@ freed-onward t s m h = subst (λ u. Onward (view t) u m) (sym e) (go (kept (view
         (λ z. absurd (false≢true (rw k at z)))
         (cases _ _ g)
 
+-- a namespace that is there before and after a call is the same
 made-onward : (t u : Table) → SoundTable t → Made t u → (m : ℕ) → Stands (view t) m → Stands (view u) m → Onward (view t) (view u) m
-made-onward t u h nothing-done m a b = (refl, λ o. inl refl)
+made-onward t u h nothing-done m a b = (refl, refl, λ o. inl refl)
 made-onward t u h (freed-after w r) m a b = onward-trans (view t) (view w) (view u) m (run-stays t w (sane t h) r m a .1) (freed-onward w (run-sane t w (sane t h) r) m b)
-made-onward t u h (signalled c l x y ok lx ly) m a b = (refl, λ o. inl refl)
+made-onward t u h (signalled c l x y ok lx ly) m a b = (refl, refl, λ o. inl refl)
 made-onward t u h (born c n k) m a b = birth-stays t (sane t h) c n k m a .1
 made-onward t u h (born-in-new c n k low q) m a b =
     let s = sane t h in
     stay-trans (view t) (view (new-namespace t c)) (view u) (change-stays t (new-namespace t c) s k) (birth-stays (new-namespace t c) (change-sane t (new-namespace t c) s k) c n q) m a .1
+
+-- so it keeps its parent and level, and its condition but to die
+pub namespaces-kept : NamespacesKept
+unfolding NamespacesKept
+namespaces-kept t c m call h a =
+    made-or-refused (λ u. Stands (view u) m → Onward (view t) (view u) m) t c call h (λ b. (refl, refl, λ o. inl refl)) (λ r b. made-onward t _ h (call-made t c h r call) m a b)
 
 -- ---- the subtree
 
 module _ (v u : View) (f : Facts v) (g : Facts u) (n : ℕ) (onward : (m : ℕ) → Stands v m → Stands u m → Onward v u m) (fixed : (i : ℕ) → Taken v i → Taken u i → u .own i ≡ v .own i) (a : So (alive v n)) (fell : Lives u (init v n) → ⊥) where
   -- the namespace itself is dead or freed
   top-dead : Stands u n → So (dead u n)
-  top-dead s = ⊎-elim (λ e. absurd (fell (subst (Lives u) (ap init-of e) (g .inits n s (ap is-alive e ∙ a) .0)))) (λ d. d) (onward n (alive-taken v f n a) s .1 (alive-unborn (v .life n) a))
+  top-dead s = ⊎-elim (λ e. absurd (fell (subst (Lives u) (ap init-of e) (g .inits n s (ap is-alive e ∙ a) .0)))) (λ d. d) (onward n (alive-taken v f n a) s .2 (alive-unborn (v .life n) a))
 
   -- and so is each below it, from parent to child
   all-dead : (k m : ℕ) → v .level m ≡ k → So (climb (v .up) k m n) → Stands u m → So (dead u m)

@@ -31,7 +31,7 @@ use Rattle.table.specs.declared.Table.{Table}
 
 -- ---- the number that the search gives
 
-next-rule : (v : View) → Facts v → (n : ℕ) → NextNumber v n (next-pid v n)
+pub next-rule : (v : View) → Facts v → (n : ℕ) → NextNumber v n (next-pid v n)
 unfolding Unused next-pid
 next-rule v f n =
     let a = next-fresh v n in
@@ -76,7 +76,7 @@ born-numbered v f c n k i o t b h = ⊎-elim (λ x. go (eq-eqb i k x)) (λ e. ab
         let l : with-born v c n k .last b ≡ next-pid v b = rw d in
         (subst (NextNumber v b) (sym q) (next-rule v f b), l ∙ sym q)
 
-birth-numbered : (t : Table) → Sane t → (c n : ℕ) → MayBear (view t) c n → Numbered (view t) (view (birth t c n))
+pub birth-numbered : (t : Table) → Sane t → (c n : ℕ) → MayBear (view t) c n → Numbered (view t) (view (birth t c n))
 birth-numbered t s c n m =
     let (room, free) = K.free-slot-is (view t) (m .room) in
     subst (Numbered (view t)) (sym (birth-view t (s .shape-of) (s .facts) c n (m .namespace) room)) (born-numbered (view t) (s .facts) c n (free-slot (view t)))
@@ -122,7 +122,7 @@ module _ (v : View) (f : Facts v) (a j : ℕ) (a-namespace : Stands v a) (low : 
 
 -- ---- each call
 
-new-numbered : (t : Table) → Sane t → (c n : ℕ) → Sane (new-namespace t c) → free-namespace-slot (view t) < namespace-slots → MayBear (view (new-namespace t c)) c n → Numbered (view t) (view (birth (new-namespace t c) c n))
+pub new-numbered : (t : Table) → Sane t → (c n : ℕ) → Sane (new-namespace t c) → free-namespace-slot (view t) < namespace-slots → MayBear (view (new-namespace t c)) c n → Numbered (view t) (view (birth (new-namespace t c) c n))
 unfolding taken living new-namespace
 new-numbered t s c n g room m i o x b h =
     let (p, q) = birth-numbered (new-namespace t c) g c n m i o x b h in

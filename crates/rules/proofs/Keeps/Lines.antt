@@ -17,7 +17,7 @@ use Rattle.rules.proofs.Laws.Steps.{runs-lives}
 use Rattle.rules.proofs.Laws.Tests.{isnt-so, no-so, left, right, both, isnt-not, not-iff, or-iff, cases, or-left, or-right, any-elim, any-intro, all-elim, all-intro, choose}
 use Rattle.rules.specs.Answers.{refused, granted, answers}
 use Rattle.rules.specs.Calls.{clone, clone-new, exit, first-ended, getpid, getppid, handle, kill, named, names-group, own-level, poll, reap, setns, targets, unshare, wait, within, processes-full, namespaces-full}
-use Rattle.rules.specs.Claims.{AnswersListed, line, line-1001, line-22, line-38, line-3, line-16, line-10, line-28, line-12, line-11, place, numbered, meant}
+use Rattle.rules.specs.Claims.{AnswersListed, given-if, line, lines, not-running, place, numbered, meant}
 use Rattle.table.specs.Limits.{namespace-slots, process-slots, signals}
 use Rattle.rules.specs.Pids.{free-namespace-slot, free-slot}
 use Rattle.table.specs.Slots.{is-running, process}
@@ -150,7 +150,7 @@ module _ (v : View) (f : Facts v) (c : ℕ) (here : Taken v c) where
 
   -- nobody is found exactly if nobody is meant
   found-meant : (n : ℤ) → eqb (length (targets v c n)) 0 ≡ not (any process-slots (meant v c n))
-  unfolding meant some-of
+  unfolding meant numbered some-of
   found-meant n = go (targets v c n) (targets-meant v f c here n)
     where
       in-range : (i : ℕ) (n : ℤ) → So (meant v c n i) → i < process-slots
@@ -163,8 +163,8 @@ module _ (v : View) (f : Facts v) (c : ℕ) (here : Taken v c) where
           let m : So (meant v c n i) = h i .0 (rw (eq-eqb i i refl, some-of) refl) in
           ne-eqb (suc (length is)) 0 (λ q. omega arith) ∙ sym (ap not (any-intro process-slots (meant v c n) i (in-range i n m) m))
 
-caller : (t : Table) → SoundTable t → (c : ℕ) → line-1001 (view t) c ≡ not (runs (view t) c)
-unfolding line-1001 runs _or_ _and_
+caller : (t : Table) → SoundTable t → (c : ℕ) → not-running (view t) c ≡ not (runs (view t) c)
+unfolding not-running runs _or_ _and_
 caller t h c = go (taken (view t) c) (is-running (view t .state c)) refl
   where
     go : (a b : Bool) → taken (view t) c ≡ a → (not (ltb c process-slots) or not a or not b) ≡ not (a and b)
@@ -194,16 +194,7 @@ reap-none t c i (Ended e) = refl
 
 -- the lines from -22 on
 abbrev later : View → ℕ → Call → Refusal → Bool
-later v c call Unsound = false
-later v c call NotRunning = false
-later v c call Einval = line-22 v c call
-later v c call Enosys = line-38 v c call
-later v c call Esrch = line-3 v c call
-later v c call Ebusy = line-16 v c call
-later v c call Echild = line-10 v c call
-later v c call Enospc = line-28 v c call
-later v c call Enomem = line-12 v c call
-later v c call Eagain = line-11 v c call
+later v c call = given-if Unsound false (given-if NotRunning false (lines v c call))
 
 module _ (t : Table) (c : ℕ) (h : SoundTable t) (r : So (runs (view t) c)) where
   abbrev v : View
@@ -230,7 +221,7 @@ module _ (t : Table) (c : ℕ) (h : SoundTable t) (r : So (runs (view t) c)) whe
   Is call o = given o ≡ first (later v c call)
 
   make-first : (call : Call) → given (make t c call) ≡ first (later v c call)
-  unfolding make clone clone-new unshare setns kill exit wait getpid getppid handle poll answers granted refused place-of place first lowest refusal-at line-22 line-38 line-3 line-16 line-10 line-28 line-12 line-11
+  unfolding make clone clone-new unshare setns kill exit wait getpid getppid handle poll answers granted refused place-of place first lowest refusal-at lines
   make-first Clone =
       choose (Is Clone) (dead v (v .children c)) (λ a. hit (dead v (v .children c)) 8 _ a) (λ a.
       choose (Is Clone) (processes-full v)
@@ -249,21 +240,21 @@ module _ (t : Table) (c : ℕ) (h : SoundTable t) (r : So (runs (view t) c)) whe
       (λ d. past (v .unshared c) 2 _ _ a (past (eqb (own-level v c) 7) 7 _ _ b (past (all namespace-slots (namespace-taken v)) 9 _ _ (sym namespaces ∙ d) refl)))))
   make-first (Setns n) =
       let e = named-numbered v f c here n in
-      choose (Is (Setns n)) (eqb (named v c n) process-slots or v .ended (named v c n)) (λ a. hit (line-3 v c (Setns n)) 4 _ (sym e ∙ a)) (λ a. past (line-3 v c (Setns n)) 4 _ _ (sym e ∙ a) refl)
+      choose (Is (Setns n)) (eqb (named v c n) process-slots or v .ended (named v c n)) (λ a. hit (lines v c (Setns n) Esrch) 4 _ (sym e ∙ a)) (λ a. past (lines v c (Setns n) Esrch) 4 _ _ (sym e ∙ a) refl)
   make-first (Kill n s) =
       let e = found-meant v f c here n in
       choose (Is (Kill n s)) (not (within 0 signals s)) (λ a. hit (not (within 0 signals s)) 2 _ a) (λ a.
       choose (Is (Kill n s)) (names-group n) (λ b. past (not (within 0 signals s)) 2 _ _ a (hit (names-group n) 3 _ b)) (λ b.
       choose (Is (Kill n s)) (eqb (length (targets v c n)) 0)
-      (λ d. past (not (within 0 signals s)) 2 _ _ a (past (names-group n) 3 _ _ b (hit (line-3 v c (Kill n s)) 4 _ (sym e ∙ d))))
-      (λ d. past (not (within 0 signals s)) 2 _ _ a (past (names-group n) 3 _ _ b (past (line-3 v c (Kill n s)) 4 _ _ (sym e ∙ d) refl)))))
+      (λ d. past (not (within 0 signals s)) 2 _ _ a (past (names-group n) 3 _ _ b (hit (lines v c (Kill n s) Esrch) 4 _ (sym e ∙ d))))
+      (λ d. past (not (within 0 signals s)) 2 _ _ a (past (names-group n) 3 _ _ b (past (lines v c (Kill n s) Esrch) 4 _ _ (sym e ∙ d) refl)))))
   make-first (Exit s) = choose (Is (Exit s)) (eqb c 0) (λ a. hit (eqb c 0) 5 _ a) (λ a. past (eqb c 0) 5 _ _ a refl)
   make-first Wait =
-      choose (Is Wait) (not (any process-slots (child-of v c))) (λ a. hit (line-10 v c Wait) 6 _ a) (λ a. past (line-10 v c Wait) 6 _ _ a
+      choose (Is Wait) (not (any process-slots (child-of v c))) (λ a. hit (lines v c Wait Echild) 6 _ a) (λ a. past (lines v c Wait Echild) 6 _ _ a
       (reap-none t c (first-ended v c) (v .state (first-ended v c))))
   make-first Getpid = refl
   make-first Getppid = refl
-  make-first (Handle s on) = choose (Is (Handle s on)) (line-22 v c (Handle s on)) (λ a. hit (line-22 v c (Handle s on)) 2 _ a) (λ a. past (line-22 v c (Handle s on)) 2 _ _ a refl)
+  make-first (Handle s on) = choose (Is (Handle s on)) (lines v c (Handle s on) Einval) (λ a. hit (lines v c (Handle s on) Einval) 2 _ a) (λ a. past (lines v c (Handle s on) Einval) 2 _ _ a refl)
   make-first Poll = choose (λ o. given o ≡ 10) (eqb (lowest-signal (process t c .pending)) signals) (λ a. refl) (λ a. refl)
 
 -- the first two lines are passed over
@@ -288,8 +279,8 @@ step-first t c call g =
     (λ e.
     let h : SoundTable t = record { shape = g; rules = e } in
     choose (λ o. given o ≡ first (line t c call)) (runs (view t) c)
-    (λ r. make-first t c h r call ∙ sym (skip (not (sound t)) (line-1001 (view t) c) _ (ap not e) (caller t h c ∙ ap not r)))
-    (λ r. (at-one (not (sound t)) (line-1001 (view t) c) _ (ap not e) (caller t h c ∙ ap not r))))
+    (λ r. make-first t c h r call ∙ sym (skip (not (sound t)) (not-running (view t) c) _ (ap not e) (caller t h c ∙ ap not r)))
+    (λ r. (at-one (not (sound t)) (not-running (view t) c) _ (ap not e) (caller t h c ∙ ap not r))))
     (λ e. (at-zero (not (sound t)) _ (ap not e)))
 
 pub answers-listed : AnswersListed

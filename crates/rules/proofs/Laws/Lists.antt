@@ -198,3 +198,22 @@ in-only p i (x ∷ xs) h k = go (p x) refl (λ m. in-only p i xs m k) h
     go true e r (inr m) = inr (r m)
     go false e r (inl q) = absurd (false≢true (sym e ∙ ap p (sym q) ∙ k))
     go false e r (inr m) = r m
+
+-- ---- each once
+
+abbrev pub Distinct : {A : Type 0} → List A → Type 0
+Distinct [] = Unit {0}
+Distinct (x ∷ l) = (In x l → ⊥) × Distinct l
+
+pub sorted-distinct : {A : Type 0} (f : A → ℕ) (l : List A) → Sorted f l → Distinct l
+sorted-distinct f [] s = tt
+sorted-distinct f (x ∷ l) s = (λ h. omega (arith, s .0 x h), sorted-distinct f l (s .1))
+
+pub only-distinct : (p : ℕ → Bool) (l : List ℕ) → Distinct l → Distinct (only p l)
+unfolding only
+only-distinct p [] d = tt
+only-distinct p (x ∷ xs) d = go (p x) (only-distinct p xs (d .1))
+  where
+    go : (b : Bool) → Distinct (only p xs) → Distinct {A = ℕ} (elim b [ true ↦ x ∷ only p xs | false ↦ only p xs ])
+    go true e = (λ h. d .0 (only-in p x xs h .0), e)
+    go false e = e
