@@ -133,7 +133,7 @@ fn second_holder(t: &mut Table, random: &mut Random) {
     t.processes[i as usize].children = n as u8;
 }
 
-/// A member of a living namespace gets number 1 there beside the init.
+/// A process gets number 1 in its own namespace, beside the init.
 fn second_first(t: &mut Table, random: &mut Random) {
     let i = random.pick(&processes(t)) as usize;
     let level = t.namespaces[t.processes[i].own as usize].level;

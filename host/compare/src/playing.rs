@@ -10,6 +10,9 @@ use std::process::{Command, Stdio};
 const GUARD: u8 = 0xa5;
 const GUARD_BYTES: usize = 64;
 
+/// What a script gives, or why it is not known.
+type Answers = Result<Vec<u8>, String>;
+
 /// The scripts of a kind.
 type Scripts = Box<dyn Iterator<Item = Vec<u8>>>;
 
@@ -30,22 +33,51 @@ fn kinds() -> Vec<(&'static str, Scripts)> {
 /// Plays every script to all three, and prints how many lines of each kind; or shows the first difference.
 pub fn hold(recorder: &str) -> Result<(), String> {
     let mut all = 0;
+    let mut seen = Seen::default();
     println!("{:40} {:>7} {:>12}", "scripts", "number", "lines");
     for (kind, scripts) in kinds() {
         let (mut number, mut lines) = (0, 0);
         for script in scripts {
-            hold_script(recorder, kind, &script)?;
+            seen.count(&hold_script(recorder, kind, &script)?);
             number += 1;
             lines += script.split_inclusive(|&b| b == b'\n').count();
         }
         println!("{kind:40} {number:>7} {lines:>12}");
         all += lines;
     }
+    seen.report()?;
     println!("compare: {all} lines, no difference");
     Ok(())
 }
 
-fn hold_script(recorder: &str, kind: &str, script: &[u8]) -> Result<(), String> {
+/// Answers that the scripts must bring about: all refusals but -1000, which no script can, and the other forms.
+const FORMS: [&str; 13] =
+    ["-1001", "-22", "-38", "-3", "-16", "-10", "-28", "-12", "-11", "gave", "signal", "?", "other numbers"];
+
+/// How often each form of answer came.
+#[derive(Default)]
+struct Seen([usize; FORMS.len()]);
+
+impl Seen {
+    fn count(&mut self, answers: &[u8]) {
+        for line in String::from_utf8_lossy(answers).lines() {
+            let word = line.split(' ').nth(1).unwrap_or(line);
+            self.0[FORMS.iter().position(|form| *form == word).unwrap_or(FORMS.len() - 1)] += 1;
+        }
+    }
+
+    fn report(&self) -> Result<(), String> {
+        let counts: Vec<String> = FORMS.iter().zip(self.0).map(|(form, n)| format!("{form}: {n}")).collect();
+        println!("answers    {}", counts.join(", "));
+        match FORMS.iter().zip(self.0).find(|(_, n)| *n == 0) {
+            Some((form, _)) => Err(format!("no script brought about the answer {form}")),
+            None => Ok(()),
+        }
+    }
+}
+
+/// Plays one script to all three. Gives its answers.
+fn hold_script(recorder: &str, kind: &str, script: &[u8]) -> Answers {
     let answers = run(&mut Table::fresh(), script).into_bytes();
     let by_recorder = |script: &[u8]| play(recorder, script).map_err(|e| format!("{recorder}: {e}"));
     if by_recorder(script)? != answers {
@@ -54,7 +86,8 @@ fn hold_script(recorder: &str, kind: &str, script: &[u8]) -> Result<(), String> 
     if lampfunnel::run(script) != answers {
         return Err(difference("the library", kind, script, |script| Ok(lampfunnel::run(script))));
     }
-    hold_buffers(script, &answers).map_err(|what| format!("{what}, on a script of the kind '{kind}'"))
+    hold_buffers(script, &answers).map_err(|what| format!("{what}, on a script of the kind '{kind}'"))?;
+    Ok(answers)
 }
 
 /// What the recorder writes for a script.
@@ -93,8 +126,6 @@ fn hold_buffers(script: &[u8], answers: &[u8]) -> Result<(), String> {
 
 // ---- a difference
 
-type Answers = Result<Vec<u8>, String>;
-
 /// The shortest script found on which the answers differ from the reference's, and both answers.
 fn difference(who: &str, kind: &str, script: &[u8], answers: impl Fn(&[u8]) -> Answers) -> String {
     let differs = |script: &[u8]| answers(script).is_ok_and(|a| a != run(&mut Table::fresh(), script).as_bytes());
@@ -103,27 +134,43 @@ fn difference(who: &str, kind: &str, script: &[u8], answers: impl Fn(&[u8]) -> A
     let single: Vec<&[u8]> = script.chunks(1).collect();
     let script = shrink(single, |bytes| differs(&bytes.concat())).concat();
     format!(
-        "{who} and the reference differ on a script of the kind '{kind}', here shortened:\n{}\n{who}:\n{}\nreference:\n{}",
-        script.escape_ascii(),
-        answers(&script).unwrap_or_default().escape_ascii(),
-        run(&mut Table::fresh(), &script).escape_default()
+        "{who} and the reference differ on a script of the kind '{kind}', here shortened:\n{}{who}:\n{}reference:\n{}",
+        shown(&script),
+        shown(&answers(&script).unwrap_or_default()),
+        shown(run(&mut Table::fresh(), &script).as_bytes())
     )
 }
 
-/// Takes runs of parts out, long ones first, as long as the rest still differs.
+/// Lines, with bytes that are no plain text escaped.
+fn shown(text: &[u8]) -> String {
+    text.split_inclusive(|&b| b == b'\n').map(|line| format!("    {}\n", line.strip_suffix(b"\n").unwrap_or(line).escape_ascii())).collect()
+}
+
+/// Takes runs of parts out, long ones first, as long as the rest still differs; and again until nothing more can go.
 fn shrink<'a>(mut parts: Vec<&'a [u8]>, differs: impl Fn(&[&'a [u8]]) -> bool) -> Vec<&'a [u8]> {
-    let mut size = parts.len() / 2;
-    while size > 0 {
-        let mut at = 0;
-        while at + size <= parts.len() {
-            let rest: Vec<&[u8]> = parts[..at].iter().chain(&parts[at + size..]).copied().collect();
-            if differs(&rest) {
-                parts = rest;
-            } else {
-                at += size;
-            }
+    loop {
+        let before = parts.len();
+        let mut size = before.div_ceil(2);
+        while size > 0 {
+            parts = without_runs(parts, size, &differs);
+            size /= 2;
         }
-        size /= 2;
+        if parts.len() == before {
+            return parts;
+        }
+    }
+}
+
+/// Takes runs of a size out.
+fn without_runs<'a>(mut parts: Vec<&'a [u8]>, size: usize, differs: impl Fn(&[&'a [u8]]) -> bool) -> Vec<&'a [u8]> {
+    let mut at = 0;
+    while at + size <= parts.len() {
+        let rest: Vec<&[u8]> = parts[..at].iter().chain(&parts[at + size..]).copied().collect();
+        if differs(&rest) {
+            parts = rest;
+        } else {
+            at += size;
+        }
     }
     parts
 }

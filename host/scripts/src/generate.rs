@@ -15,17 +15,19 @@ pub struct Kind {
     keep: usize,
     /// one line in so many is a bad one, or a bad caller's (0: none)
     bad: usize,
+    /// every other caller is one of the deepest
+    deep: bool,
 }
 
 pub const KINDS: [Kind; 8] = [
-    Kind { name: "any calls", weights: [14, 7, 6, 8, 14, 2, 6, 12, 5, 5, 10, 6], keep: 0, bad: 20 },
-    Kind { name: "near 64 processes", weights: [30, 6, 3, 5, 8, 1, 6, 12, 3, 3, 4, 3], keep: 58, bad: 40 },
-    Kind { name: "deep", weights: [6, 24, 10, 12, 8, 1, 5, 10, 4, 6, 2, 1], keep: 6, bad: 0 },
-    Kind { name: "setns and unshare", weights: [18, 5, 22, 24, 8, 1, 6, 10, 3, 4, 1, 1], keep: 4, bad: 0 },
-    Kind { name: "kill -1", weights: [24, 8, 3, 4, 4, 14, 2, 14, 2, 2, 12, 6], keep: 0, bad: 0 },
-    Kind { name: "signals", weights: [8, 3, 1, 2, 34, 4, 2, 8, 3, 1, 22, 16], keep: 3, bad: 0 },
-    Kind { name: "orphans", weights: [26, 8, 4, 8, 6, 1, 20, 16, 2, 12, 1, 1], keep: 0, bad: 0 },
-    Kind { name: "malformed lines", weights: [14, 7, 6, 8, 14, 2, 6, 12, 5, 5, 10, 6], keep: 0, bad: 2 },
+    Kind { name: "any calls", weights: [14, 7, 6, 8, 14, 2, 6, 12, 5, 5, 10, 6], keep: 0, bad: 20, deep: false },
+    Kind { name: "near 64 processes", weights: [30, 6, 3, 5, 8, 1, 6, 12, 3, 3, 4, 3], keep: 58, bad: 40, deep: false },
+    Kind { name: "deep", weights: [6, 24, 10, 12, 8, 1, 5, 10, 4, 6, 2, 1], keep: 6, bad: 0, deep: true },
+    Kind { name: "setns and unshare", weights: [18, 5, 22, 24, 8, 1, 6, 10, 3, 4, 1, 1], keep: 4, bad: 0, deep: false },
+    Kind { name: "kill -1", weights: [24, 8, 3, 4, 4, 14, 2, 14, 2, 2, 12, 6], keep: 0, bad: 0, deep: false },
+    Kind { name: "signals", weights: [8, 3, 1, 2, 34, 4, 2, 8, 3, 1, 22, 16], keep: 3, bad: 0, deep: false },
+    Kind { name: "orphans", weights: [26, 8, 4, 8, 6, 1, 20, 16, 2, 12, 1, 1], keep: 0, bad: 0, deep: false },
+    Kind { name: "malformed lines", weights: [14, 7, 6, 8, 14, 2, 6, 12, 5, 5, 10, 6], keep: 0, bad: 2, deep: false },
 ];
 
 const BAD_LINES: [&str; 32] = [
@@ -82,6 +84,10 @@ fn good_line(kind: &Kind, t: &Table, random: &mut Random) -> String {
         return format!("{} getpid", random.below(64));
     }
     let mut caller = random.pick(&running);
+    if kind.deep && random.one_in(2) {
+        let level = |&i: &u8| t.namespaces[t.processes[i as usize].own as usize].level;
+        caller = running.iter().copied().max_by_key(level).unwrap_or(caller);
+    }
     let few = t.each_process().count() < kind.keep;
     let total: usize = kind.weights.iter().sum();
     let mut draw = random.below(total);
