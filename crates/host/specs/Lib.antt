@@ -1,1 +1,3 @@
+-- What a host is told.
+pub mod Run
 pub mod Verdict

@@ -1,121 +1,164 @@
-//! Tables damaged in one field each: the proved check and the reference must agree on each.
+//! The kinds of damage that a table is given.
 
-use crate::generate::{script, KINDS};
-use crate::random::Random;
-use reference::script::run;
-use reference::sound::is_sound;
-use reference::table::{End, Life, Namespace, Process, State, Table, LEVELS, NAMESPACES, PROCESSES};
+use reference::image::{NAMESPACES_AT, NAMESPACE_WORDS, PROCESS_WORDS};
+use reference::table::{End, Life, Namespace, State, Table, LEVELS, NAMESPACES, PROCESSES};
+use scripts::random::Random;
 
-/// Words of an image: 16 for each process, then 5 for each namespace.
-const PROCESS_WORDS: usize = 16;
-const NAMESPACES_AT: usize = PROCESSES * PROCESS_WORDS;
-const NAMESPACE_WORDS: usize = 5;
-pub const IMAGE_WORDS: usize = NAMESPACES_AT + NAMESPACES * NAMESPACE_WORDS;
+/// Damages a table, or leaves it where the table has nothing of the kind.
+type Damage = fn(&mut Table, &mut Random);
+
+/// The fields of both kinds of record, a word each.
+pub const FIELDS: [&str; PROCESS_WORDS + NAMESPACE_WORDS] = [
+    "process: own namespace",
+    "process: children's namespace",
+    "process: parent",
+    "process: state",
+    "process: how it ended",
+    "process: handled signals",
+    "process: pending signals",
+    "process: mark",
+    "process: number at level 0",
+    "process: number at level 1",
+    "process: number at level 2",
+    "process: number at level 3",
+    "process: number at level 4",
+    "process: number at level 5",
+    "process: number at level 6",
+    "process: number at level 7",
+    "namespace: parent",
+    "namespace: level",
+    "namespace: last number",
+    "namespace: condition",
+    "namespace: init",
+];
+
+/// Damage that takes more than one field at random.
+pub const SPECIAL: [(&str, Damage); 9] = [
+    ("a slot out of range", out_of_range),
+    ("a circle of parents", circle_of_parents),
+    ("a circle of namespaces", circle_of_namespaces),
+    ("a number that two share", shared_number),
+    ("a second holder of an unborn namespace", second_holder),
+    ("a second number 1", second_first),
+    ("another init", another_init),
+    ("a namespace that nobody holds", unheld_namespace),
+    ("an ended parent", ended_parent),
+];
 
 /// Values that a damaged field takes: slots in and out of range, levels, numbers at their bounds, sets of signals.
 const VALUES: [u32; 24] = [
     0, 1, 2, 3, 5, 7, 8, 9, 19, 31, 32, 33, 63, 64, 65, 254, 255, 256, 299, 300, 32_767, 32_768, 65_535, 0xffff_ffff,
 ];
 
-fn words(t: &Table) -> Vec<u32> {
-    let mut words = Vec::with_capacity(IMAGE_WORDS);
-    for p in &t.processes {
-        let (kind, value) = match p.state {
-            State::Running => (0, 0),
-            State::Stopped => (1, 0),
-            State::Ended(End::Exited(k)) => (2, k),
-            State::Ended(End::Signaled(s)) => (3, s),
-        };
-        words.extend([p.own, p.children, p.parent, kind, value].map(u32::from));
-        words.extend([p.handled, p.pending, p.unshared.into()]);
-        words.extend(p.pids.map(u32::from));
-    }
-    for n in &t.namespaces {
-        let (kind, init) = match n.life {
-            Life::Unborn => (0, 0),
-            Life::Alive(init) => (1, init),
-            Life::Dead => (2, 0),
-        };
-        words.extend([n.parent.into(), n.level.into(), n.last.into(), kind, u32::from(init)]);
-    }
-    words
-}
-
-fn table(words: &[u32]) -> Table {
-    let mut t = Table::fresh();
-    for (p, w) in t.processes.iter_mut().zip(words.chunks(PROCESS_WORDS)) {
-        let state = match (w[3] as u8, w[4] as u8) {
-            (0, _) => State::Running,
-            (1, _) => State::Stopped,
-            (2, k) => State::Ended(End::Exited(k)),
-            (_, s) => State::Ended(End::Signaled(s)),
-        };
-        let mut pids = [0; LEVELS];
-        for (pid, w) in pids.iter_mut().zip(&w[8..]) {
-            *pid = *w as u16;
-        }
-        *p = Process {
-            own: w[0] as u8,
-            children: w[1] as u8,
-            parent: w[2] as u8,
-            state,
-            handled: w[5],
-            pending: w[6],
-            unshared: w[7] as u8 != 0,
-            pids,
-        };
-    }
-    for (n, w) in t.namespaces.iter_mut().zip(words[NAMESPACES_AT..].chunks(NAMESPACE_WORDS)) {
-        let life = match w[3] as u8 {
-            0 => Life::Unborn,
-            1 => Life::Alive(w[4] as u8),
-            _ => Life::Dead,
-        };
-        *n = Namespace { parent: w[0] as u8, level: w[1] as u8, last: w[2] as u16, life };
-    }
-    t
-}
-
-/// A word changed: to a value at some bound, to another record's value of the same field, or by one.
-fn damage(words: &mut [u32], random: &mut Random) {
-    let at = random.below(IMAGE_WORDS);
-    let (first, size, records) = if at < NAMESPACES_AT {
-        (at % PROCESS_WORDS, PROCESS_WORDS, PROCESSES)
-    } else {
-        (NAMESPACES_AT + (at - NAMESPACES_AT) % NAMESPACE_WORDS, NAMESPACE_WORDS, NAMESPACES)
+/// A field of some record changed: to a value at some bound, to another record's value of the field, or by one. Mostly
+/// the record is one in use.
+pub fn field(words: &mut [u32], field: usize, t: &Table, random: &mut Random) {
+    let (start, size, records) = match field.checked_sub(PROCESS_WORDS) {
+        None => (field, PROCESS_WORDS, PROCESSES),
+        Some(field) => (NAMESPACES_AT + field, NAMESPACE_WORDS, NAMESPACES),
     };
+    let used: Vec<u8> = if size == PROCESS_WORDS { processes(t) } else { namespaces(t) };
+    let record = if random.one_in(5) { random.below(records) } else { random.pick(&used) as usize };
+    let at = start + size * record;
     words[at] = match random.below(4) {
         0 => random.pick(&VALUES),
-        1 => words[first + size * random.below(records)],
+        1 => words[start + size * random.below(records)],
         2 => words[at].wrapping_add(1),
         _ => words[at].wrapping_sub(1),
     };
 }
 
-/// Holds a check of words against the reference on sound tables and on tables damaged in one field each. Gives how many
-/// tables were held, and how many of them are sound; or the words on which the two differ.
-pub fn hold(check: impl Fn(&[u32]) -> bool) -> Result<(usize, usize), Vec<u32>> {
-    let mut random = Random::from_seed(7);
-    let (mut held, mut sound) = (0, 0);
-    for (k, kind) in KINDS.iter().enumerate() {
-        for seed in 0..24 {
-            let mut t = Table::fresh();
-            run(&mut t, &script(kind, 1000 + 100 * k as u64 + seed, 30 + 12 * seed as usize));
-            let whole = words(&t);
-            assert_eq!(table(&whole), t, "words say the whole table");
-            for _ in 0..400 {
-                let mut damaged = whole.clone();
-                if !random.one_in(20) {
-                    damage(&mut damaged, &mut random);
-                }
-                let verdict = is_sound(&table(&damaged));
-                if check(&damaged) != verdict {
-                    return Err(damaged);
-                }
-                held += 1;
-                sound += usize::from(verdict);
-            }
-        }
+fn processes(t: &Table) -> Vec<u8> {
+    t.each_process().map(|(i, _)| i).collect()
+}
+
+fn namespaces(t: &Table) -> Vec<u8> {
+    t.each_namespace().map(|(n, _)| n).collect()
+}
+
+/// One of some slots, if there is any.
+fn one_of(slots: Vec<u8>, random: &mut Random) -> Option<usize> {
+    (!slots.is_empty()).then(|| random.pick(&slots).into())
+}
+
+fn out_of_range(t: &mut Table, random: &mut Random) {
+    let i = random.pick(&processes(t)) as usize;
+    let n = random.pick(&namespaces(t)) as usize;
+    let no_process = random.between(PROCESSES as i32, 254) as u8;
+    let no_namespace = random.between(NAMESPACES as i32, 254) as u8;
+    match random.below(5) {
+        0 => t.processes[i].own = no_namespace,
+        1 => t.processes[i].children = no_namespace,
+        2 => t.processes[i].parent = no_process,
+        3 => t.namespaces[n].parent = no_namespace,
+        _ => t.namespaces[n].life = Life::Alive(no_process),
     }
-    Ok((held, sound))
+}
+
+/// One to four processes become each other's parents in a circle.
+fn circle_of_parents(t: &mut Table, random: &mut Random) {
+    let members = some_of(&processes(t)[1..], random);
+    for (k, &i) in members.iter().enumerate() {
+        t.processes[i as usize].parent = members[(k + 1) % members.len()];
+    }
+}
+
+fn circle_of_namespaces(t: &mut Table, random: &mut Random) {
+    let members = some_of(&namespaces(t)[1..], random);
+    for (k, &n) in members.iter().enumerate() {
+        t.namespaces[n as usize].parent = members[(k + 1) % members.len()];
+    }
+}
+
+/// At most four of some slots, in any order.
+fn some_of(slots: &[u8], random: &mut Random) -> Vec<u8> {
+    let mut left = slots.to_vec();
+    let count = (1 + random.below(4)).min(left.len());
+    (0..count).map(|_| left.swap_remove(random.below(left.len()))).collect()
+}
+
+/// A process gets the number that another has in a namespace that sees both.
+fn shared_number(t: &mut Table, random: &mut Random) {
+    let n = random.pick(&namespaces(t));
+    let level = t.namespaces[n as usize].level as usize;
+    let seen: Vec<u8> = t.each_process().filter(|(_, p)| t.below(p.own, n)).map(|(i, _)| i).collect();
+    let (Some(i), Some(j)) = (one_of(seen.clone(), random), one_of(seen, random)) else { return };
+    t.processes[i].pids[level] = t.processes[j].pids[level];
+}
+
+fn second_holder(t: &mut Table, random: &mut Random) {
+    let unborn = t.each_namespace().filter(|(_, s)| s.life == Life::Unborn).map(|(n, _)| n).collect();
+    let Some(n) = one_of(unborn, random) else { return };
+    let i = random.pick(&processes(t));
+    t.processes[i as usize].children = n as u8;
+}
+
+/// A process gets number 1 in its own namespace, beside the init.
+fn second_first(t: &mut Table, random: &mut Random) {
+    let i = random.pick(&processes(t)) as usize;
+    let level = t.namespaces[t.processes[i].own as usize].level;
+    t.processes[i].pids[level as usize] = 1;
+}
+
+fn another_init(t: &mut Table, random: &mut Random) {
+    let n = random.pick(&namespaces(t)) as usize;
+    t.namespaces[n].life = Life::Alive(random.pick(&processes(t)));
+}
+
+/// A dead namespace, right in its place, in a free slot.
+fn unheld_namespace(t: &mut Table, random: &mut Random) {
+    let free = (1..NAMESPACES as u8).filter(|&n| t.namespace(n).is_none()).collect();
+    let above = t.each_namespace().filter(|(_, s)| (s.level as usize) < LEVELS - 1).map(|(n, _)| n).collect();
+    let (Some(n), Some(parent)) = (one_of(free, random), one_of(above, random)) else { return };
+    let level = t.namespaces[parent].level + 1;
+    t.namespaces[n] = Namespace { parent: parent as u8, level, last: random.below(400) as u16, life: Life::Dead };
+}
+
+/// A process with children has ended, as an ended one should look.
+fn ended_parent(t: &mut Table, random: &mut Random) {
+    let parents = t.each_process().filter(|(i, _)| *i != 0).map(|(_, p)| p.parent).filter(|&i| i != 0).collect();
+    let Some(i) = one_of(parents, random) else { return };
+    if !matches!(t.processes[i].state, State::Ended(_)) {
+        t.processes[i].end(End::Signaled(9));
+    }
 }

@@ -1,6 +1,6 @@
 //! The ten calls, with their refusals in document 01's order.
 
-use crate::sound::is_sound;
+use crate::sound::{is_sound, Check};
 use crate::table::{End, Life, Namespace, Process, State, Table, LEVELS, MAX_PID, NAMESPACES, PROCESSES};
 
 #[derive(Clone, Copy, PartialEq, Eq, Debug)]
@@ -61,7 +61,12 @@ fn default_of(signal: u8) -> Default {
 impl Table {
     /// One call by the process at a slot.
     pub fn step(&mut self, caller: u8, call: Call) -> Result<Answer, Refusal> {
-        if !is_sound(self) {
+        self.step_after(is_sound, caller, call)
+    }
+
+    /// The same, with the check of the table that is given.
+    pub fn step_after(&mut self, check: Check, caller: u8, call: Call) -> Result<Answer, Refusal> {
+        if !check(self) {
             return Err(UNSOUND);
         }
         match self.process(caller) {

@@ -1,6 +1,7 @@
 //! The script: a line for each call, a line for each answer.
 
 use crate::calls::{Answer, Call, Refusal};
+use crate::sound::{is_sound, Check};
 use crate::table::{End, Table};
 
 const LONGEST: usize = 64;
@@ -51,8 +52,13 @@ pub fn answer_text(answer: Result<Answer, Refusal>) -> String {
 
 /// What one line gives, and does to the table.
 pub fn run_line(table: &mut Table, line: &[u8]) -> String {
+    run_line_after(is_sound, table, line)
+}
+
+/// The same, with the check of the table that is given.
+pub fn run_line_after(check: Check, table: &mut Table, line: &[u8]) -> String {
     match parse(line) {
-        Some((slot, call)) => answer_text(table.step(slot, call)),
+        Some((slot, call)) => answer_text(table.step_after(check, slot, call)),
         None => "?".to_string(),
     }
 }

@@ -15,16 +15,19 @@ pub struct Kind {
     keep: usize,
     /// one line in so many is a bad one, or a bad caller's (0: none)
     bad: usize,
+    /// every other caller is one of the deepest
+    deep: bool,
 }
 
-pub const KINDS: [Kind; 7] = [
-    Kind { name: "any calls", weights: [14, 7, 6, 8, 14, 2, 6, 12, 5, 5, 10, 6], keep: 0, bad: 20 },
-    Kind { name: "near 64 processes", weights: [30, 6, 3, 5, 8, 1, 6, 12, 3, 3, 4, 3], keep: 58, bad: 40 },
-    Kind { name: "deep", weights: [6, 24, 10, 12, 8, 1, 5, 10, 4, 6, 2, 1], keep: 6, bad: 0 },
-    Kind { name: "setns and unshare", weights: [18, 5, 22, 24, 8, 1, 6, 10, 3, 4, 1, 1], keep: 4, bad: 0 },
-    Kind { name: "kill -1", weights: [24, 8, 3, 4, 4, 14, 2, 14, 2, 2, 12, 6], keep: 0, bad: 0 },
-    Kind { name: "signals", weights: [8, 3, 1, 2, 34, 4, 2, 8, 3, 1, 22, 16], keep: 3, bad: 0 },
-    Kind { name: "orphans", weights: [26, 8, 4, 8, 6, 1, 20, 16, 2, 12, 1, 1], keep: 0, bad: 0 },
+pub const KINDS: [Kind; 8] = [
+    Kind { name: "any calls", weights: [14, 7, 6, 8, 14, 2, 6, 12, 5, 5, 10, 6], keep: 0, bad: 20, deep: false },
+    Kind { name: "near 64 processes", weights: [30, 6, 3, 5, 8, 1, 6, 12, 3, 3, 4, 3], keep: 58, bad: 40, deep: false },
+    Kind { name: "deep", weights: [6, 24, 10, 12, 8, 1, 5, 10, 4, 6, 2, 1], keep: 6, bad: 0, deep: true },
+    Kind { name: "setns and unshare", weights: [18, 5, 22, 24, 8, 1, 6, 10, 3, 4, 1, 1], keep: 4, bad: 0, deep: false },
+    Kind { name: "kill -1", weights: [24, 8, 3, 4, 4, 14, 2, 14, 2, 2, 12, 6], keep: 0, bad: 0, deep: false },
+    Kind { name: "signals", weights: [8, 3, 1, 2, 34, 4, 2, 8, 3, 1, 22, 16], keep: 3, bad: 0, deep: false },
+    Kind { name: "orphans", weights: [26, 8, 4, 8, 6, 1, 20, 16, 2, 12, 1, 1], keep: 0, bad: 0, deep: false },
+    Kind { name: "malformed lines", weights: [14, 7, 6, 8, 14, 2, 6, 12, 5, 5, 10, 6], keep: 0, bad: 2, deep: false },
 ];
 
 const BAD_LINES: [&str; 32] = [
@@ -40,7 +43,9 @@ pub fn script(kind: &Kind, seed: u64, lines: usize) -> Vec<u8> {
     let mut table = Table::fresh();
     let mut script = Vec::new();
     for _ in 0..lines {
-        let line = if kind.bad != 0 && random.one_in(kind.bad) { bad_line(&mut random) } else { good_line(kind, &table, &mut random) };
+        let good = good_line(kind, &table, &mut random);
+        let bad = kind.bad != 0 && random.one_in(kind.bad);
+        let line = if bad { bad_line(&good, &mut random) } else { good };
         run_line(&mut table, line.as_bytes());
         script.extend_from_slice(line.as_bytes());
         script.push(b'\n');
@@ -48,11 +53,28 @@ pub fn script(kind: &Kind, seed: u64, lines: usize) -> Vec<u8> {
     script
 }
 
-fn bad_line(random: &mut Random) -> String {
-    match random.below(4) {
+/// A line that is no call, or one by a caller that may not call; now and then it is a good one after all.
+fn bad_line(good: &str, random: &mut Random) -> String {
+    match random.below(6) {
         0 => format!("{} getpid", random.below(256)),
         1 => format!("0 getpid{}", " ".repeat(random.below(200))),
+        2 | 3 => spoilt(good, random),
         _ => random.pick(&BAD_LINES).to_string(),
+    }
+}
+
+/// A good line with one fault of form.
+fn spoilt(good: &str, random: &mut Random) -> String {
+    match random.below(9) {
+        0 => good.replacen(' ', "  ", 1),
+        1 => format!("{good} "),
+        2 => format!("0{good}"),
+        3 => format!("+{good}"),
+        4 => good.to_uppercase(),
+        5 => format!("{good} {}", random.below(40)),
+        6 => good.replace(' ', "\t"),
+        7 => format!("{good}{}", random.below(3_000_000_000)),
+        _ => good[..random.below(good.len())].to_string(),
     }
 }
 
@@ -62,6 +84,10 @@ fn good_line(kind: &Kind, t: &Table, random: &mut Random) -> String {
         return format!("{} getpid", random.below(64));
     }
     let mut caller = random.pick(&running);
+    if kind.deep && random.one_in(2) {
+        let level = |&i: &u8| t.namespaces[t.processes[i as usize].own as usize].level;
+        caller = running.iter().copied().max_by_key(level).unwrap_or(caller);
+    }
     let few = t.each_process().count() < kind.keep;
     let total: usize = kind.weights.iter().sum();
     let mut draw = random.below(total);
@@ -118,21 +144,27 @@ fn a_reaper(t: &Table, random: &mut Random) -> Option<u8> {
     (!parents.is_empty() && !random.one_in(4)).then(|| random.pick(&parents))
 }
 
-/// The numbers go round: births and waits until 32,767 is passed, with a few processes that hold numbers in the way.
-pub fn round(seed: u64) -> Vec<u8> {
+/// The numbers of all namespaces from the root to a level go round together: births, ends and waits in the deepest of them
+/// until 32,767 is passed. Some children whose numbers are near 300 stay, so that the search finds those taken.
+pub fn round(level: usize, seed: u64) -> Vec<u8> {
     let mut random = Random::from_seed(seed);
-    let mut script = b"0 clone\n0 clone new\n2 clone\n".to_vec();
+    let mut script: String = (0..level).map(|caller| format!("{caller} clone new\n")).collect();
+    let mut slot = level + 1;
     for turn in 0..33_000 {
-        let line: &[u8] = if turn % 3 == 0 { b"2 clone\n4 exit 3\n2 wait\n" } else { b"0 clone\n4 exit 3\n0 wait\n" };
-        script.extend_from_slice(line);
-        if random.one_in(2000) {
-            script.extend_from_slice(b"1 getpid\n2 getppid\n3 getpid\n");
+        script += &format!("{level} clone\n");
+        if (290..320).contains(&turn) && random.one_in(2) {
+            slot += 1;
+            continue;
+        }
+        script += &format!("{slot} exit {turn}\n{level} wait\n");
+        if random.one_in(500) {
+            script += &format!("{level} kill {} 0\n{} getppid\n", random.between(295, 325), slot - 1);
         }
     }
-    script
+    script.into_bytes()
 }
 
-/// Any bytes: good lines with bytes changed, put in, taken out, and line feeds in odd places; the last one may be missing.
+/// Good lines with bytes changed, put in, taken out, and line feeds in odd places; the last one may be missing.
 pub fn bytes(seed: u64, lines: usize) -> Vec<u8> {
     let mut random = Random::from_seed(seed);
     let mut script = script(&KINDS[0], seed, lines);
@@ -157,3 +189,9 @@ pub fn bytes(seed: u64, lines: usize) -> Vec<u8> {
     script
 }
 
+/// Any bytes: all 256, or those of scripts alone, which make good lines now and then.
+pub fn arbitrary(seed: u64, length: usize) -> Vec<u8> {
+    let mut random = Random::from_seed(seed);
+    let of_scripts = b"0012 \n\n-cloneexitpollwait";
+    (0..length).map(|_| if seed % 2 == 0 { random.below(256) as u8 } else { random.pick(of_scripts) }).collect()
+}

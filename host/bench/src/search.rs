@@ -1,0 +1,60 @@
+//! The search for a number: past 62 taken ones, and where the first candidate is free, in tables that differ in the last
+//! number alone.
+
+use crate::chart::Group;
+use crate::group;
+use crate::timing::{best, nanoseconds};
+use reference::image::words;
+use reference::sound::is_sound;
+use reference::table::{Process, Table, MAX_PID};
+use std::hint::black_box;
+
+/// So many searches in a round.
+const SEARCHES: usize = 50_000;
+
+/// Nanoseconds of a search.
+pub struct Searches {
+    past_taken: f64,
+    first_free: f64,
+}
+
+/// 63 processes: the root init, and 62 that hold the numbers from 300 on.
+fn table(last: u16) -> Vec<u32> {
+    let mut t = Table::fresh();
+    for slot in 1..=62 {
+        let mut pids = [0; 8];
+        pids[0] = 299 + slot as u16;
+        t.processes[slot] = Process { pids, ..Process::EMPTY };
+    }
+    t.namespaces[0].last = last;
+    assert!(is_sound(&t));
+    words(&t)
+}
+
+/// Times the searches. Reading a table from words is taken off; it is timed as in `checks`.
+pub fn run() -> Searches {
+    let search = |words: &[u32]| {
+        assert!((0..SEARCHES).all(|_| lampfunnel::next_pid(black_box(words), 0) == Some(362)));
+    };
+    let (round, next) = (table(MAX_PID), table(361));
+    let mut damaged = next.clone();
+    damaged[2] = 0;
+    let [past_taken, first_free, reading] = best([
+        &mut || search(&round),
+        &mut || search(&next),
+        &mut || assert!((0..SEARCHES).all(|_| lampfunnel::is_sound(black_box(&damaged)) == Some(false))),
+    ])
+    .map(|time| nanoseconds(time, SEARCHES));
+    Searches { past_taken: past_taken - reading, first_free: first_free - reading }
+}
+
+impl Searches {
+    pub fn group(&self) -> Group {
+        let bars = [("past 62 taken numbers", self.past_taken), ("the first candidate is free", self.first_free)];
+        group("Search for a number, 63 processes (less is better)", "ns", &bars)
+    }
+
+    pub fn print_ratio(&self) {
+        println!("ratio: a search past 62 taken numbers takes {:.1} times as long as one whose first candidate is free", self.past_taken / self.first_free);
+    }
+}
