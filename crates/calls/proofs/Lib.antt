@@ -1,10 +1,2 @@
--- What is proved about the calls, beside each function's own proof.
-pub mod Children
-pub mod Clones
-pub mod Fits
-pub mod Callers
-pub mod Kills
-pub mod Naming
-pub mod Signals
+-- What is proved about one call, beside each function's own proof.
 pub mod Steps
-pub mod Waits

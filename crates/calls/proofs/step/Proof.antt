@@ -38,7 +38,7 @@ make-requires : tie.Need-make-requires
 make-requires c κs = search needs
 
 returns-4 : tie.Need-returns-4
-returns-4 c = step-makes (c .before .before .before .before .before .before .before .before .args .t) (c .before .before .before .before .before .before .before .before .args .caller .0) (c .before .before .before .before .before .before .before .before .args .call) _ _ (c .before .before .before .before .before .before .before .is-sound .ensures) _ _ (c .before .before .before .before .before .before .if1 .left) (c .before .before .before .before .before .process .ensures) (c .before .before .before .before .is-taken .ensures) _ (c .before .before .is-running .ensures) (c .before .before .before .if2 .left) (c .before .if3 .left) (c .make .ensures)
+returns-4 c = search step-makes
 
 pub step-spec : {M : Type 1} → statement M
 step-spec =

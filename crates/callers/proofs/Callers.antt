@@ -1,0 +1,88 @@
+-- What the calls read of the caller, of its parent and of its namespace, against the definitions, and how a caller is
+-- changed.
+use Prim.Native.Nat.{ℕ, _<_, _≤_}
+use native.Mathlib.Decide.{decLt}
+use native.Mathlib.Omega.{arith}
+use mathlib.Core.Bool.{true, false, So}
+use mathlib.Core.List.{List, map}
+use mathlib.Core.Path.{_≡_, refl, sym, ap, _∙_}
+use borrow.Author.Tests.{eq-eqb, ne-eqb}
+use denote.Laws.{Is}
+use lib.Dec.{eqb}
+use lib.ListN.{length, getD}
+use mir.Val.{Val}
+use Rattle.callers.proofs.Fits.{facts-of}
+use Rattle.table.proofs.Slots.{put-past, process-within}
+use Rattle.table.proofs.Table as T
+use Rattle.rules.proofs.Laws.Below.{level-deepest}
+use Rattle.rules.proofs.Laws.ReadAt.{read-at}
+use Rattle.rules.proofs.Laws.Tests.{left}
+use Rattle.rules.specs.Answers.{answers}
+use Rattle.rules.specs.Calls.{own-level, getpid, getppid}
+use Rattle.table.specs.Limits.{deepest}
+use Rattle.table.specs.Fresh.{empty-process}
+use Rattle.table.specs.Slots.{process, namespace, pid-at, put}
+use Rattle.rules.specs.Read.{view, pid-seen, pid-in}
+use Rattle.rules.specs.Sound.{sound}
+use Rattle.rules.specs.Step.{runs}
+use Rattle.table.specs.declared.Namespace.{Namespace}
+use Rattle.table.specs.declared.NsSlot.{NsSlot}
+use Rattle.table.specs.declared.Outcome.{Outcome}
+use Rattle.table.specs.declared.Process.{Process}
+use Rattle.table.specs.declared.Table.{Table}
+use Rattle.tree.proofs.Sights.{pid-in-read}
+use Rattle.tree.specs.Tree.{slot-in, level-in, pid-from}
+
+-- p is what the code read at the slot i, and f is the change. Past the last slot the code reads an empty process, and puts
+-- nothing.
+pub put-changed : (t : Table) (i : ℕ) (p : Process) (f : Process → Process) → p ≡ getD (t .processes) i empty-process → put t i (f p) ≡ put t i (f (process t i))
+put-changed t i p f e = go (decLt i long)
+  where
+    -- both laws ask for a length as it stands in a function's facts
+    itself : Process → Process
+    itself q = q
+
+    long : ℕ
+    long = length (map itself (t .processes))
+
+    go : Dec (i < long) → put t i (f p) ≡ put t i (f (process t i))
+    go (yes h) = ap (λ q. put t i (f q)) (process-within itself t long i p refl h e)
+    go (no h) =
+        sym (put-past itself t long i (f p) refl (omega arith)) ∙ put-past itself t long i (f (process t i)) refl (omega arith)
+
+-- p is the process read at the caller's slot c
+module _ (t : Table) (c : ℕ) (p : Process) (e : p ≡ getD (t .processes) c empty-process) where
+  pub own-level-read : (s : Namespace) → s ≡ namespace t (p .own .0) → s .level ≡ own-level (view t) c
+  own-level-read s q = ap (λ u. u .level) q ∙ ap (λ n. namespace t n .level) (read-at t c p e .own)
+
+  -- the number of the process at c in the caller's own namespace, whose level l is
+  pub getpid-read : (l k : ℕ) (r : Outcome) → l ≡ own-level (view t) c → k ≡ pid-at p l → r ≡ answers t k → r ≡ getpid t c
+  unfolding getpid pid-seen
+  getpid-read l k r q h a = a ∙ ap (answers t) (h ∙ read-at t c p e .pid l ∙ ap (view t .pid c) q)
+
+  -- q is the process read at the parent's slot
+  pub getppid-read : (q : Process) (up : List NsSlot) (levels : List ℕ) (k : ℕ) (r : Outcome) → q ≡ getD (t .processes) (p .parent .0) empty-process
+      → slot-in up ≡ view t .up → level-in levels ≡ view t .level → k ≡ pid-from (slot-in up) (level-in levels) (p .own .0) q → r ≡ answers t k → r ≡ getppid t c
+  unfolding getppid
+  getppid-read q up levels k r d u l h a =
+      a
+      ∙ ap (answers t)
+      (h
+      ∙ pid-in-read (view t) up levels (p .own .0) (p .parent .0) q (read-at t (p .parent .0) q d) u l
+      ∙ ap (λ n. pid-in (view t) n (p .parent .0)) (read-at t c p e .own)
+      ∙ ap (pid-in (view t) (view t .own c)) (read-at t c p e .parent))
+
+-- in a sound table no caller's level is past the deepest
+level-low : (t : Table) (c : ℕ) (vs : List Val) → Is T.the-row t vs → So (sound t) → So (runs (view t) c) → own-level (view t) c ≤ deepest
+unfolding runs
+level-low t c vs is s h =
+    let f = facts-of t vs is s in
+    level-deepest (view t) f (view t .own c) (f .members c (left _ _ h) .0 .0)
+
+-- l is the caller's level as `own_level` gives it
+module _ (t : Table) (c l : ℕ) (k : l ≡ own-level (view t) c) where
+  pub too-deep : (vs : List Val) → Is T.the-row t vs → deepest ≤ l → So (sound t) → So (runs (view t) c) → eqb (own-level (view t) c) deepest ≡ true
+  too-deep vs is d s h = eq-eqb (own-level (view t) c) deepest (omega (arith, level-low t c vs is s h))
+
+  pub not-deep : l < deepest → eqb (own-level (view t) c) deepest ≡ false
+  not-deep d = ne-eqb (own-level (view t) c) deepest (λ q. omega arith)

@@ -1,2 +1,0 @@
--- What the contracts of `calls` cite beside the definitions of `table`.
-pub mod Kills

@@ -1,0 +1,2 @@
+-- What is proved about clone, beside each function's own proof.
+pub mod Clones

@@ -1,0 +1,84 @@
+// clone, plain and new: a child is born, if it is not refused, in document 01's order.
+use births::birth;
+use births::new_namespace;
+use callers::own_level;
+use numbers::next_pid;
+use outcomes::refused;
+use table::Answer;
+use table::DEEPEST;
+use table::NAMESPACE_SLOTS;
+use table::Outcome;
+use table::PROCESS_SLOTS;
+use table::ProcSlot;
+use table::Refusal;
+use table::Reply;
+use table::Table;
+use tree::free_namespace_slot;
+use tree::free_slot;
+ghost use mathlib.Core.Bool.{So};
+ghost use mathlib.Core.Path.{_≡_};
+ghost use Rattle.rules.specs.Calls.{born as born-of, clone as clone-of, clone-new as clone-new-of};
+ghost use Rattle.rules.specs.Pids.{free-slot};
+ghost use Rattle.rules.specs.Read.{view};
+ghost use Rattle.rules.specs.Sound.{sound};
+ghost use Rattle.rules.specs.Step.{runs};
+
+// What says that no slot is free, of processes and of namespaces.
+const FULL: u8 = PROCESS_SLOTS as u8;
+
+const NAMESPACES_FULL: u8 = NAMESPACE_SLOTS as u8;
+
+// A child is born: t is the table before, u the one with the child at a slot. The answer is its number in the caller's
+// namespace, and the host is told its slot.
+fn born(t: Table, caller: ProcSlot, slot: ProcSlot, u: Table) -> Outcome
+    ensures { λ r. ⌜ (slot .0 ≡ free-slot (view t) → r ≡ born-of t (caller .0) u) ⌝ }
+{
+    let p = t.process(caller);
+    let own = p.own;
+    let pid = next_pid(t, own);
+    Outcome {
+        reply: Reply {
+            answer: Answer::Number(pid.0),
+            child: slot,
+        },
+        table: u,
+    }
+}
+
+pub fn clone(t: Table, caller: ProcSlot) -> Outcome
+    ensures { λ r. ⌜ r ≡ clone-of t (caller .0) ⌝ }
+{
+    let p = t.process(caller);
+    let n = p.children;
+    let home = t.namespace(n);
+    let dead = home.is_dead();
+    let slot = free_slot(t);
+    if dead {
+        return refused(t, Refusal::Enomem);
+    }
+    if slot.0 == FULL {
+        return refused(t, Refusal::Eagain);
+    }
+    born(t, caller, slot, birth(t, slot, caller, n))
+}
+
+pub fn clone_new(t: Table, caller: ProcSlot) -> Outcome
+    ensures { λ r. ⌜ (So (sound t) → So (runs (view t) (caller .0)) → r ≡ clone-new-of t (caller .0)) ⌝ }
+{
+    let level = own_level(t, caller);
+    let slot = free_slot(t);
+    if DEEPEST <= level {
+        return refused(t, Refusal::Enospc);
+    }
+    if slot.0 == FULL {
+        return refused(t, Refusal::Eagain);
+    }
+    let n = free_namespace_slot(t);
+    if n.0 == NAMESPACES_FULL {
+        return refused(t, Refusal::Eagain);
+    }
+    let p = t.process(caller);
+    let own = p.own;
+    let u = new_namespace(t, n, own, level + 1);
+    born(t, caller, slot, birth(u, slot, caller, n))
+}

@@ -1,0 +1,2 @@
+-- What is proved about handle and poll, beside each function's own proof.
+pub mod Signals

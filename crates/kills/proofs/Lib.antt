@@ -1,0 +1,2 @@
+-- What is proved about kill, beside each function's own proof.
+pub mod Kills

@@ -1,0 +1,2 @@
+-- What the contracts of `kills` cite beside the definitions of `rules`.
+pub mod Kills

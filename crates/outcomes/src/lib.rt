@@ -1,0 +1,42 @@
+// What a call gives back: a refusal, or an answer and the table after it.
+use table::Answer;
+use table::NO_SLOT;
+use table::Outcome;
+use table::ProcSlot;
+use table::Refusal;
+use table::Reply;
+use table::Table;
+ghost use mathlib.Core.Path.{_≡_};
+ghost use Rattle.rules.specs.Answers.{refused as refused-as, granted as granted-as, answers as answers-as};
+
+// A refusal leaves the whole table unchanged and tells the host no slot.
+pub fn refused(t: Table, why: Refusal) -> Outcome
+    ensures { λ r. ⌜ r ≡ refused-as t why ⌝ }
+{
+    Outcome {
+        reply: Reply {
+            answer: Answer::Refused(why),
+            child: ProcSlot(NO_SLOT),
+        },
+        table: t,
+    }
+}
+
+// A call that is granted tells no slot either, but where a child is born.
+pub fn granted(t: Table, answer: Answer) -> Outcome
+    ensures { λ r. ⌜ r ≡ granted-as t answer ⌝ }
+{
+    Outcome {
+        reply: Reply {
+            answer: answer,
+            child: ProcSlot(NO_SLOT),
+        },
+        table: t,
+    }
+}
+
+pub fn answers(t: Table, k: u16) -> Outcome
+    ensures { λ r. ⌜ r ≡ answers-as t k ⌝ }
+{
+    granted(t, Answer::Number(k))
+}

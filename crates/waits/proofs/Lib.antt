@@ -1,0 +1,2 @@
+-- What is proved about exit and wait, beside each function's own proof.
+pub mod Waits

@@ -1,0 +1,38 @@
+-- `exit` ends the caller, who lives, so the end is the definition's.
+use borrow.Author.Needs.{needs}
+use Rattle.waits.proofs.Waits.{exit-busy, exit-ends}
+use Rattle.waits.proofs.exit.Statement.{statement}
+use Rattle.waits.proofs.exit.Tie as tie
+
+refused-requires : tie.Need-refused-requires
+refused-requires c κs = search needs
+
+returns : tie.Need-returns
+returns c = λ s q. search exit-busy
+
+exit-status-requires : tie.Need-exit-status-requires
+exit-status-requires c κs = search needs
+
+end-process-requires : tie.Need-end-process-requires
+end-process-requires c κs = search needs
+
+free-unheld-requires : tie.Need-free-unheld-requires
+free-unheld-requires c κs = search needs
+
+answers-requires : tie.Need-answers-requires
+answers-requires c κs = search needs
+
+returns-2 : tie.Need-returns-2
+returns-2 c = λ s h. search exit-ends
+
+pub exit-spec : {M : Type 1} → statement M
+exit-spec =
+    tie.close
+    (tie.spec
+    refused-requires
+    returns
+    exit-status-requires
+    end-process-requires
+    free-unheld-requires
+    answers-requires
+    returns-2)
