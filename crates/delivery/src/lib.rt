@@ -103,6 +103,7 @@ pub fn action_on(p: Process, init: bool, from: NsSlot, s: u8) -> Action
 
 // ---- the target afterwards
 
+// It is stopped, and keeps the rest.
 fn stopped(p: Process) -> Process
     ensures { λ r. ⌜ r ≡ with-state p Stopped ⌝ }
 {
@@ -114,6 +115,7 @@ fn stopped(p: Process) -> Process
     }
 }
 
+// The signal waits for a poll.
 fn with_pending(mut p: Process, s: u8) -> Process
     requires { ⌜ s < signals ⌝ }
     ensures { λ r. ⌜ r ≡ as-pending p s ⌝ }

@@ -94,6 +94,7 @@ fn dies_with(n: NsSlot, m: NsSlot, s: Namespace) -> bool
     s.is_unborn()
 }
 
+// What is left of the namespace s at slot m once n is dead.
 fn once_dead(n: NsSlot, m: NsSlot, s: Namespace) -> Namespace
     ensures { λ r. ⌜ r ≡ once-dead (n .0) (m .0) s ⌝ }
 {
@@ -106,6 +107,7 @@ fn once_dead(n: NsSlot, m: NsSlot, s: Namespace) -> Namespace
     s
 }
 
+// The namespace n is dead, and what dies with it.
 fn mark_dead(t: Table, n: NsSlot) -> Table
     ensures { λ r. ⌜ r ≡ marked-dead t (n .0) ⌝ }
 {
@@ -366,6 +368,7 @@ fn is_kept(
     false
 }
 
+// Whether nothing stands at a namespace slot.
 fn is_blank(s: Namespace) -> bool
     ensures { λ r. ⌜ r ≡ is-blank s ⌝ }
 {

@@ -85,6 +85,7 @@ fn living_ok(up: [NsSlot; NAMESPACE_SLOTS], p: Process, home: Namespace, inner: 
     holds_rightly(p, inner)
 }
 
+// An ended process keeps little; a living one is held to its namespaces.
 fn state_ok(up: [NsSlot; NAMESPACE_SLOTS], p: Process, home: Namespace, inner: Namespace) -> bool
     ensures { λ r. ⌜ r ≡ state-ok (slot-in up) (process-row p) (namespace-row (p .own .0) home) (namespace-row (p .children .0) inner) ⌝ }
 {
@@ -122,6 +123,7 @@ fn kept_ok(end: End) -> bool
     }
 }
 
+// Whether a state is one that can stand; of an ended process, whether its end is.
 fn end_ok(state: State) -> bool
     ensures { λ r. ⌜ r ≡ kept-end state ⌝ }
 {
@@ -145,6 +147,7 @@ fn pid_ok(pid: Pid, l: usize, level: u8) -> bool
     pid.0 <= GREATEST_PID
 }
 
+// Whether each number of a process may stand at its level, where its own namespace has this level.
 fn pids_ok(p: Process, level: u8) -> bool
     ensures { λ r. ⌜ r ≡ pids-ok (pid-at p) level ⌝ }
 {
@@ -159,6 +162,7 @@ fn pids_ok(p: Process, level: u8) -> bool
     true
 }
 
+// All that a process is held to beside its parent: home is its own namespace, inner the one for its children.
 fn member_ok(up: [NsSlot; NAMESPACE_SLOTS], p: Process, home: Namespace, inner: Namespace) -> bool
     ensures { λ r. ⌜ r ≡ member-ok (slot-in up) (process-row p) (namespace-row (p .own .0) home) (namespace-row (p .children .0) inner) ⌝ }
 {
@@ -195,6 +199,7 @@ fn first_ok(p: Process, home: Namespace, parent: Process) -> bool
     true
 }
 
+// A parent has not ended, and its own namespace is the child's or above it.
 fn parent_ok(up: [NsSlot; NAMESPACE_SLOTS], p: Process, home: Namespace, parent: Process) -> bool
     ensures { λ r. ⌜ r ≡ parent-ok (slot-in up) (process-row p) (namespace-row (p .own .0) home) (process-row parent) ⌝ }
 {
@@ -212,6 +217,7 @@ fn parent_ok(up: [NsSlot; NAMESPACE_SLOTS], p: Process, home: Namespace, parent:
     first_ok(p, home, parent)
 }
 
+// Whether a process has no number at any level.
 fn no_pids(p: Process) -> bool
     ensures { λ r. ⌜ r ≡ all level-count (λ l. eqb (pid-at p l) 0) ⌝ }
 {
@@ -306,6 +312,7 @@ fn unborn_ok(s: Namespace) -> bool
     true
 }
 
+// A namespace by its condition. A dead one is held to nothing here.
 fn life_ok(n: NsSlot, s: Namespace, init: Process) -> bool
     ensures { λ r. ⌜ r ≡ life-ok (n .0) (namespace-row (n .0) s) (process-row init) ⌝ }
 {
@@ -352,6 +359,7 @@ fn place_ok(n: NsSlot, s: Namespace, above: Namespace) -> bool
     dead_ok(s, above)
 }
 
+// Whether an empty namespace slot is all zero.
 fn is_blank_namespace(n: NsSlot, s: Namespace) -> bool
     ensures { λ r. ⌜ r ≡ blank-namespace (namespace-row (n .0) s) ⌝ }
 {
@@ -383,6 +391,7 @@ fn filled_ok(n: NsSlot, s: Namespace, above: Namespace, init: Process) -> bool
     place_ok(n, s, above)
 }
 
+// Taken and held go together.
 fn both_or_neither(a: bool, b: bool) -> bool
     ensures { λ r. ⌜ r ≡ agree a b ⌝ }
 {
@@ -407,6 +416,7 @@ fn namespace_ok(n: NsSlot, held: bool, s: Namespace, above: Namespace, init: Pro
 
 // ---- which namespaces something holds
 
+// One mark more. Past the last slot there is none to put.
 fn mark(mut marks: [bool; NAMESPACE_SLOTS], n: NsSlot) -> [bool; NAMESPACE_SLOTS]
     ensures { λ r. ⌜ r ≡ set marks (n .0) true ⌝ }
 {
@@ -515,6 +525,7 @@ fn reaches_root(parents: [ProcSlot; PROCESS_SLOTS], slot: usize) -> bool
     true
 }
 
+// An empty slot reaches slot 0 too.
 fn all_reach_root(parents: [ProcSlot; PROCESS_SLOTS]) -> bool
     ensures { λ r. ⌜ r ≡ reach-ok (process-in parents) ⌝ }
 {
@@ -638,6 +649,7 @@ fn pid_key(tops: [NsSlot; NAMESPACE_SLOTS], level: u8, p: Process) -> u32
     top.0 as u32 * PID_VALUES + pid.0 as u32
 }
 
+// The keys of all processes at a level.
 fn pid_keys(t: Table, tops: [NsSlot; NAMESPACE_SLOTS], level: u8) -> [u32; PROCESS_SLOTS]
     ensures { λ r. ⌜ key-in r ≡ (λ i. pid-key (slot-in tops) level (process-at (view t) i)) ⌝ }
 {
@@ -651,6 +663,7 @@ fn pid_keys(t: Table, tops: [NsSlot; NAMESPACE_SLOTS], level: u8) -> [u32; PROCE
     keys
 }
 
+// The unborn namespaces that processes hold, each of which has one holder.
 fn unborn_keys(t: Table) -> [u32; PROCESS_SLOTS]
     ensures { λ r. ⌜ key-in r ≡ unborn-keys (view t) ⌝ }
 {
@@ -672,7 +685,7 @@ fn unborn_keys(t: Table) -> [u32; PROCESS_SLOTS]
 
 // ---- all of it
 
-// The root init and the root namespace.
+// The root init, in slot 0.
 fn root_process_ok(p: Process, n: Namespace) -> bool
     ensures { λ r. ⌜ r ≡ root-process-ok (process-row p) (namespace-row 0 n) ⌝ }
 {
@@ -696,6 +709,7 @@ fn root_process_ok(p: Process, n: Namespace) -> bool
     p.parent.0 == NO_SLOT
 }
 
+// The root namespace, in slot 0.
 fn root_namespace_ok(n: Namespace) -> bool
     ensures { λ r. ⌜ r ≡ root-namespace-ok (namespace-row 0 n) ⌝ }
 {
@@ -708,6 +722,7 @@ fn root_namespace_ok(n: Namespace) -> bool
     n.parent.0 == NO_SLOT
 }
 
+// Both.
 fn root_ok(t: Table) -> bool
     ensures { λ r. ⌜ r ≡ root-process (view t) and root-namespace (view t) ⌝ }
 {
@@ -719,6 +734,7 @@ fn root_ok(t: Table) -> bool
     root_namespace_ok(n)
 }
 
+// Each process slot, with the records that its process names.
 fn processes_ok(t: Table) -> bool
     ensures { λ r. ⌜ r ≡ processes-ok (view t) ⌝ }
 {
@@ -753,6 +769,7 @@ fn processes_ok(t: Table) -> bool
     true
 }
 
+// Each namespace slot, with the records that its namespace names.
 fn namespaces_ok(t: Table) -> bool
     ensures { λ r. ⌜ r ≡ namespaces-ok (view t) ⌝ }
 {
