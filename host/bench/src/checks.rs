@@ -6,7 +6,7 @@
 use crate::chart::Group;
 use crate::group;
 use crate::programs::Speeds;
-use crate::timing::{best, nanoseconds};
+use crate::timing::{best, nanoseconds, SHORT_ROUNDS};
 use reference::image::words;
 use reference::script::run_line;
 use reference::table::Table;
@@ -18,7 +18,7 @@ use std::hint::black_box;
 const EVERY: usize = 500;
 
 /// So many checks in a round. Each table is checked several times in a row, since a recorder has its table at hand.
-const CHECKS: usize = 20_000;
+const CHECKS: usize = 4_000;
 
 /// The tables that the script's lines meet.
 pub struct Tables {
@@ -86,12 +86,15 @@ fn time(tables: &[Table]) -> (Times, f64) {
         assert!(images.iter().all(agrees));
     };
     let rust = |check: fn(&Table) -> bool| assert!(tables.iter().all(|t| (0..each).all(|_| check(black_box(t)))));
-    let [whole, reading, quick, plain] = best([
-        &mut || proved(&images, true),
-        &mut || proved(&damaged, false),
-        &mut || rust(quick::is_sound),
-        &mut || rust(sound::is_sound),
-    ])
+    let [whole, reading, quick, plain] = best(
+        SHORT_ROUNDS,
+        [
+            &mut || proved(&images, true),
+            &mut || proved(&damaged, false),
+            &mut || rust(quick::is_sound),
+            &mut || rust(sound::is_sound),
+        ],
+    )
     .map(|time| nanoseconds(time, each * tables.len()));
     (Times { proved: whole - reading, quick, plain }, reading)
 }

@@ -2,7 +2,7 @@
 
 use crate::chart::Group;
 use crate::group;
-use crate::timing::{best, nanoseconds};
+use crate::timing::{best, nanoseconds, LONG_ROUNDS};
 use scripts::kept::LINES;
 use std::fs::{self, File};
 use std::io;
@@ -51,12 +51,15 @@ pub fn run(script: &[u8]) -> io::Result<Speeds> {
     ];
     hold(&programs, &input, &lampfunnel::run(script))?;
     let play = |program: &Program| program.run(&input).expect("it ran before");
-    let [recorder, quick, plain, library] = best([
-        &mut || play(&programs[0]),
-        &mut || play(&programs[1]),
-        &mut || play(&programs[2]),
-        &mut || drop(lampfunnel::run(script)),
-    ]);
+    let [recorder, quick, plain, library] = best(
+        LONG_ROUNDS,
+        [
+            &mut || play(&programs[0]),
+            &mut || play(&programs[1]),
+            &mut || play(&programs[2]),
+            &mut || drop(lampfunnel::run(script)),
+        ],
+    );
     Ok(Speeds { recorder, quick, plain, library })
 }
 

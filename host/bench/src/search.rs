@@ -3,14 +3,14 @@
 
 use crate::chart::Group;
 use crate::group;
-use crate::timing::{best, nanoseconds};
+use crate::timing::{best, nanoseconds, SHORT_ROUNDS};
 use reference::image::words;
 use reference::sound::is_sound;
 use reference::table::{Process, Table, MAX_PID};
 use std::hint::black_box;
 
 /// So many searches in a round.
-const SEARCHES: usize = 50_000;
+const SEARCHES: usize = 20_000;
 
 /// Nanoseconds of a search.
 pub struct Searches {
@@ -39,11 +39,14 @@ pub fn run() -> Searches {
     let (round, next) = (table(MAX_PID), table(361));
     let mut damaged = next.clone();
     damaged[2] = 0;
-    let [past_taken, first_free, reading] = best([
-        &mut || search(&round),
-        &mut || search(&next),
-        &mut || assert!((0..SEARCHES).all(|_| lampfunnel::is_sound(black_box(&damaged)) == Some(false))),
-    ])
+    let [past_taken, first_free, reading] = best(
+        SHORT_ROUNDS,
+        [
+            &mut || search(&round),
+            &mut || search(&next),
+            &mut || assert!((0..SEARCHES).all(|_| lampfunnel::is_sound(black_box(&damaged)) == Some(false))),
+        ],
+    )
     .map(|time| nanoseconds(time, SEARCHES));
     Searches { past_taken: past_taken - reading, first_free: first_free - reading }
 }

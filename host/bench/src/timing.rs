@@ -2,8 +2,9 @@
 
 use std::time::Duration;
 
-/// So many rounds.
-pub const ROUNDS: usize = 5;
+/// So many rounds of runs of about a second, and of runs of a few hundredths of one.
+pub const LONG_ROUNDS: usize = 7;
+pub const SHORT_ROUNDS: usize = 40;
 
 /// C's `struct timeval`, and the start of its `struct rusage`.
 #[repr(C)]
@@ -36,9 +37,9 @@ fn processor_time() -> Duration {
 }
 
 /// The least processor time of each run over all rounds.
-pub fn best<const N: usize>(mut runs: [&mut dyn FnMut(); N]) -> [Duration; N] {
+pub fn best<const N: usize>(rounds: usize, mut runs: [&mut dyn FnMut(); N]) -> [Duration; N] {
     let mut least = [Duration::MAX; N];
-    for _ in 0..ROUNDS {
+    for _ in 0..rounds {
         for (run, least) in runs.iter_mut().zip(&mut least) {
             let start = processor_time();
             run();
