@@ -5,7 +5,8 @@
  *
  * For all of them: a pointer is not null, also where its length is 0, and is aligned for its type; an array has at
  * least as many elements as its length says. Nothing is read or written beyond that, nothing is kept after the call,
- * and nothing is allocated. Each may be called from several threads at once.
+ * and nothing is allocated. Each may be called from several threads at once. lampfunnel_run took 138 kB of stack where
+ * the end of a namespace took seven levels down: give a thread 256 kB or more.
  */
 #ifndef LAMPFUNNEL_H
 #define LAMPFUNNEL_H
