@@ -1,11 +1,12 @@
 /*
- * Lampfunnel: the table of processes and PID namespaces, as Linux has them. The functions are written in Rattle and proved
- * (crates/host/src/lib.rt states what each answers, for all inputs). `rt staticlib host` writes the library,
+ * Lampfunnel: the table of processes and PID namespaces, as Linux has them. The functions are written in Rattle and
+ * proved (crates/host/src/lib.rt states what each answers, for all inputs). `rt staticlib host` writes the library,
  * target/staticlib/libhost.a, for x86-64 Linux.
  *
- * For all of them: a pointer is not null, also where its length is 0, and is aligned for its type; an array has at least as
- * many elements as its length says. Nothing is read or written beyond that, nothing is kept after the call, and nothing is
- * allocated. Each may be called from several threads at once.
+ * For all of them: a pointer is not null, also where its length is 0, and is aligned for its type; an array has at
+ * least as many elements as its length says. Nothing is read or written beyond that, nothing is kept after the call,
+ * and nothing is allocated. Each may be called from several threads at once. lampfunnel_run took 138 kB of stack where
+ * the end of a namespace took seven levels down: give a thread 256 kB or more.
  */
 #ifndef LAMPFUNNEL_H
 #define LAMPFUNNEL_H
@@ -27,21 +28,22 @@ extern "C" {
 #define LAMPFUNNEL_TABLE_WORDS ((size_t)1184)
 
 /*
- * Runs a whole script from the fresh table, the root init alone at slot 0. Each line gives one line of answer; the script's
- * last line feed may be missing. The answers are written to the start of `out`, and the result is how many bytes they are;
- * the bytes after them stay as they were.
+ * Runs a whole script from the fresh table, the root init alone at slot 0. Each line gives one line of answer; the
+ * script's last line feed may be missing. The answers are written to the start of `out`, and the result is how many
+ * bytes they are; the bytes after them stay as they were.
  *
- * Where out_len is less than LAMPFUNNEL_ANSWER_BYTES for each line, the result is LAMPFUNNEL_SHORT and `out` stays as it
- * was. `script` and `out` do not overlap.
+ * Where out_len is less than LAMPFUNNEL_ANSWER_BYTES for each line, the result is LAMPFUNNEL_SHORT and `out` stays as
+ * it was. `script` and `out` do not overlap.
  */
 size_t lampfunnel_run(const uint8_t *script, size_t script_len, uint8_t *out, size_t out_len);
 
 /*
  * Whether words are a sound table: 1 or 0; 2 where they are not LAMPFUNNEL_TABLE_WORDS.
  *
- * A process: own and children's namespace, parent, state (0 running, 1 stopped, 2 ended with a number, 3 by a signal), that
- * number or signal, handled and pending signals (bit s for signal s), the mark "has unshared", and eight numbers. A
- * namespace: parent, level, last number, condition (0 unborn, 1 alive, 2 dead), its init. 255 is "none".
+ * A process: own and children's namespace, parent, state (0 running, 1 stopped, 2 ended with a number, 3 by a
+ * signal), that number or signal, handled and pending signals (bit s for signal s), the mark "has unshared", and
+ * eight numbers. A namespace: parent, level, last number, condition (0 unborn, 1 alive, 2 dead), its init. 255 is
+ * "none".
  */
 uint8_t lampfunnel_is_sound(const uint32_t *words, size_t len);
 

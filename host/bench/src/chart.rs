@@ -36,7 +36,8 @@ pub fn svg(caption: &str, groups: &[Group]) -> String {
     let rows: usize = groups.iter().map(|g| g.bars.len() + 2).sum();
     let height = ROW * (rows + 1) + 10;
     let mut text = format!(
-        "<svg xmlns=\"http://www.w3.org/2000/svg\" width=\"{WIDTH}\" height=\"{height}\" font-family=\"sans-serif\" font-size=\"13\">\n\
+        "<svg xmlns=\"http://www.w3.org/2000/svg\" width=\"{WIDTH}\" height=\"{height}\" \
+         font-family=\"sans-serif\" font-size=\"13\">\n\
          <rect width=\"{WIDTH}\" height=\"{height}\" fill=\"#fff\"/>\n"
     );
     let mut y = ROW;

@@ -88,12 +88,9 @@ fn time(tables: &[Table]) -> (Times, f64) {
     let rust = |check: fn(&Table) -> bool| assert!(tables.iter().all(|t| (0..each).all(|_| check(black_box(t)))));
     let [whole, reading, quick, plain] = best(
         SHORT_ROUNDS,
-        [
-            &mut || proved(&images, true),
-            &mut || proved(&damaged, false),
-            &mut || rust(quick::is_sound),
-            &mut || rust(sound::is_sound),
-        ],
+        [&mut || proved(&images, true), &mut || proved(&damaged, false), &mut || rust(quick::is_sound), &mut || {
+            rust(sound::is_sound)
+        }],
     )
     .map(|time| nanoseconds(time, each * tables.len()));
     (Times { proved: whole - reading, quick, plain }, reading)
@@ -121,6 +118,9 @@ impl Checks {
     }
 
     pub fn print_ratio(&self) {
-        println!("ratio: the proved check of a full table takes {:.2} times as long as the same algorithm in Rust", self.full.proved / self.full.quick);
+        println!(
+            "ratio: the proved check of a full table takes {:.2} times as long as the same algorithm in Rust",
+            self.full.proved / self.full.quick
+        );
     }
 }

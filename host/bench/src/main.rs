@@ -40,20 +40,26 @@ fn main() -> io::Result<()> {
 
 fn machine() -> String {
     let text = fs::read_to_string("/proc/cpuinfo").unwrap_or_default();
-    let models: Vec<&str> = text.lines().filter(|l| l.starts_with("model name")).filter_map(|l| l.split(": ").nth(1)).collect();
+    let models: Vec<&str> =
+        text.lines().filter(|l| l.starts_with("model name")).filter_map(|l| l.split(": ").nth(1)).collect();
     format!("{}, {} processors", models.first().unwrap_or(&"unknown"), models.len())
 }
 
 /// Says what the script has, and stops if it is not what the benchmark asks for.
 fn describe(facts: &kept::Facts) {
     println!(
-        "script: {} lines, of which {} fill the table; after these never below {} processes; up to {} namespaces, level {}",
+        "script: {} lines, {} to fill the table, after these never below {} processes; up to {} namespaces, level {}",
         facts.lines, facts.filling, facts.least, facts.most_namespaces, facts.deepest
     );
     let granted: Vec<String> = kept::CALLS.iter().zip(facts.granted).map(|(call, n)| format!("{call} {n}")).collect();
     println!("granted: {}; refused: {}", granted.join(", "), facts.refused);
     assert!(facts.hold(), "the script must never fall below 60 processes and have each call granted a thousand times");
-    println!("checked: {} lines, at least {} processes, each call granted {} times or more", kept::LINES, kept::LEAST_PROCESSES, kept::LEAST_GRANTED);
+    println!(
+        "checked: {} lines, at least {} processes, each call granted {} times or more",
+        kept::LINES,
+        kept::LEAST_PROCESSES,
+        kept::LEAST_GRANTED
+    );
 }
 
 /// Several bars under one heading.

@@ -29,7 +29,11 @@ impl Program {
         let mut command = Command::new(&self.path);
         command.args(self.arguments).stdin(File::open(script)?).stdout(File::create(&self.answers)?);
         let status = command.status().map_err(|e| io::Error::other(format!("{}: {e}", self.path.display())))?;
-        if status.success() { Ok(()) } else { Err(io::Error::other(format!("{} fails", self.path.display()))) }
+        if status.success() {
+            Ok(())
+        } else {
+            Err(io::Error::other(format!("{} fails", self.path.display())))
+        }
     }
 }
 
@@ -53,12 +57,9 @@ pub fn run(script: &[u8]) -> io::Result<Speeds> {
     let play = |program: &Program| program.run(&input).expect("it ran before");
     let [recorder, quick, plain, library] = best(
         LONG_ROUNDS,
-        [
-            &mut || play(&programs[0]),
-            &mut || play(&programs[1]),
-            &mut || play(&programs[2]),
-            &mut || drop(lampfunnel::run(script)),
-        ],
+        [&mut || play(&programs[0]), &mut || play(&programs[1]), &mut || play(&programs[2]), &mut || {
+            drop(lampfunnel::run(script))
+        }],
     );
     Ok(Speeds { recorder, quick, plain, library })
 }
@@ -66,8 +67,15 @@ pub fn run(script: &[u8]) -> io::Result<Speeds> {
 /// `cargo run -p bench` does not build the program of another package by itself.
 fn build_reference(host: &Path) -> io::Result<()> {
     let cargo = std::env::var_os("CARGO").unwrap_or("cargo".into());
-    let status = Command::new(cargo).args(["build", "--release", "--offline", "--quiet", "-p", "reference"]).current_dir(host).status()?;
-    if status.success() { Ok(()) } else { Err(io::Error::other("the reference was not built")) }
+    let status = Command::new(cargo)
+        .args(["build", "--release", "--offline", "--quiet", "-p", "reference"])
+        .current_dir(host)
+        .status()?;
+    if status.success() {
+        Ok(())
+    } else {
+        Err(io::Error::other("the reference was not built"))
+    }
 }
 
 fn hold(programs: &[Program], input: &Path, answers: &[u8]) -> io::Result<()> {
@@ -103,7 +111,7 @@ impl Speeds {
     pub fn print_ratios(&self) {
         let ratio = |other: Duration| self.recorder.as_secs_f64() / other.as_secs_f64();
         println!(
-            "ratio: the recorder takes {:.2} times as long as the reference with the same check, {:.2} times as long as with the plain one",
+            "ratio: the recorder takes {:.2} times as long as the reference with the same check, {:.2} with the plain",
             ratio(self.quick),
             ratio(self.plain)
         );

@@ -1,5 +1,5 @@
-//! The search for a number: past 62 taken ones, and where the first candidate is free, in tables that differ in the last
-//! number alone.
+//! The search for a number: past 62 taken ones, and where the first candidate is free, in tables that differ in the
+//! last number alone.
 
 use crate::chart::Group;
 use crate::group;
@@ -41,11 +41,9 @@ pub fn run() -> Searches {
     damaged[2] = 0;
     let [past_taken, first_free, reading] = best(
         SHORT_ROUNDS,
-        [
-            &mut || search(&round),
-            &mut || search(&next),
-            &mut || assert!((0..SEARCHES).all(|_| lampfunnel::is_sound(black_box(&damaged)) == Some(false))),
-        ],
+        [&mut || search(&round), &mut || search(&next), &mut || {
+            assert!((0..SEARCHES).all(|_| lampfunnel::is_sound(black_box(&damaged)) == Some(false)))
+        }],
     )
     .map(|time| nanoseconds(time, SEARCHES));
     Searches { past_taken: past_taken - reading, first_free: first_free - reading }
@@ -58,6 +56,9 @@ impl Searches {
     }
 
     pub fn print_ratio(&self) {
-        println!("ratio: a search past 62 taken numbers takes {:.1} times as long as one whose first candidate is free", self.past_taken / self.first_free);
+        println!(
+            "ratio: a search past 62 taken numbers takes {:.1} times as long as one whose first candidate is free",
+            self.past_taken / self.first_free
+        );
     }
 }

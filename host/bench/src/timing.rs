@@ -22,8 +22,8 @@ extern "C" {
 const OWN: i32 = 0;
 const ENDED_CHILDREN: i32 = -1;
 
-/// The processor time, not counting waits, that this program and the programs that it ran have taken. On a machine that is
-/// busy with other work it says more than the clock.
+/// The processor time, not counting waits, that this program and the programs that it ran have taken. On a machine that
+/// is busy with other work it says more than the clock.
 fn processor_time() -> Duration {
     let time = |who| {
         let mut usage = Usage::default();

@@ -46,9 +46,8 @@ pub const SPECIAL: [(&str, Damage); 9] = [
 ];
 
 /// Values that a damaged field takes: slots in and out of range, levels, numbers at their bounds, sets of signals.
-const VALUES: [u32; 24] = [
-    0, 1, 2, 3, 5, 7, 8, 9, 19, 31, 32, 33, 63, 64, 65, 254, 255, 256, 299, 300, 32_767, 32_768, 65_535, 0xffff_ffff,
-];
+const VALUES: [u32; 24] =
+    [0, 1, 2, 3, 5, 7, 8, 9, 19, 31, 32, 33, 63, 64, 65, 254, 255, 256, 299, 300, 32_767, 32_768, 65_535, 0xffff_ffff];
 
 /// A field of some record changed: to a value at some bound, to another record's value of the field, or by one. Mostly
 /// the record is one in use.

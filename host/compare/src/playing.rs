@@ -101,8 +101,8 @@ fn play(recorder: &str, script: &[u8]) -> io::Result<Vec<u8>> {
     Ok(output.stdout)
 }
 
-/// A buffer of just enough bytes is written to its answers' end and not a byte further; shorter ones are refused and left
-/// alone.
+/// A buffer of just enough bytes is written to its answers' end and not a byte further; shorter ones are refused and
+/// left alone.
 fn hold_buffers(script: &[u8], answers: &[u8]) -> Result<(), String> {
     let room = lampfunnel::room_for(script);
     let mut memory = vec![GUARD; room + GUARD_BYTES];
@@ -143,7 +143,9 @@ fn difference(who: &str, kind: &str, script: &[u8], answers: impl Fn(&[u8]) -> A
 
 /// Lines, with bytes that are no plain text escaped.
 fn shown(text: &[u8]) -> String {
-    text.split_inclusive(|&b| b == b'\n').map(|line| format!("    {}\n", line.strip_suffix(b"\n").unwrap_or(line).escape_ascii())).collect()
+    text.split_inclusive(|&b| b == b'\n')
+        .map(|line| format!("    {}\n", line.strip_suffix(b"\n").unwrap_or(line).escape_ascii()))
+        .collect()
 }
 
 /// Takes runs of parts out, long ones first, as long as the rest still differs; and again until nothing more can go.

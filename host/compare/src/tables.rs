@@ -112,7 +112,8 @@ fn report(counts: &[Count]) {
 /// The words of each record, first those of processes.
 fn records() -> impl Iterator<Item = std::ops::Range<usize>> {
     let processes = (0..NAMESPACES_AT).step_by(PROCESS_WORDS).map(|at| at..at + PROCESS_WORDS);
-    let namespaces = (NAMESPACES_AT..lampfunnel::TABLE_WORDS).step_by(NAMESPACE_WORDS).map(|at| at..at + NAMESPACE_WORDS);
+    let namespaces =
+        (NAMESPACES_AT..lampfunnel::TABLE_WORDS).step_by(NAMESPACE_WORDS).map(|at| at..at + NAMESPACE_WORDS);
     processes.chain(namespaces)
 }
 

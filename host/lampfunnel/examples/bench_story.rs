@@ -1,6 +1,6 @@
-//! The bench's story. A recorder runs a converter and a judge of grip forces, each in a namespace of its own, and a display
-//! program beside them. The display remembers the number of a helper that is long gone, and signals it. It finds nobody:
-//! the judge, which has that very number in its own namespace, lives, and goes on judging.
+//! The bench's story. A recorder runs a judge of grip forces in a namespace of its own, and display programs in
+//! another. A display program remembers the number of a helper that is long gone, and signals it. It finds nobody: the
+//! judge, which has that very number in its own namespace, lives, and goes on judging.
 //!
 //! `cargo run --release --offline --example bench_story`
 

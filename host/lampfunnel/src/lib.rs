@@ -8,9 +8,9 @@
 //! assert_eq!(answers, b"2\n1\n0\n-3\n");
 //! ```
 //!
-//! The calls are `clone`, `clone new`, `unshare`, `setns N`, `kill N S`, `exit S`, `wait`, `getpid`, `getppid`,
-//! `handle S 0`, `handle S 1` and `poll`, each after the caller's slot. A refusal is a negative number; a line that is no
-//! call gives `?` and does nothing. Every run starts from the fresh table: the root init alone, at slot 0.
+//! The calls are `clone`, `clone new`, `unshare`, `setns N`, `kill N S`, `exit S`, `wait`, `getpid`, `getppid`, `handle
+//! S 0`, `handle S 1` and `poll`, each after the caller's slot. A refusal is a negative number; a line that is no call
+//! gives `?` and does nothing. Every run starts from the fresh table: the root init alone, at slot 0.
 //!
 //! The library allocates nothing, keeps nothing between calls, and does not fail: any bytes have their answers.
 //! To build, run `rt staticlib host` at the top of the repository first.
@@ -55,7 +55,8 @@ impl fmt::Display for ShortBuffer {
 
 impl Error for ShortBuffer {}
 
-/// Bytes that are enough for the answers of a script: [`ANSWER_BYTES`] for each line. The last line feed may be missing.
+/// Bytes that are enough for the answers of a script: [`ANSWER_BYTES`] for each line. The last line feed may be
+/// missing.
 ///
 /// ```
 /// assert_eq!(lampfunnel::room_for(b"0 clone\n0 wait"), 64);
@@ -124,8 +125,8 @@ pub fn is_sound(words: &[u32]) -> Option<bool> {
     }
 }
 
-/// The number that a namespace, named by its slot, would give next in the table of the words; `None` where the words are
-/// not [`TABLE_WORDS`].
+/// The number that a namespace, named by its slot, would give next in the table of the words; `None` where the words
+/// are not [`TABLE_WORDS`].
 ///
 /// ```
 /// use lampfunnel::{next_pid, TABLE_WORDS};

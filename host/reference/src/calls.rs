@@ -244,7 +244,8 @@ impl Table {
         }
     }
 
-    /// The init of a namespace has ended: all in the subtree end by signal 9, and those with a parent inside are removed.
+    /// The init of a namespace has ended: all in the subtree end by signal 9, and those with a parent inside are
+    /// removed.
     fn end_subtree(&mut self, top: u8) {
         let inside: Vec<u8> = self.seen_from(top).map(|(i, _)| i).collect();
         let dead: Vec<u8> = self.each_namespace().map(|(n, _)| n).filter(|&n| self.below(n, top)).collect();
@@ -371,4 +372,3 @@ impl Table {
         }
     }
 }
-

@@ -1,5 +1,5 @@
-//! A table as words, in which a host hands one to the proved library: 16 for each process slot, then 5 for each namespace
-//! slot. Each word gives its field by its low bits, so any words are some table.
+//! A table as words, in which a host hands one to the proved library: 16 for each process slot, then 5 for each
+//! namespace slot. Each word gives its field by its low bits, so any words are some table.
 
 use crate::table::{End, Life, Namespace, Process, State, Table, LEVELS, NAMESPACES, PROCESSES};
 

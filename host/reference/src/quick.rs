@@ -1,5 +1,5 @@
-//! The check of a table by the algorithm of `crates/sound/src/lib.rt`, in ordinary Rust, for the benchmark: each process
-//! once, each namespace once, marks for what is held, and a key for each process and level.
+//! The check of a table by the algorithm of `crates/sound/src/lib.rt`, in ordinary Rust, for the benchmark: each
+//! process once, each namespace once, marks for what is held, and a key for each process and level.
 
 use crate::table::{End, Life, Namespace, Process, State, Table, LEVELS, MAX_PID, NAMESPACES, NONE, PROCESSES};
 
@@ -168,7 +168,11 @@ fn unborn_keys(t: &Table) -> [u32; PROCESSES] {
         let p = &t.processes[i];
         let inner = namespace_at(t, p.children);
         let unborn = p.is_taken() && holds_namespace(p.children, inner) && inner.life == Life::Unborn;
-        if unborn { p.children.into() } else { 0 }
+        if unborn {
+            p.children.into()
+        } else {
+            0
+        }
     })
 }
 

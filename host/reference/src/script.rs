@@ -77,14 +77,32 @@ mod tests {
 
     #[test]
     fn ten_lines_of_document_01() {
-        let script = b"0 clone new\n1 getpid\n1 getppid\n1 clone\n2 kill 1 9\n0 kill 2 9\n0 kill 3 0\n0 wait\n0 wait\n0 clone";
+        let script =
+            b"0 clone new\n1 getpid\n1 getppid\n1 clone\n2 kill 1 9\n0 kill 2 9\n0 kill 3 0\n0 wait\n0 wait\n0 clone";
         let answers = "2\n1\n0\n2\n0\n0\n-3\n2 signal 9\n-10\n4\n";
         assert_eq!(run(&mut Table::fresh(), script), answers);
     }
 
     #[test]
     fn bad_lines() {
-        for line in ["", "0", " 0 wait", "0 wait ", "0  wait", "00 wait", "-0 wait", "+1 wait", "256 wait", "0 kill 1", "0 kill 1 -0", "0 exit 2147483648", "0 handle 15 2", "0 clone  new", "0\twait", "0 wait\r"] {
+        for line in [
+            "",
+            "0",
+            " 0 wait",
+            "0 wait ",
+            "0  wait",
+            "00 wait",
+            "-0 wait",
+            "+1 wait",
+            "256 wait",
+            "0 kill 1",
+            "0 kill 1 -0",
+            "0 exit 2147483648",
+            "0 handle 15 2",
+            "0 clone  new",
+            "0\twait",
+            "0 wait\r",
+        ] {
             assert_eq!(run_line(&mut Table::fresh(), line.as_bytes()), "?", "{line:?}");
         }
     }

@@ -39,9 +39,9 @@ fn namespace_is_sound(t: &Table, n: u8, s: &Namespace) -> bool {
     let life = match s.life {
         Life::Dead => true,
         // Its init belongs to it, isn't ended and has number 1; that nobody else has 1 follows from `numbers_differ`.
-        Life::Alive(init) => t
-            .process(init)
-            .is_some_and(|p| p.own == n && !p.has_ended() && p.pids.get(s.level as usize) == Some(&1)),
+        Life::Alive(init) => {
+            t.process(init).is_some_and(|p| p.own == n && !p.has_ended() && p.pids.get(s.level as usize) == Some(&1))
+        }
         Life::Unborn => unborn_is_sound(t, n, s),
     };
     s.last <= MAX_PID && life && (n == 0 || place_is_sound(t, s))
@@ -66,11 +66,11 @@ fn unborn_is_sound(t: &Table, n: u8, s: &Namespace) -> bool {
 
 fn process_is_sound(t: &Table, i: u8, p: &Process) -> bool {
     let Some(home) = t.namespace(p.own) else { return false };
-    let numbers = p
-        .pids
-        .iter()
-        .enumerate()
-        .all(|(l, &pid)| if l <= home.level as usize { (1..=MAX_PID).contains(&pid) } else { pid == 0 });
+    let numbers =
+        p.pids
+            .iter()
+            .enumerate()
+            .all(|(l, &pid)| if l <= home.level as usize { (1..=MAX_PID).contains(&pid) } else { pid == 0 });
     let signals = p.handled & !CATCHABLE == 0 && p.pending & !p.handled == 0;
     let state = match p.state {
         State::Ended(how) => {

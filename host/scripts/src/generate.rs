@@ -31,10 +31,38 @@ pub const KINDS: [Kind; 8] = [
 ];
 
 const BAD_LINES: [&str; 32] = [
-    "", " ", "0", "0 ", "?", "clone", "0 clone ", " 0 clone", "0  clone", "0 clone  new", "0 clone old", "0 Clone",
-    "256 clone", "00 clone", "-1 clone", "-0 clone", "+1 clone", "0 kill 1", "0 kill 1 2 3", "0 kill +1 2", "0 kill 01 2",
-    "0 kill -0 2", "0 kill 2147483648 0", "0 kill -2147483649 0", "0 handle 15 2", "0 handle 15 01", "0 exit", "0 setns x",
-    "0 wait 1", "0 exit 99999999999999999999", "0\tclone", "0 clone\r",
+    "",
+    " ",
+    "0",
+    "0 ",
+    "?",
+    "clone",
+    "0 clone ",
+    " 0 clone",
+    "0  clone",
+    "0 clone  new",
+    "0 clone old",
+    "0 Clone",
+    "256 clone",
+    "00 clone",
+    "-1 clone",
+    "-0 clone",
+    "+1 clone",
+    "0 kill 1",
+    "0 kill 1 2 3",
+    "0 kill +1 2",
+    "0 kill 01 2",
+    "0 kill -0 2",
+    "0 kill 2147483648 0",
+    "0 kill -2147483649 0",
+    "0 handle 15 2",
+    "0 handle 15 01",
+    "0 exit",
+    "0 setns x",
+    "0 wait 1",
+    "0 exit 99999999999999999999",
+    "0\tclone",
+    "0 clone\r",
 ];
 
 /// A script of a kind from the fresh table.
@@ -78,20 +106,31 @@ fn spoilt(good: &str, random: &mut Random) -> String {
     }
 }
 
-fn good_line(kind: &Kind, t: &Table, random: &mut Random) -> String {
+/// A running process; of a deep kind every other time one of the deepest.
+fn a_caller(kind: &Kind, t: &Table, random: &mut Random) -> Option<u8> {
     let running: Vec<u8> = t.each_process().filter(|(_, p)| p.state == State::Running).map(|(i, _)| i).collect();
-    if running.is_empty() {
-        return format!("{} getpid", random.below(64));
-    }
-    let mut caller = random.pick(&running);
+    let level = |&i: &u8| t.namespaces[t.processes[i as usize].own as usize].level;
     if kind.deep && random.one_in(2) {
-        let level = |&i: &u8| t.namespaces[t.processes[i as usize].own as usize].level;
-        caller = running.iter().copied().max_by_key(level).unwrap_or(caller);
+        return running.into_iter().max_by_key(level);
     }
+    (!running.is_empty()).then(|| random.pick(&running))
+}
+
+/// A place, each as often as its weight says.
+fn drawn(weights: &[usize], random: &mut Random) -> usize {
+    let draw = random.below(weights.iter().sum());
+    let mut sum = 0;
+    let passed = |weight: &&usize| {
+        sum += **weight;
+        sum <= draw
+    };
+    weights.iter().take_while(passed).count()
+}
+
+fn good_line(kind: &Kind, t: &Table, random: &mut Random) -> String {
+    let Some(mut caller) = a_caller(kind, t, random) else { return format!("{} getpid", random.below(64)) };
     let few = t.each_process().count() < kind.keep;
-    let total: usize = kind.weights.iter().sum();
-    let mut draw = random.below(total);
-    let call = kind.weights.iter().position(|&w| if draw < w { true } else { draw -= w; false }).unwrap_or(0);
+    let call = drawn(&kind.weights, random);
     match call {
         0 => format!("{caller} clone"),
         1 => format!("{caller} clone new"),
@@ -144,8 +183,8 @@ fn a_reaper(t: &Table, random: &mut Random) -> Option<u8> {
     (!parents.is_empty() && !random.one_in(4)).then(|| random.pick(&parents))
 }
 
-/// The numbers of all namespaces from the root to a level go round together: births, ends and waits in the deepest of them
-/// until 32,767 is passed. Some children whose numbers are near 300 stay, so that the search finds those taken.
+/// The numbers of all namespaces from the root to a level go round together: births, ends and waits in the deepest of
+/// them until 32,767 is passed. Some children whose numbers are near 300 stay, so that the search finds those taken.
 pub fn round(level: usize, seed: u64) -> Vec<u8> {
     let mut random = Random::from_seed(seed);
     let mut script: String = (0..level).map(|caller| format!("{caller} clone new\n")).collect();

@@ -1,5 +1,5 @@
-//! The benchmark's script: its generator and its seed are what is kept, and `facts` tells, from the text alone, what a script
-//! made of them has.
+//! The benchmark's script: its generator and its seed are what is kept, and `facts` tells, from the text alone, what a
+//! script made of them has.
 
 use crate::random::Random;
 use reference::calls::Call;
@@ -87,7 +87,11 @@ fn reaper(t: &Table, caller: u8, random: &mut Random) -> u8 {
         .filter(|(_, p)| p.has_ended() && t.processes[p.parent as usize].state == State::Running)
         .map(|(_, p)| p.parent)
         .collect();
-    if parents.is_empty() { caller } else { random.pick(&parents) }
+    if parents.is_empty() {
+        caller
+    } else {
+        random.pick(&parents)
+    }
 }
 
 /// A number that the caller sees, or now and then any small one.
