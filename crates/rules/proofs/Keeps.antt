@@ -15,20 +15,21 @@ pub mod Puts
 pub mod Deliver
 pub mod Premises
 pub mod Changes
--- what follows
+-- what follows for each call
+pub mod Refusals
+pub mod Lines
 pub mod Fixed
+pub mod Numbers
+pub mod Fresh
+pub mod Child
+pub mod Clones
 pub mod Finds
+pub mod Exact
+pub mod MemberExact
+-- what a kill makes of each process
 pub mod Trace
 pub mod PutTrace
 pub mod MemberTrace
 pub mod InitTrace
-pub mod Signals
-pub mod Refusals
-pub mod Numbers
-pub mod Lines
-pub mod Fresh
-pub mod Exact
-pub mod MemberExact
-pub mod Child
-pub mod Clones
+pub mod Deliveries
 pub mod Killed

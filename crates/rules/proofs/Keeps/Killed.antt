@@ -16,7 +16,7 @@ use Rattle.rules.proofs.Keeps.Finds.{targets-meant, freed-leaves}
 use Rattle.rules.proofs.Keeps.Fixed.{processes-fall}
 use Rattle.rules.proofs.Keeps.Freed.{freed-keeps}
 use Rattle.rules.proofs.Keeps.Premises as K
-use Rattle.rules.proofs.Keeps.Signals.{all-trace, all-rest, all-hit}
+use Rattle.rules.proofs.Keeps.Deliveries.{all-trace, all-rest, all-hit}
 use Rattle.rules.proofs.Keeps.Trace.{Fell, InFell, Rest, Trace, trace-refl, shrinks, heir-cases, heir-new, heir-old}
 use Rattle.rules.proofs.Laws.Below.{below-trans}
 use Rattle.rules.proofs.Laws.Facts.{Facts, Taken, Lives, Below, Seen, Other, lives-taken, not-ended, seen-taken, seen-below, is-seen, facts, Sane, sane}

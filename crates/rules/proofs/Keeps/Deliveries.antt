@@ -35,6 +35,7 @@ use Rattle.table.specs.declared.Table.{Table}
 -- ---- an init is ended by 9 from above alone
 
 module _ (v : View) (i from s : ℕ) where
+  -- what an action that ends an init needs
   abbrev pub ByNine : Action → Type 0
   ByNine Nothing = Unit {0}
   ByNine Resume = Unit {0}
