@@ -1,27 +1,26 @@
-//! The bench's story. A recorder runs a judge of grip forces in a namespace of its own, and display programs in
-//! another. A display program remembers the number of a helper that is long gone, and signals it. It finds nobody: the
-//! judge, which has that very number in its own namespace, lives, and goes on judging.
+//! The bench's story. A recorder has a converter and a judge of grip forces in one namespace, and the display programs in
+//! another. A display remembers the number of a helper that is long gone, and signals it. It finds nobody: the converter,
+//! which has that very number in its own namespace, lives, and the judge goes on judging.
 //!
 //! `cargo run --release --offline --example bench_story`
 
 /// A line of the script, and what it means.
-const STORY: [(&str, &str); 16] = [
-    ("0 clone new", "the recorder starts the judge's namespace; its init is at slot 1"),
-    ("1 clone", "the judge itself, at slot 2, has number 2 there"),
-    ("0 clone new", "the display programs get a namespace too; its init is at slot 3"),
-    ("3 clone", "a helper of the display, at slot 4, has number 2 there"),
-    ("4 exit 0", "the helper ends"),
-    ("3 wait", "and is collected: number 2 is nobody's now"),
-    ("3 kill 2 9", "the display signals the old number: nobody is found"),
-    ("3 kill -1 9", "it tries everyone it sees: there is nobody"),
-    ("2 getpid", "the judge lives, and is still number 2 in its namespace"),
-    ("3 clone", "a new helper of the display gets number 3, not the old 2"),
-    ("4 kill 1 9", "the helper turns on its own init, which shrugs it off"),
-    ("0 kill 5 15", "the recorder signals the number that the old helper had at the root: nobody"),
-    ("0 kill 6 15", "the new one has 6 there, and ends"),
-    ("3 wait", "the display collects it"),
-    ("1 kill 2 0", "the judge's init still finds the judge"),
-    ("0 kill 4 9", "the recorder takes the whole display namespace down"),
+const STORY: [(&str, &str); 15] = [
+    ("0 clone new", "the recorder starts a namespace for its judging; its init is at slot 1"),
+    ("1 clone", "the converter, at slot 2"),
+    ("1 clone", "the judge of grip forces, at slot 3"),
+    ("0 clone new", "the display programs get a namespace too; its init is at slot 4"),
+    ("4 clone", "a helper of the display, at slot 5, has number 2 there"),
+    ("5 exit 0", "it ends"),
+    ("4 wait", "and is removed: in that namespace number 2 is nobody's now"),
+    ("4 kill 2 9", "the display signals the old number, which is also the converter's in the other namespace: it finds nobody"),
+    ("4 kill -1 9", "nor does it find anyone by signalling all that it sees"),
+    ("2 getpid", "the converter lives"),
+    ("3 getpid", "and so does the judge"),
+    ("4 clone", "a new helper gets the next number, and not the old one"),
+    ("0 kill 5 9", "the recorder ends the display's init, and with it all of that namespace"),
+    ("5 getpid", "the helper is gone"),
+    ("1 kill 3 0", "the judge is still found"),
 ];
 
 fn main() {
