@@ -8,7 +8,7 @@ use mathlib.Core.Path.{_≡_, refl, sym, _∙_, ap, ap₂, fun-ext, subst}
 use borrow.Author.Tests.{eq-eqb, eqb-true, ne-eqb, le-leb}
 use lib.Dec.{eqb, leb}
 use Rattle.rules.proofs.Keeps.Birth.{with-born, next-fresh}
-use Rattle.rules.proofs.Laws.Below.{above-is, below-level}
+use Rattle.rules.proofs.Laws.Below.{below-level}
 use Rattle.rules.proofs.Laws.Facts.{Facts, seen-taken, seen-below}
 use Rattle.rules.proofs.Laws.Slots.{init-own, below-same, below-up-by, up-by-level, up-by-end, init-taken, no-heirs, own-not-unborn}
 use Rattle.rules.proofs.Laws.Tests.{no-so, isnt-so, left, right, both, any-elim, any-intro, isnt, bool-ext}
