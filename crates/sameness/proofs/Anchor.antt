@@ -45,7 +45,7 @@ name-pid (dead-at l k) = k
 name-pid unborn-name = 0
 name-pid no-name = 0
 
-module _ (v : View) (f : Facts v) where
+module _ {v : View} (f : Facts v) where
   pub root-alive : So (alive v 0)
   root-alive = f .root-alive
 

@@ -39,21 +39,21 @@ use Rattle.table.specs.declared.Call.the-variants.{Clone, CloneNew, Unshare}
 use Rattle.table.specs.declared.Table.{Table}
 
 -- a birth in a namespace that is not of S
-module _ (v : View) (f : Facts v) (c n k : ℕ) (new : taken v k ≡ false) (tn : So (namespace-taken v n)) (s : ℕ) (o : below v n s ≡ false) where
+module _ {v : View} (f : Facts v) (c n k : ℕ) (new : taken v k ≡ false) (tn : So (namespace-taken v n)) (s : ℕ) (o : below v n s ≡ false) where
   abbrev v′ : View
   v′ = with-born v c n k
 
   apart : (i : ℕ) → So (seen v s i) → i ≡ k → ⊥
-  apart i h = old v f c n k new tn i (seen-taken v s i h)
+  apart i h = old f c n k new tn i (seen-taken v s i h)
 
   seen-either : (i : ℕ) → Dec (i ≡ k) → seen v′ s i ≡ seen v s i
   unfolding seen
-  seen-either i (no e) = seen-grown v f c n k new tn s i e
-  seen-either i (yes e) = bool-ext _ _ (λ h. absurd (no-so o (sym (below-grown v f c n k new tn n s) ∙ subst (λ x. So (below v′ x s)) (rw (eq-eqb i k e)) (right _ _ h)))) (λ h. absurd (old v f c n k new tn i (left _ _ h) e))
+  seen-either i (no e) = seen-grown f c n k new tn s i e
+  seen-either i (yes e) = bool-ext _ _ (λ h. absurd (no-so o (sym (below-grown f c n k new tn n s) ∙ subst (λ x. So (below v′ x s)) (rw (eq-eqb i k e)) (right _ _ h)))) (λ h. absurd (old f c n k new tn i (left _ _ h) e))
 
   life-near : (m : ℕ) → So (near v s m) → (b : Bool) → unborn v m ≡ b → v′ .life m ≡ v .life m
-  life-near m h false e = life-born v f c n k new tn m e
-  life-near m h true e = life-other v f c n k new tn m e (λ q. ⊎-elim (λ b. not-here (subst (λ x. So (below v x s)) (sym q) b)) (λ b. not-here (subst (λ x. So (below v n x)) (sym (bottom v f s m b e ∙ sym q)) (below-refl v n))) (cases _ _ h))
+  life-near m h false e = life-born f c n k new tn m e
+  life-near m h true e = life-other f c n k new tn m e (λ q. ⊎-elim (λ b. not-here (subst (λ x. So (below v x s)) (sym q) b)) (λ b. not-here (subst (λ x. So (below v n x)) (sym (bottom f s m b e ∙ sym q)) (below-refl v n))) (cases _ _ h))
     where
       not-here : So (below v n s) → ⊥
       not-here b = false≢true (sym o ∙ b)
@@ -62,10 +62,10 @@ module _ (v : View) (f : Facts v) (c n k : ℕ) (new : taken v k ≡ false) (tn 
   pub birth-still : Still v v′ s (near v s)
   birth-still =
       record {
-        here = near-here v f s;
-        up-kept = near-up v f s;
-        own-kept = near-own v f s;
-        children-kept = near-children v f s;
+        here = near-here f s;
+        up-kept = near-up f s;
+        own-kept = near-own f s;
+        children-kept = near-children f s;
         ups = λ m h. refl;
         levels = λ m h. refl;
         lives = λ m h. life-near m h (unborn v m) refl;
@@ -84,17 +84,17 @@ module _ (v : View) (f : Facts v) (c n k : ℕ) (new : taken v k ≡ false) (tn 
       not-above : (i : ℕ) → So (seen v s i) → below v n (v .own i) ≡ false
       not-above i h = bool-ext _ _ (λ b. absurd (false≢true (sym o ∙ below-trans v f n (v .own i) s b (seen-below v s i h)))) (λ b. absurd (false≢true b))
 
-module _ (t : Table) (w : Sane t) (c n : ℕ) (tn : So (namespace-taken (view t) n)) (room : free-slot (view t) ≡ process-slots → ⊥) (s : ℕ) (o : below (view t) n s ≡ false) where
+module _ {t : Table} (w : Sane t) (c n : ℕ) (tn : So (namespace-taken (view t) n)) (room : free-slot (view t) ≡ process-slots → ⊥) (s : ℕ) (o : below (view t) n s ≡ false) where
   still : Still (view t) (view (birth t c n)) s (near (view t) s)
   still =
       let (low, free) = free-slot-is (view t) room in
-      subst (λ u. Still (view t) u s (near (view t) s)) (sym (birth-view t (w .shape-of) (w .facts) c n tn low)) (birth-still (view t) (w .facts) c n (free-slot (view t)) (isnt-so free) tn s o)
+      subst (λ u. Still (view t) u s (near (view t) s)) (sym (birth-view t (w .shape-of) (w .facts) c n tn low)) (birth-still (w .facts) c n (free-slot (view t)) (isnt-so free) tn s o)
 
   pub birth-same : Same (view (birth t c n)) (view t) s s
-  birth-same = same-still (view t) (view (birth t c n)) s (near (view t) s) (w .facts) still
+  birth-same = same-still (w .facts) still
 
   pub birth-stands : So (namespace-taken (view t) s) → So (namespace-taken (view (birth t c n)) s)
-  birth-stands h = stands-still (view t) (view (birth t c n)) s (near (view t) s) (w .facts) still h
+  birth-stands h = stands-still (w .facts) still h
 
 -- plain clone
 pub clone-leaves : MadeLeaves Clone
@@ -106,16 +106,16 @@ clone-leaves t s i h hs k a g = go (dead (view t) (view t .children i)) refl (eq
     go false ea true eb g = rw (ea, eb, clone) (as-it-was t s hs)
     go false ea false eb g =
         rw (ea, eb, clone)
-        (stands-leaves t (birth t i n) s h (rw (ea, eb, clone) at g) hs (birth-stands t (sane t h) i n tn (eqb-false _ _ eb) s o hs) (birth-same t (sane t h) i n tn (eqb-false _ _ eb) s o))
+        (stands-leaves h (rw (ea, eb, clone) at g) hs (birth-stands (sane t h) i n tn (eqb-false _ _ eb) s o hs) (birth-same (sane t h) i n tn (eqb-false _ _ eb) s o))
       where
         n : ℕ
         n = view t .children i
 
         tn : So (namespace-taken (view t) n)
-        tn = children-taken (view t) (facts t h) i (runs-lives t i k)
+        tn = children-taken (facts t h) i (runs-lives t i k)
 
         o : below (view t) n s ≡ false
-        o = untouched-made t s i Clone h k a (born t i (birth t i n)) (rw (ea, eb, clone) refl) refl
+        o = untouched-made s i Clone h k a (born t i (birth t i n)) (rw (ea, eb, clone) refl) refl
 
 -- ---- a fresh namespace
 
@@ -129,8 +129,8 @@ clone-new-leaves t s i h hs k a g = go (eqb (own-level (view t) i) deepest) refl
     go false ea true eb g = rw (ea, eb, clone-new) (as-it-was t s hs)
     go false ea false eb g =
         rw (ea, eb, clone-new)
-        (stands-leaves t (birth t₁ i x) s h (rw (ea, eb, clone-new) at g) hs (birth-stands t₁ f₁ i x tx room₁ s o (new-stands t (sane t h) i room s hs))
-        (same-trans (view (birth t₁ i x)) (view t₁) (view t) s s s (birth-same t₁ f₁ i x tx room₁ s o) (new-same t (sane t h) i room s hs)))
+        (stands-leaves h (rw (ea, eb, clone-new) at g) hs (birth-stands f₁ i x tx room₁ s o (new-stands (sane t h) i room s hs))
+        (same-trans (birth-same f₁ i x tx room₁ s o) (new-same (sane t h) i room s hs)))
       where
         x : ℕ
         x = free-namespace-slot (view t)
@@ -148,13 +148,13 @@ clone-new-leaves t s i h hs k a g = go (eqb (own-level (view t) i) deepest) refl
         f₁ = namespace-sane t (sane t h) i li (eqb-false _ _ ea) room
 
         tx : So (namespace-taken (view t₁) x)
-        tx = x-taken t (sane t h) i room
+        tx = x-taken (sane t h) i room
 
         room₁ : free-slot (view t₁) ≡ process-slots → ⊥
         room₁ e = eqb-false _ _ (or-false-left _ _ eb) (sym (same-free t i) ∙ e)
 
         o : below (view t₁) x s ≡ false
-        o = new-outside t (sane t h) i room s hs (lives-taken (view t) i li) f₁ (outsider t s i CloneNew a)
+        o = new-outside (sane t h) i room s hs (lives-taken (view t) i li) f₁ (outsider t s i CloneNew a)
 
 -- ---- unshare by an outsider
 
@@ -169,10 +169,10 @@ unshare-leaves t s i h hs k a g = go (process t i .unshared) refl (eqb (own-leve
     go false em false ea true eb = rw (em, ea, eb, unshare) (as-it-was t s hs)
     go false em false ea false eb =
         rw (em, ea, eb, unshare)
-        (freed-leaves t _ s h (unshare-sane t h i k (eqb-false _ _ ea) room) hs (new-stands t (sane t h) i room s hs)
-        (same-trans _ (view t₁) (view t) s s s
-        (same-still (view t₁) _ s (near (view t₁) s) f₁ (put-still t₁ f₁ i (with-children (process t₁ i) (free-namespace-slot (view t)) true) (record { owns = refl; parents = refl; pids = refl }) s (new-seen t (sane t h) i room s hs i ∙ outsider t s i Unshare a)))
-        (new-same t (sane t h) i room s hs)))
+        (freed-leaves h (unshare-sane t h i k (eqb-false _ _ ea) room) hs (new-stands (sane t h) i room s hs)
+        (same-trans
+        (same-still f₁ (put-still t₁ f₁ i (record { owns = refl; parents = refl; pids = refl }) (new-seen (sane t h) i room s hs i ∙ outsider t s i Unshare a)))
+        (new-same (sane t h) i room s hs)))
       where
         room : free-namespace-slot (view t) ≡ namespace-slots → ⊥
         room = eqb-false _ _ eb

@@ -27,22 +27,22 @@ use Rattle.table.specs.declared.Life.{Life}
 
 -- ---- the next number in two twin namespaces is the same
 
-held-there : (v u : View) (s r : ℕ) (w : Pair v u s r) (n m k : ℕ) → Twins v u s r n m → So (any process-slots (λ i. seen v n i and eqb (pid-seen v n i) k)) → So (any process-slots (λ j. seen u m j and eqb (pid-seen u m j) k))
-held-there v u s r w n m k l h =
+held-there : {v u : View} {s r : ℕ} (w : Pair v u s r) {n m : ℕ} (k : ℕ) → Twins v u s r n m → So (any process-slots (λ i. seen v n i and eqb (pid-seen v n i) k)) → So (any process-slots (λ j. seen u m j and eqb (pid-seen u m j) k))
+held-there {u} {s} {r} w {n} k l h =
     let (i, b, g) = any-elim _ _ h in
-    let (j, p) = twin-there v u s r w i (seen-above v (w .facts-v) n s i (l .below-v) (left _ _ g)) in
+    let (j, p) = twin-there w i (seen-above (w .facts-v) n s i (l .below-v) (left _ _ g)) in
     any-intro _ _ j (w .facts-u .in-range j (seen-taken u r j (p .seen-u)))
-    (both _ _ (sym (seen-twins v u s r w i j n m p l) ∙ left _ _ g) (eq-eqb _ _ (sym (pid-twins v u s r w i j n m p l) ∙ eqb-true _ _ (right _ _ g))))
+    (both _ _ (sym (seen-twins w p l) ∙ left _ _ g) (eq-eqb _ _ (sym (pid-twins w p l) ∙ eqb-true _ _ (right _ _ g))))
 
-module _ (v u : View) (s r : ℕ) (w : Pair v u s r) (n m : ℕ) (l : Twins v u s r n m) where
+module _ {v u : View} {s r : ℕ} (w : Pair v u s r) {n m : ℕ} (l : Twins v u s r n m) where
   pub free-twins : (k : ℕ) → free-pid v n k ≡ free-pid u m k
   unfolding free-pid
-  free-twins k = ap not (bool-ext _ _ (held-there v u s r w n m k l) (held-there u v r s (flip-pair v u s r w) m n k (flip-twins v u s r n m l)))
+  free-twins k = ap not (bool-ext _ _ (held-there w k l) (held-there (flip-pair w) k (flip-twins l)))
 
   -- the last number, from the init's row
   pub last-twins : v .last n ≡ u .last m
   unfolding row is-init
-  last-twins = sym (shows v (w .facts-v) n (l .lives-v)) ∙ ap (λ (q : Row). q .last) (twin-rows v u s r w _ _ (inits-twin v u s r w n m l)) ∙ shows u (w .facts-u) m (l .lives-u)
+  last-twins = sym (shows v (w .facts-v) n (l .lives-v)) ∙ ap (λ (q : Row). q .last) (twin-rows w (inits-twin w l)) ∙ shows u (w .facts-u) m (l .lives-u)
     where
       shows : (x : View) (f : Facts x) (a : ℕ) → So (alive x a) → (if eqb (init x (x .own (init x a))) (init x a) then x .last (x .own (init x a)) else 0) ≡ x .last a
       shows x f a h =
@@ -58,8 +58,8 @@ module _ (v u : View) (s r : ℕ) (w : Pair v u s r) (n m : ℕ) (l : Twins v u 
 -- ---- a birth, on one table: what is read of the others is what it was
 
 -- nothing lies below an unborn namespace but itself
-pub bottom : (v : View) (f : Facts v) (a m : ℕ) → So (below v a m) → So (unborn v m) → a ≡ m
-bottom v f a m b h = go (ℕ-discrete (v .level a) (v .level m))
+pub bottom : {v : View} (f : Facts v) (a m : ℕ) → So (below v a m) → So (unborn v m) → a ≡ m
+bottom {v} f a m b h = go (ℕ-discrete (v .level a) (v .level m))
   where
     go : Dec (v .level a ≡ v .level m) → a ≡ m
     go (yes e) = below-same v f a m b e
@@ -70,7 +70,7 @@ bottom v f a m b h = go (ℕ-discrete (v .level a) (v .level m))
         absurd (no-heirs v f m (up-by (v .up) d a) (v .level m) h (omega (arith, up-by-level v f d a (omega arith))) (sym (up-by-end v f d a) ∙ ap (λ x. up-by (v .up) x a) q ∙ below-up-by v f a m b))
 
 -- a child of c is born at the slot k, which was empty, in the namespace n
-module _ (v : View) (f : Facts v) (c n k : ℕ) (new : taken v k ≡ false) (tn : So (namespace-taken v n)) where
+module _ {v : View} (f : Facts v) (c n k : ℕ) (new : taken v k ≡ false) (tn : So (namespace-taken v n)) where
   abbrev v′ : View
   v′ = with-born v c n k
 
@@ -121,7 +121,7 @@ module _ (v : View) (f : Facts v) (c n k : ℕ) (new : taken v k ≡ false) (tn 
   life-other m h o = ap (λ (b : Bool). if b then (if is-unborn (v .life m) then Alive (record { 0 = k }) else v .life m) else v .life m) not-above
     where
       not-above : below v n m ≡ false
-      not-above = isnt-so (λ b. o (bottom v f n m b h))
+      not-above = isnt-so (λ b. o (bottom f n m b h))
 
   pub life-new : So (unborn v n) → v′ .life n ≡ Alive (record { 0 = k })
   life-new h = ap₂ (λ (a b : Bool). if a then (if b then Alive (record { 0 = k }) else v .life n) else v .life n) (below-refl v n) h
@@ -140,7 +140,7 @@ module _ (v : View) (f : Facts v) (c n k : ℕ) (new : taken v k ≡ false) (tn 
 
   -- a namespace that was born keeps its name, an unborn one keeps it or is born
   pub name-born : (s m : ℕ) → So (namespace-taken v m) → unborn v m ≡ false → name v′ s m ≡ name v s m
-  name-born s m ht h = name-stays v v′ born f stays-born s (λ a k l. pid-in-grown s (init v a) (old _ (init-taken v f a l))) m (ap not h) ht
+  name-born s m ht h = name-stays f stays-born s (λ a k l. pid-in-grown s (init v a) (old _ (init-taken v f a l))) m (ap not h) ht
 
   pub name-other : (s m : ℕ) → So (namespace-taken v m) → So (unborn v m) → (n ≡ m → ⊥) → name v′ s m ≡ unborn-name
   unfolding name name-by
@@ -160,20 +160,20 @@ module _ (v : View) (f : Facts v) (c n k : ℕ) (new : taken v k ≡ false) (tn 
 -- ---- the numbers that two newborns get from S's level down are the same
 
 -- nobody is seen from an unborn namespace
-unborn-unseen : (v : View) (f : Facts v) (n i : ℕ) → So (unborn v n) → So (seen v n i) → ⊥
-unborn-unseen v f n i h k = no-so (own-not-unborn v f i (seen-taken v n i k)) (subst (λ m. So (unborn v m)) (sym (bottom v f (v .own i) n (seen-below v n i k) h)) h)
+unborn-unseen : {v : View} (f : Facts v) (n i : ℕ) → So (unborn v n) → So (seen v n i) → ⊥
+unborn-unseen {v} f n i h k = no-so (own-not-unborn v f i (seen-taken v n i k)) (subst (λ m. So (unborn v m)) (sym (bottom f (v .own i) n (seen-below v n i k) h)) h)
 
-unborn-free : (v : View) (f : Facts v) (n k : ℕ) → So (unborn v n) → So (free-pid v n k)
+unborn-free : {v : View} (f : Facts v) (n k : ℕ) → So (unborn v n) → So (free-pid v n k)
 unfolding free-pid
-unborn-free v f n k h = ap not (bool-ext held false (λ a. let (i, l, g) = any-elim _ _ a in absurd (unborn-unseen v f n i h (left _ _ g))) (λ a. absurd (false≢true a)))
+unborn-free {v} f n k h = ap not (bool-ext held false (λ a. let (i, l, g) = any-elim _ _ a in absurd (unborn-unseen f n i h (left _ _ g))) (λ a. absurd (false≢true a)))
   where
     held : Bool
     held = any process-slots (λ i. seen v n i and eqb (pid-seen v n i) k)
 
-pub next-unborn : (v u : View) (f : Facts v) (g : Facts u) (n m : ℕ) → So (unborn v n) → So (unborn u m) → v .last n ≡ u .last m → next-pid v n ≡ next-pid u m
+pub next-unborn : {v u : View} (f : Facts v) (g : Facts u) (n m : ℕ) → So (unborn v n) → So (unborn u m) → v .last n ≡ u .last m → next-pid v n ≡ next-pid u m
 unfolding next-pid
-next-unborn v u f g n m h k e =
-    ap₂ (λ (x : ℕ → Bool) (a : ℕ). let y = lowest x (greatest-pid - a) (suc a) in let q = lowest x (suc greatest-pid - restart-pid) restart-pid in if leb y greatest-pid then y else q) (fun-ext (λ i. unborn-free v f n i h ∙ sym (unborn-free u g m i k))) e
+next-unborn f g n m h k e =
+    ap₂ (λ (x : ℕ → Bool) (a : ℕ). let y = lowest x (greatest-pid - a) (suc a) in let q = lowest x (suc greatest-pid - restart-pid) restart-pid in if leb y greatest-pid then y else q) (fun-ext (λ i. unborn-free f n i h ∙ sym (unborn-free g m i k))) e
 
 -- where two children are born: in twin namespaces, or in unborn ones below twin namespaces
 pub record Unborns (v u : View) (s r n m : ℕ) : Type 0 where
@@ -188,24 +188,24 @@ abbrev pub Cradles : View → View → ℕ → ℕ → ℕ → ℕ → Type 0
 Cradles v u s r n m = Twins v u s r n m ⊎ Unborns v u s r n m
 
 -- the numbers that two newborns get from S's level down are the same
-pub cradle-next : (v u : View) (s r : ℕ) (w : Pair v u s r) (n m l : ℕ) → Cradles v u s r n m → v .level s ≤ l → l ≤ v .level n → next-pid v (above-at v n l) ≡ next-pid u (above-at u m l)
+pub cradle-next : {v u : View} {s r : ℕ} (w : Pair v u s r) (n m l : ℕ) → Cradles v u s r n m → v .level s ≤ l → l ≤ v .level n → next-pid v (above-at v n l) ≡ next-pid u (above-at u m l)
 unfolding above-at up-by
-cradle-next v u s r w n m l (inl k) a b =
-    next-twins v u s r w (up-by (v .up) (v .level n - l) n) (up-by (u .up) (u .level m - l) m)
-    (subst (λ x. Twins v u s r (up-by (v .up) (v .level n - l) n) (up-by (u .up) (x - l) m)) (twins-level v u s r w n m k) (twins-up-by v u s r w (v .level n - l) n m k (omega arith)))
-cradle-next v u s r w n m l (inr k) a b = go (ℕ-discrete l (v .level n))
+cradle-next {v} {u} {s} {r} w n m l (inl k) a b =
+    next-twins w
+    (subst (λ x. Twins v u s r (up-by (v .up) (v .level n - l) n) (up-by (u .up) (x - l) m)) (twins-level w k) (twins-up-by w (v .level n - l) k (omega arith)))
+cradle-next {v} {u} w n m l (inr k) a b = go (ℕ-discrete l (v .level n))
   where
     levels : v .level n ≡ u .level m
-    levels = omega (arith, k .level-v, k .level-u, twins-level v u s r w (v .up n) (u .up m) (k .ups))
+    levels = omega (arith, k .level-v, k .level-u, twins-level w (k .ups))
 
     go : Dec (l ≡ v .level n) → next-pid v (up-by (v .up) (v .level n - l) n) ≡ next-pid u (up-by (u .up) (u .level m - l) m)
     go (yes e) =
         let x : v .level n - l ≡ 0 = omega arith in
         let y : u .level m - l ≡ 0 = omega (arith, levels) in
-        ap (λ z. next-pid v (up-by (v .up) z n)) x ∙ next-unborn v u (w .facts-v) (w .facts-u) n m (k .unborn-v) (k .unborn-u) (k .lasts) ∙ sym (ap (λ z. next-pid u (up-by (u .up) z m)) y)
+        ap (λ z. next-pid v (up-by (v .up) z n)) x ∙ next-unborn (w .facts-v) (w .facts-u) n m (k .unborn-v) (k .unborn-u) (k .lasts) ∙ sym (ap (λ z. next-pid u (up-by (u .up) z m)) y)
     go (no e) =
         let x : v .level n - l ≡ suc (v .level (v .up n) - l) = omega (arith, k .level-v) in
         let y : u .level m - l ≡ suc (v .level (v .up n) - l) = omega (arith, levels, k .level-v) in
         ap (λ z. next-pid v (up-by (v .up) z n)) x
-        ∙ next-twins v u s r w _ _ (twins-up-by v u s r w (v .level (v .up n) - l) (v .up n) (u .up m) (k .ups) (omega arith))
+        ∙ next-twins w (twins-up-by w (v .level (v .up n) - l) (k .ups) (omega arith))
         ∙ sym (ap (λ z. next-pid u (up-by (u .up) z m)) y)

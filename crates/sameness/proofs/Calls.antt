@@ -36,7 +36,7 @@ use Rattle.table.specs.declared.Refusal.the-variants.{Einval}
 use Rattle.table.specs.declared.Refusal.{Refusal}
 use Rattle.table.specs.declared.Table.{Table}
 
-module _ (t u : Table) (s r i j : ℕ) (w : Ready t u s r i j) where
+module _ {t u : Table} {s r i j : ℕ} (w : Ready t u s r i j) where
   pub taken-s : So (namespace-taken (view t) s)
   taken-s = alive-taken (view t) (facts t (w .sound-t)) s (w .pair .alive-v)
 
@@ -44,7 +44,7 @@ module _ (t u : Table) (s r i j : ℕ) (w : Ready t u s r i j) where
   taken-r = alive-taken (view u) (facts u (w .sound-u)) r (w .pair .alive-u)
 
   pub before : sheet (view t) s ≡ sheet (view u) r
-  before = sheets-of-same (view t) (view u) s r (facts t (w .sound-t)) (facts u (w .sound-u)) taken-s taken-r (w .pair .same)
+  before = sheets-of-same (facts t (w .sound-t)) (facts u (w .sound-u)) taken-s taken-r (w .pair .same)
 
   -- both refuse alike
   pub both-refuse : (e : Refusal) → Kept t u s r (refused t e) (refused u e)
@@ -56,9 +56,9 @@ module _ (t u : Table) (s r i j : ℕ) (w : Ready t u s r i j) where
   both-tell k l e = inr (ap Number e, rw (follow-self t (at s) taken-s, follow-self u (at r) taken-r) before)
 
   -- both answer alike, and the new tables are the same to S
-  pub both-change : (t′ u′ : Table) (k l : ℕ) → k ≡ l → SoundTable t′ → SoundTable u′ → So (namespace-taken (view t′) s) → So (namespace-taken (view u′) r) → Same (view t′) (view u′) s r → Kept t u s r (answers t′ k) (answers u′ l)
+  pub both-change : {t′ u′ : Table} (k l : ℕ) → k ≡ l → SoundTable t′ → SoundTable u′ → So (namespace-taken (view t′) s) → So (namespace-taken (view u′) r) → Same (view t′) (view u′) s r → Kept t u s r (answers t′ k) (answers u′ l)
   unfolding answers granted
-  both-change t′ u′ k l e h g hs hr q = inr (ap Number e, stands-same t u t′ u′ s r h g hs hr q)
+  both-change k l e h g hs hr q = inr (ap Number e, stands-same t u h g hs hr q)
 
   -- the callers' own namespaces live
   pub own-lives : So (alive (view t) (view t .own i))
@@ -66,20 +66,20 @@ module _ (t u : Table) (s r i j : ℕ) (w : Ready t u s r i j) where
 
   -- the callers' own namespaces correspond
   pub owns-twins : Twins (view t) (view u) s r (view t .own i) (view u .own j)
-  owns-twins = owns (view t) (view u) s r (w .pair) i j (w .twin) own-lives
+  owns-twins = owns (w .pair) (w .twin) own-lives
 
   pub the-rows : row (view t) s i ≡ row (view u) r j
-  the-rows = twin-rows (view t) (view u) s r (w .pair) i j (w .twin)
+  the-rows = twin-rows (w .pair) (w .twin)
 
 -- ---- getpid, getppid
 
 pub getpid-same : MadeSame Getpid
 unfolding MadeSame make getpid
-getpid-same t u s r i j w h g = both-tell t u s r i j w _ _ (pid-twins (view t) (view u) s r (w .pair) i j _ _ (w .twin) (owns-twins t u s r i j w))
+getpid-same t u s r i j w h g = both-tell w _ _ (pid-twins (w .pair) (w .twin) (owns-twins w))
 
 pub getppid-same : MadeSame Getppid
 unfolding MadeSame make getppid
-getppid-same t u s r i j w h g = both-tell t u s r i j w _ _ (parent-pid (view t) (view u) s r (w .pair) i j _ _ (w .twin) (owns-twins t u s r i j w))
+getppid-same t u s r i j w h g = both-tell w _ _ (parent-pid (w .pair) (w .twin) (owns-twins w))
 
 -- ---- a process changed in its lights only, and its twin likewise
 
@@ -94,7 +94,7 @@ pub record Shown (t u : Table) (s r : ℕ) (p q : Process) : Type 0 where
 pub shown : (t u : Table) (s r : ℕ) (w : Pair (view t) (view u) s r) (i j : ℕ) → Twin (view t) (view u) s r i j → Shown t u s r (process t i) (process u j)
 unfolding row
 shown t u s r w i j k =
-    let e = twin-rows (view t) (view u) s r w i j k in
+    let e = twin-rows w k in
     record {
       states = ap (λ (q : Row). q .state) e;
       handleds = ap (λ (q : Row). q .handled) e;
@@ -103,32 +103,32 @@ shown t u s r w i j k =
       childrens = ap (λ (q : Row). q .children) e;
     }
 
-pub lights-of : (t u t′ u′ : Table) (s r i j : ℕ) → Shown t u s r (process t′ i) (process u′ j) → Lights (view t) (view u) (view t′) (view u′) s r i j
-lights-of t u t′ u′ s r i j h = record { states = h .states; handleds = h .handleds; pendings = h .pendings; marks = h .marks; childrens = h .childrens }
+pub lights-of : {t u : Table} (t′ u′ : Table) {s r i j : ℕ} → Shown t u s r (process t′ i) (process u′ j) → Lights (view t) (view u) (view t′) (view u′) s r i j
+lights-of t′ u′ h = record { states = h .states; handleds = h .handleds; pendings = h .pendings; marks = h .marks; childrens = h .childrens }
 
-module _ (t u : Table) (s r c d : ℕ) (w : Pair (view t) (view u) s r) (k : Twin (view t) (view u) s r c d) (lt : c < length (t .processes)) (lu : d < length (u .processes)) (p q : Process) (a : Placed p (process t c)) (b : Placed q (process u d)) (h : Shown t u s r p q) where
-  pub shown-put : (i j : ℕ) → Twin (view t) (view u) s r i j → Shown t u s r (process (put t c p) i) (process (put u d q) j)
-  shown-put i j l = go (ℕ-discrete i c) (ℕ-discrete j d)
+module _ (t u : Table) {s r c d : ℕ} (w : Pair (view t) (view u) s r) (k : Twin (view t) (view u) s r c d) (lt : c < length (t .processes)) (lu : d < length (u .processes)) {p q : Process} (a : Placed p (process t c)) (b : Placed q (process u d)) (h : Shown t u s r p q) where
+  pub shown-put : {i j : ℕ} → Twin (view t) (view u) s r i j → Shown t u s r (process (put t c p) i) (process (put u d q) j)
+  shown-put {i} {j} l = go (ℕ-discrete i c) (ℕ-discrete j d)
     where
       go : Dec (i ≡ c) → Dec (j ≡ d) → Shown t u s r (process (put t c p) i) (process (put u d q) j)
       go (yes e) (yes f) =
           subst (λ (y : ℕ). Shown t u s r (process (put t c p) y) (process (put u d q) j)) (sym e)
           (subst (λ (y : ℕ). Shown t u s r (process (put t c p) c) (process (put u d q) y)) (sym f)
-          (subst (λ (y : Process). Shown t u s r y (process (put u d q) d)) (sym (put-same t c p a lt)) (subst (λ (y : Process). Shown t u s r p y) (sym (put-same u d q b lu)) h)))
-      go (yes e) (no f) = absurd (f (twin-unique (view t) (view u) s r w i j c d l k e))
-      go (no e) (yes f) = absurd (e (twin-unique (view u) (view t) r s (flip-pair (view t) (view u) s r w) j i d c (flip-twin (view t) (view u) s r i j l) (flip-twin (view t) (view u) s r c d k) f))
+          (subst (λ (y : Process). Shown t u s r y (process (put u d q) d)) (sym (put-same t c a lt)) (subst (λ (y : Process). Shown t u s r p y) (sym (put-same u d b lu)) h)))
+      go (yes e) (no f) = absurd (f (twin-unique w l k e))
+      go (no e) (yes f) = absurd (e (twin-unique (flip-pair w) (flip-twin l) (flip-twin k) f))
       go (no e) (no f) =
-          subst (λ (y : Process). Shown t u s r y (process (put u d q) j)) (sym (put-other t c p a i e)) (subst (λ (y : Process). Shown t u s r (process t i) y) (sym (put-other u d q b j f)) (shown t u s r w i j l))
+          subst (λ (y : Process). Shown t u s r y (process (put u d q) j)) (sym (put-other t c a i e)) (subst (λ (y : Process). Shown t u s r (process t i) y) (sym (put-other u d b j f)) (shown t u s r w i j l))
 
   -- the tables stay the same to S
   pub same-put : Same (view (put t c p)) (view (put u d q)) s r
   same-put =
-      same-light (view t) (view u) (view (put t c p)) (view (put u d q)) s r w (put-light t c p a) (put-light u d q b)
-      (λ i j l. lights-of t u (put t c p) (put u d q) s r i j (shown-put i j l))
+      same-light w (put-light t c a) (put-light u d b)
+      (λ i j l. lights-of (put t c p) (put u d q) (shown-put l))
 
 -- ---- handle, poll
 
-module _ (t u : Table) (s r i j : ℕ) (w : Ready t u s r i j) where
+module _ {t u : Table} {s r i j : ℕ} (w : Ready t u s r i j) where
   pub lt-t : i < length (t .processes)
   lt-t = omega (arith, process-count t (w .sound-t .shape), facts t (w .sound-t) .in-range i (seen-taken (view t) s i (w .twin .seen-v)))
 
@@ -139,8 +139,8 @@ module _ (t u : Table) (s r i j : ℕ) (w : Ready t u s r i j) where
   signal-kept : (a b a′ b′ k l : ℕ) → a ≡ a′ → b ≡ b′ → k ≡ l → SoundTable (put t i (with-signals (process t i) a b)) → SoundTable (put u j (with-signals (process u j) a′ b′)) → Kept t u s r (answers (put t i (with-signals (process t i) a b)) k) (answers (put u j (with-signals (process u j) a′ b′)) l)
   unfolding namespace-taken
   signal-kept a b a′ b′ k l ea eb e h g =
-      both-change t u s r i j w _ _ k l e h g (taken-s t u s r i j w) (taken-r t u s r i j w)
-      (same-put t u s r i j (w .pair) (w .twin) lt-t lt-u _ _ (record { owns = refl; parents = refl; pids = refl }) (record { owns = refl; parents = refl; pids = refl }) (record { states = z .states; handleds = ea; pendings = eb; marks = z .marks; childrens = z .childrens }))
+      both-change w k l e h g (taken-s w) (taken-r w)
+      (same-put t u (w .pair) (w .twin) lt-t lt-u (record { owns = refl; parents = refl; pids = refl }) (record { owns = refl; parents = refl; pids = refl }) (record { states = z .states; handleds = ea; pendings = eb; marks = z .marks; childrens = z .childrens }))
     where
       z : Shown t u s r (process t i) (process u j)
       z = shown t u s r (w .pair) i j (w .twin)
@@ -154,13 +154,13 @@ handle-same z on t u s r i j w h g = go (not (within 1 signals z) or eqb (natura
     y = shown t u s r (w .pair) i j (w .twin)
 
     go : (b : Bool) → not (within 1 signals z) or eqb (natural z) sigkill or eqb (natural z) sigstop ≡ b → (o : Bool) → on ≡ o → Kept t u s r (handle t i z on) (handle u j z on)
-    go true e o q = rw (e, handle) (both-refuse t u s r i j w Einval)
+    go true e o q = rw (e, handle) (both-refuse w Einval)
     go false e true q =
         rw (e, q, handle)
-        (signal-kept t u s r i j w _ _ _ _ 0 0 (ap (λ x. with-signal x (natural z)) (y .handleds)) (y .pendings) refl (rw (e, q, handle) at h) (rw (e, q, handle) at g))
+        (signal-kept w _ _ _ _ 0 0 (ap (λ x. with-signal x (natural z)) (y .handleds)) (y .pendings) refl (rw (e, q, handle) at h) (rw (e, q, handle) at g))
     go false e false q =
         rw (e, q, handle)
-        (signal-kept t u s r i j w _ _ _ _ 0 0 (ap (λ x. without-signal x (natural z)) (y .handleds)) (ap (λ x. without-signal x (natural z)) (y .pendings)) refl (rw (e, q, handle) at h) (rw (e, q, handle) at g))
+        (signal-kept w _ _ _ _ 0 0 (ap (λ x. without-signal x (natural z)) (y .handleds)) (ap (λ x. without-signal x (natural z)) (y .pendings)) refl (rw (e, q, handle) at h) (rw (e, q, handle) at g))
 
 pub poll-same : MadeSame Poll
 unfolding MadeSame make poll answers granted
@@ -173,7 +173,7 @@ poll-same t u s r i j w h g = go (eqb (lowest-signal (process t i .pending)) sig
     lows = ap lowest-signal (y .pendings)
 
     go : (b : Bool) → eqb (lowest-signal (process t i .pending)) signals ≡ b → Kept t u s r (poll t i) (poll u j)
-    go true e = rw (e, sym (ap (λ x. eqb x signals) lows) ∙ e, poll) (both-tell t u s r i j w 0 0 refl)
+    go true e = rw (e, sym (ap (λ x. eqb x signals) lows) ∙ e, poll) (both-tell w 0 0 refl)
     go false e =
         rw (e, sym (ap (λ x. eqb x signals) lows) ∙ e, poll)
-        (signal-kept t u s r i j w _ _ _ _ _ _ (y .handleds) (ap₂ without-signal (y .pendings) lows) lows (rw (e, poll) at h) (rw (sym (ap (λ x. eqb x signals) lows) ∙ e, poll) at g))
+        (signal-kept w _ _ _ _ _ _ (y .handleds) (ap₂ without-signal (y .pendings) lows) lows (rw (e, poll) at h) (rw (sym (ap (λ x. eqb x signals) lows) ∙ e, poll) at g))

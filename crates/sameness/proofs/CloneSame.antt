@@ -40,11 +40,11 @@ use Rattle.table.specs.declared.Refusal.the-variants.{Enomem, Eagain}
 use Rattle.table.specs.declared.Table.{Table}
 
 -- an unborn namespace is not the root
-pub one-up : (v : View) (f : Facts v) (n : ℕ) → So (unborn v n) → So (namespace-taken v n) → v .level n ≡ suc (v .level (v .up n))
-one-up v f n h k = go (v .level n) refl
+pub one-up : {v : View} (f : Facts v) (n : ℕ) → So (unborn v n) → So (namespace-taken v n) → v .level n ≡ suc (v .level (v .up n))
+one-up {v} f n h k = go (v .level n) refl
   where
     go : (l : ℕ) → v .level n ≡ l → v .level n ≡ suc (v .level (v .up n))
-    go zero e = absurd (false≢true (sym (alive-not-unborn (v .life 0) (root-alive v f)) ∙ ap (unborn v) (sym (root-only v f n k e)) ∙ h))
+    go zero e = absurd (false≢true (sym (alive-not-unborn (v .life 0) (root-alive f)) ∙ ap (unborn v) (sym (root-only v f n k e)) ∙ h))
     go (suc l) e = e ∙ ap suc (sym (up-level v f n l e))
 
 by-dead : (v : View) (s n : ℕ) (l : Life) → is-dead-name (name-by v s n l) ≡ is-dead l
@@ -53,7 +53,7 @@ by-dead v s n Unborn = refl
 by-dead v s n (Alive i) = refl
 by-dead v s n Dead = refl
 
-module _ (t u : Table) (s r c d : ℕ) (w : Ready t u s r c d) where
+module _ {t u : Table} {s r c d : ℕ} (w : Ready t u s r c d) where
   ft : Facts (view t)
   ft = facts t (w .sound-t)
 
@@ -67,27 +67,27 @@ module _ (t u : Table) (s r c d : ℕ) (w : Ready t u s r c d) where
   ld = runs-lives u d (w .runs-u)
 
   hn : So (namespace-taken (view t) (view t .children c))
-  hn = children-taken (view t) ft c lc
+  hn = children-taken ft c lc
 
   hm : So (namespace-taken (view u) (view u .children d))
-  hm = children-taken (view u) fu d ld
+  hm = children-taken fu d ld
 
   bn : So (below (view t) (view t .children c) s)
-  bn = below-trans (view t) ft _ _ s (children-below (view t) ft c lc) (seen-below (view t) s c (w .twin .seen-v))
+  bn = below-trans (view t) ft _ _ s (children-below ft c lc) (seen-below (view t) s c (w .twin .seen-v))
 
   bm : So (below (view u) (view u .children d) r)
-  bm = below-trans (view u) fu _ _ r (children-below (view u) fu d ld) (seen-below (view u) r d (w .twin .seen-u))
+  bm = below-trans (view u) fu _ _ r (children-below fu d ld) (seen-below (view u) r d (w .twin .seen-u))
 
   names : name (view t) s (view t .children c) ≡ name (view u) r (view u .children d)
   unfolding row
-  names = ap (λ (q : Row). q .children) (the-rows t u s r c d w)
+  names = ap (λ (q : Row). q .children) (the-rows w)
 
   deads : dead (view t) (view t .children c) ≡ dead (view u) (view u .children d)
   deads =
-      sym (ap is-dead-name (name-taken (view t) ft s _ hn) ∙ by-dead (view t) s _ _) ∙ ap is-dead-name names ∙ ap is-dead-name (name-taken (view u) fu r _ hm) ∙ by-dead (view u) r _ _
+      sym (ap is-dead-name (name-taken ft s _ hn) ∙ by-dead (view t) s _ _) ∙ ap is-dead-name names ∙ ap is-dead-name (name-taken fu r _ hm) ∙ by-dead (view u) r _ _
 
   unborns : unborn (view t) (view t .children c) ≡ unborn (view u) (view u .children d)
-  unborns = sym (name-unborn (view t) ft s _ hn) ∙ ap is-unborn-name names ∙ name-unborn (view u) fu r _ hm
+  unborns = sym (name-unborn ft s _ hn) ∙ ap is-unborn-name names ∙ name-unborn fu r _ hm
 
   tc : So (taken (view t) c)
   tc = seen-taken (view t) s c (w .twin .seen-v)
@@ -106,22 +106,22 @@ module _ (t u : Table) (s r c d : ℕ) (w : Ready t u s r c d) where
             unborn-v = h;
             unborn-u = h′;
             lasts = ft .unborn-last _ hn h ∙ sym (fu .unborn-last _ hm h′);
-            ups = subst₂ (λ a b. Twins (view t) (view u) s r a b) (ft .unborn-own _ hn h c tc refl) (fu .unborn-own _ hm h′ d td refl) (owns-twins t u s r c d w);
-            level-v = one-up (view t) ft _ h hn;
-            level-u = one-up (view u) fu _ h′ hm;
+            ups = subst₂ (λ a b. Twins (view t) (view u) s r a b) (ft .unborn-own _ hn h c tc refl) (fu .unborn-own _ hm h′ d td refl) (owns-twins w);
+            level-v = one-up ft _ h hn;
+            level-u = one-up fu _ h′ hm;
           })
       go false h =
           let h′ = sym unborns ∙ h in
           inl
-          (subst₂ (λ a b. Twins (view t) (view u) s r a b) (anchor-self (view t) ft _ (alive-otherwise (view t .life (view t .children c)) nd h)) (anchor-self (view u) fu _ (alive-otherwise (view u .life (view u .children d)) (sym deads ∙ nd) h′))
-          (anchors-of (view t) (view u) s r (w .pair) _ _ names hn hm bn bm h h′))
+          (subst₂ (λ a b. Twins (view t) (view u) s r a b) (anchor-self ft _ (alive-otherwise (view t .life (view t .children c)) nd h)) (anchor-self fu _ (alive-otherwise (view u .life (view u .children d)) (sym deads ∙ nd) h′))
+          (anchors-of (w .pair) _ _ names hn hm bn bm h h′))
 
   holders : (i j : ℕ) → Twin (view t) (view u) s r i j → So (unborn (view t) (view t .children c)) → eqb (view t .children i) (view t .children c) ≡ eqb (view u .children j) (view u .children d)
   holders i j x h =
       let h′ = sym unborns ∙ h in
       let ti = seen-taken (view t) s i (x .seen-v) in
       let tj = seen-taken (view u) r j (x .seen-u) in
-      let e = twin-eqb (view t) (view u) s r (w .pair) i j c d x (w .twin) in
+      let e = twin-eqb (w .pair) x (w .twin) in
       bool-ext _ _
       (λ q. eq-eqb _ _ (ap (view u .children) (eqb-true j d (sym e ∙ eq-eqb i c (ft .unborn-one _ hn h i c ti (eqb-true _ _ q) tc refl)))))
       (λ q. eq-eqb _ _ (ap (view t .children) (eqb-true i c (e ∙ eq-eqb j d (fu .unborn-one _ hm h′ j d tj (eqb-true _ _ q) td refl)))))
@@ -140,11 +140,11 @@ module _ (t u : Table) (s r c d : ℕ) (w : Ready t u s r c d) where
       let ev = birth-view t (sane-t .shape-of) (sane-t .facts) c (view t .children c) hn lt in
       let ew = birth-view u (sane-u .shape-of) (sane-u .facts) d (view u .children d) hm lu in
       inr (
-        ap Number (next-twins (view t) (view u) s r (w .pair) _ _ (owns-twins t u s r c d w)),
-        stands-same t u (birth t c (view t .children c)) (birth u d (view u .children d)) s r h g
-            (ap (λ (x : View). eqb s 0 or not (eqb (x .level s) 0)) ev ∙ taken-s t u s r c d w)
-            (ap (λ (x : View). eqb r 0 or not (eqb (x .level r) 0)) ew ∙ taken-r t u s r c d w)
-            (subst₂ (λ (a b : View). Same a b s r) (sym ev) (sym ew) (birth-same (view t) (view u) s r (w .pair) c d (view t .children c) (view u .children d) (free-slot (view t)) (free-slot (view u)) (w .twin) (cradles nd) hn hm bn bm (isnt-so et) (isnt-so eu) lt lu holders)),
+        ap Number (next-twins (w .pair) (owns-twins w)),
+        stands-same t u h g
+            (ap (λ (x : View). eqb s 0 or not (eqb (x .level s) 0)) ev ∙ taken-s w)
+            (ap (λ (x : View). eqb r 0 or not (eqb (x .level r) 0)) ew ∙ taken-r w)
+            (subst₂ (λ (a b : View). Same a b s r) (sym ev) (sym ew) (birth-same (w .pair) (view t .children c) (view u .children d) (free-slot (view t)) (free-slot (view u)) (w .twin) (cradles nd) hn hm bn bm (isnt-so et) (isnt-so eu) lt lu holders)),
       )
 
 -- no room on one of the tables
@@ -162,11 +162,11 @@ unfolding MadeSame make clone
 clone-same t u s r c d w h g = go (dead (view t) (view t .children c)) refl (eqb (free-slot (view t)) process-slots) refl (eqb (free-slot (view u)) process-slots) refl
   where
     same : dead (view t) (view t .children c) ≡ dead (view u) (view u .children d)
-    same = deads t u s r c d w
+    same = deads w
 
     go : (a : Bool) → dead (view t) (view t .children c) ≡ a → (b : Bool) → eqb (free-slot (view t)) process-slots ≡ b → (b′ : Bool) → eqb (free-slot (view u)) process-slots ≡ b′ → Kept t u s r (clone t c) (clone u d)
-    go true ea b eb b′ eb′ = rw (ea, sym same ∙ ea, clone) (both-refuse t u s r c d w Enomem)
+    go true ea b eb b′ eb′ = rw (ea, sym same ∙ ea, clone) (both-refuse w Enomem)
     go false ea true eb b′ eb′ = rw (ea, eb, clone) (no-room-left t u s r (clone u d))
     go false ea false eb true eb′ = rw (sym same ∙ ea, eb′, clone) (no-room-right t u s r (clone t c))
     go false ea false eb false eb′ =
-        rw (ea, sym same ∙ ea, eb, eb′, clone) (born-kept t u s r c d w ea (eqb-false _ _ eb) (eqb-false _ _ eb′) (rw (ea, eb, clone) at h) (rw (sym same ∙ ea, eb′, clone) at g))
+        rw (ea, sym same ∙ ea, eb, eb′, clone) (born-kept w ea (eqb-false _ _ eb) (eqb-false _ _ eb′) (rw (ea, eb, clone) at h) (rw (sym same ∙ ea, eb′, clone) at g))

@@ -96,13 +96,13 @@ InsideSame =
     → So (is-no-room (step t i c .reply .answer) or is-no-room (step u j c .reply .answer))
     ⊎ ((step t i c .reply .answer ≡ step u j c .reply .answer) × (after t s i c ≡ after u r j c))
 
-runs-alive : (t : Table) (s i : ℕ) → SoundTable t → So (seen (view t) s i) → So (runs (view t) i) → So (alive (view t) s)
-runs-alive t s i h k a =
+runs-alive : {t : Table} (s i : ℕ) → SoundTable t → So (seen (view t) s i) → So (runs (view t) i) → So (alive (view t) s)
+runs-alive {t} s i h k a =
     alive-above (view t) (facts t h) (view t .own i) s (living-own-alive (view t) (facts t h) i (runs-lives t i a)) (seen-below (view t) s i k)
 
-runs-same : (t u : Table) (s r i j : ℕ) → SoundTable t → SoundTable u → So (seen (view t) s i) → So (seen (view u) r j) → row (view t) s i ≡ row (view u) r j → runs (view t) i ≡ runs (view u) j
+runs-same : {t u : Table} (s r i j : ℕ) → SoundTable t → SoundTable u → So (seen (view t) s i) → So (seen (view u) r j) → row (view t) s i ≡ row (view u) r j → runs (view t) i ≡ runs (view u) j
 unfolding runs row
-runs-same t u s r i j h g a b e =
+runs-same {t} {u} s r i j h g a b e =
     rw (seen-taken (view t) s i a, seen-taken (view u) r j b) (ap (λ (q : Row). true and is-running (q .state)) e)
 
 inside-same : InsideSame
@@ -110,15 +110,15 @@ unfolding MadeSame
 inside-same t u s r i j c h g hs hr e a b n = go (runs (view t) i) refl
   where
     w : Same (view t) (view u) s r
-    w = same-of-sheets (view t) (view u) s r (facts t h) (facts u g) e
+    w = same-of-sheets (facts t h) (facts u g) e
 
     rows : row (view t) s i ≡ row (view u) r j
     rows =
         let (x, m, q) = w .there i a in
-        q ∙ ap (row (view u) r) (pid-unique (view u) (facts u g) r x j hr m b (sym (row-pid (view t) (view u) s r i x (level-lt (view t) (facts t h) s hs) (level-lt (view u) (facts u g) r hr) q) ∙ n))
+        q ∙ ap (row (view u) r) (pid-unique (view u) (facts u g) r x j hr m b (sym (row-pid (view t) (view u) s r i x (level-lt (facts t h) s hs) (level-lt (facts u g) r hr) q) ∙ n))
 
     both-run : runs (view t) i ≡ runs (view u) j
-    both-run = runs-same t u s r i j h g a b rows
+    both-run = runs-same s r i j h g a b rows
 
     go : (z : Bool) → runs (view t) i ≡ z → Kept t u s r (step t i c) (step u j c)
     go true k =
@@ -127,7 +127,7 @@ inside-same t u s r i j c h g hs hr e a b n = go (runs (view t) i) refl
         (record {
           sound-t = h;
           sound-u = g;
-          pair = record { facts-v = facts t h; facts-u = facts u g; alive-v = runs-alive t s i h a k; alive-u = runs-alive u r j g b (sym both-run ∙ k); same = w };
+          pair = record { facts-v = facts t h; facts-u = facts u g; alive-v = runs-alive s i h a k; alive-u = runs-alive r j g b (sym both-run ∙ k); same = w };
           twin = record { seen-v = a; seen-u = b; pids = n };
           runs-t = k;
           runs-u = sym both-run ∙ k;
@@ -155,33 +155,33 @@ follow-stands t u (at s) = go (namespace-taken (view u) s) refl
 
 -- ---- outside calls
 
-outside-sheet : (t : Table) (p : Place) (i : ℕ) (c : Call) → SoundTable t → PlaceStands t p → So (allowed t p (outside i c)) → sheet-of (next-table t p (outside i c)) (next-place t p (outside i c)) ≡ sheet-of t p
+outside-sheet : {t : Table} (p : Place) (i : ℕ) (c : Call) → SoundTable t → PlaceStands t p → So (allowed t p (outside i c)) → sheet-of (next-table t p (outside i c)) (next-place t p (outside i c)) ≡ sheet-of t p
 unfolding OutsideLeaves sheet-of follow
-outside-sheet t (at s) i c h k a = outside-leaves t s i c h k a
-outside-sheet t (gone l) i c h k a = refl
+outside-sheet {t} (at s) i c h k a = outside-leaves t s i c h k a
+outside-sheet (gone l) i c h k a = refl
 
-outside-sound : (t : Table) (p : Place) (i : ℕ) (c : Call) → SoundTable t → SoundTable (next-table t p (outside i c))
+outside-sound : {t : Table} (p : Place) (i : ℕ) (c : Call) → SoundTable t → SoundTable (next-table t p (outside i c))
 unfolding happens table-after KeepsSound
-outside-sound t p i c h = keeps-sound t i c h
+outside-sound {t} p i c h = keeps-sound t i c h
 
-left-step : (t u : Table) (p q : Place) (i : ℕ) (c : Call) → Alike t p u q → So (allowed t p (outside i c)) → Alike (next-table t p (outside i c)) (next-place t p (outside i c)) u q
-left-step t u p q i c w a =
+left-step : {t u : Table} {p q : Place} (i : ℕ) (c : Call) → Alike t p u q → So (allowed t p (outside i c)) → Alike (next-table t p (outside i c)) (next-place t p (outside i c)) u q
+left-step {t} {p} i c w a =
     record {
-      sound-t = outside-sound t p i c (w .sound-t);
+      sound-t = outside-sound p i c (w .sound-t);
       sound-u = w .sound-u;
       stands-t = follow-stands t (next-table t p (outside i c)) p;
       stands-u = w .stands-u;
-      sheets = outside-sheet t p i c (w .sound-t) (w .stands-t) a ∙ w .sheets;
+      sheets = outside-sheet p i c (w .sound-t) (w .stands-t) a ∙ w .sheets;
     }
 
-right-step : (t u : Table) (p q : Place) (i : ℕ) (c : Call) → Alike t p u q → So (allowed u q (outside i c)) → Alike t p (next-table u q (outside i c)) (next-place u q (outside i c))
-right-step t u p q i c w a =
+right-step : {t u : Table} {p q : Place} (i : ℕ) (c : Call) → Alike t p u q → So (allowed u q (outside i c)) → Alike t p (next-table u q (outside i c)) (next-place u q (outside i c))
+right-step {u} {q} i c w a =
     record {
       sound-t = w .sound-t;
-      sound-u = outside-sound u q i c (w .sound-u);
+      sound-u = outside-sound q i c (w .sound-u);
       stands-t = w .stands-t;
       stands-u = follow-stands u (next-table u q (outside i c)) q;
-      sheets = w .sheets ∙ sym (outside-sheet u q i c (w .sound-u) (w .stands-u) a);
+      sheets = w .sheets ∙ sym (outside-sheet q i c (w .sound-u) (w .stands-u) a);
     }
 
 -- ---- inside calls
@@ -207,31 +207,31 @@ Between t p u q x y =
     ⊎ ((answer-of x ≡ answer-of y) × Alike (table-after t x) (follow t (table-after t x) p) (table-after u y) (follow u (table-after u y) q))
 
 -- nobody: all stays
-stay : (t u : Table) (p q : Place) → Alike t p u q → Between t p u q none none
+stay : {t u : Table} {p q : Place} → Alike t p u q → Between t p u q none none
 unfolding table-after
-stay t u p q w =
+stay {t} {u} {p} {q} w =
     inr
     (refl, record { sound-t = w .sound-t; sound-u = w .sound-u; stands-t = rw (follow-self t p (w .stands-t)) (w .stands-t); stands-u = rw (follow-self u q (w .stands-u)) (w .stands-u); sheets = rw (follow-self t p (w .stands-t), follow-self u q (w .stands-u)) (w .sheets) })
 
-none-named : (t u : Table) (p q : Place) (k : ℕ) (c : Call) → Alike t p u q → slot-of t p k ≡ process-slots → slot-of u q k ≡ process-slots → Between t p u q (happens t p (inside k c)) (happens u q (inside k c))
-none-named t u p q k c w e d = rw (nobody t p k c e, nobody u q k c d) (stay t u p q w)
+none-named : {t u : Table} {p q : Place} (k : ℕ) (c : Call) → Alike t p u q → slot-of t p k ≡ process-slots → slot-of u q k ≡ process-slots → Between t p u q (happens t p (inside k c)) (happens u q (inside k c))
+none-named {t} {u} {p} {q} k c w e d = rw (nobody t p k c e, nobody u q k c d) (stay w)
 
-one-named : (t u : Table) (s r i j : ℕ) (c : Call) → Alike t (at s) u (at r) → Callers (view t) (view u) s r i j → Between t (at s) u (at r) (some (step t i c)) (some (step u j c))
+one-named : {t u : Table} {s r i j : ℕ} (c : Call) → Alike t (at s) u (at r) → Callers (view t) (view u) s r i j → Between t (at s) u (at r) (some (step t i c)) (some (step u j c))
 unfolding table-after answer-of sheet-of KeepsSound
-one-named t u s r i j c w n =
+one-named {t} {u} {s} {r} {i} {j} c w n =
     ⊎-elim (λ x. inl x)
     (λ x. inr (ap some (x .0), record { sound-t = keeps-sound t i c (w .sound-t); sound-u = keeps-sound u j c (w .sound-u); stands-t = follow-stands t (step t i c .table) (at s); stands-u = follow-stands u (step u j c .table) (at r); sheets = x .1 }))
     (inside-same t u s r i j c (w .sound-t) (w .sound-u) (w .stands-t) (w .stands-u) (w .sheets) (n .seen-t) (n .seen-u) (n .pids))
 
-inside-step : (t u : Table) (p q : Place) (k : ℕ) (c : Call) → Alike t p u q → Between t p u q (happens t p (inside k c)) (happens u q (inside k c))
+inside-step : {t u : Table} (p q : Place) (k : ℕ) (c : Call) → Alike t p u q → Between t p u q (happens t p (inside k c)) (happens u q (inside k c))
 unfolding slot-of sheet-of
-inside-step t u (at s) (at r) k c w =
-    ⊎-elim (λ x. none-named t u (at s) (at r) k c w (x .0) (x .1))
-    (λ n. rw (somebody t s k c (λ e. omega (arith, n .lt-t, e)), somebody u r k c (λ e. omega (arith, n .lt-u, e))) (one-named t u s r _ _ c w n))
-    (find-same (view t) (view u) s r k (facts t (w .sound-t)) (facts u (w .sound-u)) (w .stands-t) (w .stands-u) (w .sheets))
-inside-step t u (at s) (gone l) k c w = none-named t u (at s) (gone l) k c w (find-none (view t) s k (facts t (w .sound-t)) (ap (λ x. x .rows) (w .sheets))) refl
-inside-step t u (gone l) (at r) k c w = none-named t u (gone l) (at r) k c w refl (find-none (view u) r k (facts u (w .sound-u)) (ap (λ x. x .rows) (sym (w .sheets))))
-inside-step t u (gone l) (gone m) k c w = none-named t u (gone l) (gone m) k c w refl refl
+inside-step {t} {u} (at s) (at r) k c w =
+    ⊎-elim (λ x. none-named k c w (x .0) (x .1))
+    (λ n. rw (somebody t s k c (λ e. omega (arith, n .lt-t, e)), somebody u r k c (λ e. omega (arith, n .lt-u, e))) (one-named c w n))
+    (find-same s r k (facts t (w .sound-t)) (facts u (w .sound-u)) (w .stands-t) (w .stands-u) (w .sheets))
+inside-step {t} (at s) (gone l) k c w = none-named k c w (find-none s k (facts t (w .sound-t)) (ap (λ x. x .rows) (w .sheets))) refl
+inside-step {u} (gone l) (at r) k c w = none-named k c w refl (find-none r k (facts u (w .sound-u)) (ap (λ x. x .rows) (sym (w .sheets))))
+inside-step (gone l) (gone m) k c w = none-named k c w refl refl
 
 -- ---- the two lists
 
@@ -245,12 +245,12 @@ unfolding inside-calls untouched observations observe Agree _or_ lacks-room
 last t u p q [] w e a b = ((λ i. record { answer = none; sheet = w .sheets i }), tt)
 last t u p q (inside k c ∷ fs) w e a b = absurd (not-empty (k, c) (inside-calls fs) (sym e))
 last t u p q (outside i c ∷ fs) w e a b =
-    last t (next-table u q (outside i c)) p (next-place u q (outside i c)) fs (right-step t u p q i c w (left _ _ b)) e a (right _ _ b)
+    last t (next-table u q (outside i c)) p (next-place u q (outside i c)) fs (right-step i c w (left _ _ b)) e a (right _ _ b)
 
 -- both begin with an inside call
 both-inside : (k : ℕ) (c : Call) (es fs : List Event) → ((t u : Table) (p q : Place) (fs : List Event) → Goal t p es u q fs) → (t u : Table) (p q : Place) → Goal t p (inside k c ∷ es) u q (inside k c ∷ fs)
 unfolding inside-calls untouched observations observe Agree lacks-room
-both-inside k c es fs rest t u p q w e a b = go (full x or full y) refl (inside-step t u p q k c w)
+both-inside k c es fs rest t u p q w e a b = go (full x or full y) refl (inside-step p q k c w)
   where
     x : Option Outcome
     x = happens t p (inside k c)
@@ -272,12 +272,12 @@ first k c es rest t u p q (inside l d ∷ fs) w e a b =
     subst (λ x. Goal t p (inside k c ∷ es) u q (inside (x .0) (x .1) ∷ fs)) (heads-equal (k, c) (l, d) (inside-calls es) (inside-calls fs) e)
     (both-inside k c es fs rest t u p q) w e a b
 first k c es rest t u p q (outside i d ∷ fs) w e a b =
-    first k c es rest t (next-table u q (outside i d)) p (next-place u q (outside i d)) fs (right-step t u p q i d w (left _ _ b)) e a (right _ _ b)
+    first k c es rest t (next-table u q (outside i d)) p (next-place u q (outside i d)) fs (right-step i d w (left _ _ b)) e a (right _ _ b)
 
 -- it begins with an outside one
 outside-first : (t u : Table) (p q : Place) (i : ℕ) (c : Call) (es fs : List Event) → Goal (next-table t p (outside i c)) (next-place t p (outside i c)) es u q fs → Goal t p (outside i c ∷ es) u q fs
 unfolding inside-calls untouched observations observe
-outside-first t u p q i c es fs rest w e a b = rest (left-step t u p q i c w (left _ _ a)) e (right _ _ a) b
+outside-first t u p q i c es fs rest w e a b = rest (left-step i c w (left _ _ a)) e (right _ _ a) b
 
 both-lists : (es fs : List Event) (t u : Table) (p q : Place) → Goal t p es u q fs
 both-lists [] fs t u p q = last t u p q fs

@@ -43,25 +43,25 @@ use Rattle.table.specs.declared.End.{End}
 use Rattle.table.specs.declared.Table.{Table}
 
 -- of two namespaces above one, the deeper lies below the other
-comparable : (v : View) (f : Facts v) (l a b c : ℕ) → v .level a ≡ l → So (below v a b) → So (below v a c) → v .level c ≤ v .level b → So (below v b c)
-comparable v f zero a b c e x y m = subst (λ n. So (below v n c)) (below-same v f a b x (omega (arith, below-level v f a b x))) y
-comparable v f (suc l) a b c e x y m = go (ℕ-discrete (v .level a) (v .level b)) (λ p q. comparable v f l (v .up a) b c (up-level v f a l e) p q m)
+comparable : {v : View} (f : Facts v) (l a b c : ℕ) → v .level a ≡ l → So (below v a b) → So (below v a c) → v .level c ≤ v .level b → So (below v b c)
+comparable {v} f zero a b c e x y m = subst (λ n. So (below v n c)) (below-same v f a b x (omega (arith, below-level v f a b x))) y
+comparable {v} f (suc l) a b c e x y m = go (ℕ-discrete (v .level a) (v .level b)) (λ p q. comparable f l (v .up a) b c (up-level v f a l e) p q m)
   where
     go : Dec (v .level a ≡ v .level b) → (So (below v (v .up a) b) → So (below v (v .up a) c) → So (below v b c)) → So (below v b c)
     go (yes q) r = subst (λ n. So (below v n c)) (below-same v f a b x q) y
     go (no q) r = let z = below-level v f a b x in r (below-parent v f a b x (omega arith)) (below-parent v f a c y (omega arith))
 
 -- of two namespaces above one, one lies below the other
-pub either-below : (v : View) (f : Facts v) (a b c : ℕ) → So (below v a b) → So (below v a c) → So (below v b c) ⊎ So (below v c b)
-either-below v f a b c x y = go (decLt (v .level b) (v .level c))
+pub either-below : {v : View} (f : Facts v) (a b c : ℕ) → So (below v a b) → So (below v a c) → So (below v b c) ⊎ So (below v c b)
+either-below {v} f a b c x y = go (decLt (v .level b) (v .level c))
   where
     go : Dec (v .level b < v .level c) → So (below v b c) ⊎ So (below v c b)
-    go (yes l) = inr (comparable v f (v .level a) a c b refl y x (omega arith))
-    go (no l) = inl (comparable v f (v .level a) a b c refl x y (omega arith))
+    go (yes l) = inr (comparable f (v .level a) a c b refl y x (omega arith))
+    go (no l) = inl (comparable f (v .level a) a b c refl x y (omega arith))
 
 -- ---- not an init
 
-module _ (v : View) (f : Facts v) (x : ℕ) (e : End) (lives : So (alive v (v .own x))) (tx : So (taken v x)) (s : ℕ) (o : seen v s x ≡ false) where
+module _ {v : View} (f : Facts v) (x : ℕ) (e : End) (lives : So (alive v (v .own x))) (tx : So (taken v x)) (s : ℕ) (o : seen v s x ≡ false) where
   apart : (i : ℕ) → So (seen v s i) → eqb i x ≡ false
   apart i k = ne-eqb i x (λ q. no-so o (subst (λ j. So (seen v s j)) q k))
 
@@ -74,16 +74,16 @@ module _ (v : View) (f : Facts v) (x : ℕ) (e : End) (lives : So (alive v (v .o
   unfolding child-of
   parents-as i k =
       rw (apart i k)
-      (choose (λ n. pid-in v s n ≡ pid-in v s (v .parent i)) (child-of v x i) (λ c. pid-in-unseen v f s _ init-unseen ∙ sym (pid-in-unseen v f s (v .parent i) (ap (seen v s) (eqb-true _ _ (right _ _ c)) ∙ o))) (λ c. refl))
+      (choose (λ n. pid-in v s n ≡ pid-in v s (v .parent i)) (child-of v x i) (λ c. pid-in-unseen f s _ init-unseen ∙ sym (pid-in-unseen f s (v .parent i) (ap (seen v s) (eqb-true _ _ (right _ _ c)) ∙ o))) (λ c. refl))
 
   member-still : Still v (member-of v x e) s (near v s)
   unfolding seen taken below
   member-still =
       record {
-        here = near-here v f s;
-        up-kept = near-up v f s;
-        own-kept = near-own v f s;
-        children-kept = near-children v f s;
+        here = near-here f s;
+        up-kept = near-up f s;
+        own-kept = near-own f s;
+        children-kept = near-children f s;
         ups = λ n h. refl;
         levels = λ n h. refl;
         lives = λ n h. refl;
@@ -101,11 +101,11 @@ module _ (v : View) (f : Facts v) (x : ℕ) (e : End) (lives : So (alive v (v .o
 
 -- ---- an init, not above S
 
-module _ (v : View) (f : Facts v) (x : ℕ) (e : End) (tx : So (taken v x)) (s : ℕ) (o : seen v s x ≡ false) (n : below v s (v .own x) ≡ false) where
+module _ {v : View} (f : Facts v) (x : ℕ) (e : End) (tx : So (taken v x)) (s : ℕ) (o : seen v s x ≡ false) (n : below v s (v .own x) ≡ false) where
   -- nothing lies in both
   disjoint : (m : ℕ) → So (below v m s) → So (below v m (v .own x)) → ⊥
   unfolding seen
-  disjoint m a b = ⊎-elim (λ k. no-so n k) (λ k. no-so o (both _ _ tx k)) (either-below v f m s (v .own x) a b)
+  disjoint m a b = ⊎-elim (λ k. no-so n k) (λ k. no-so o (both _ _ tx k)) (either-below f m s (v .own x) a b)
 
   spared : (i : ℕ) → So (seen v s i) → seen v (v .own x) i ≡ false
   spared i k = isnt-so (λ q. disjoint (v .own i) (seen-below v s i k) (seen-below v (v .own x) i q))
@@ -114,8 +114,8 @@ module _ (v : View) (f : Facts v) (x : ℕ) (e : End) (tx : So (taken v x)) (s :
   not-gone i k = isnt _ (not-seen-stays v x i (spared i k))
 
   seen-either : (i : ℕ) (b : Bool) → gone v (v .own x) i ≡ b → seen (subtree-gone v (v .own x) x e) s i ≡ seen v s i
-  seen-either i false q = seen-shape v _ (stays v x) (fallen-shape v x e) s i (ap not q)
-  seen-either i true q = seen-gone v _ (stays v x) (fallen-shape v x e) s i (ap not q) ∙ sym (isnt-so (λ k. no-so (not-gone i k) q))
+  seen-either i false q = seen-shape (fallen-shape x e) s i (ap not q)
+  seen-either i true q = seen-gone (fallen-shape x e) s i (ap not q) ∙ sym (isnt-so (λ k. no-so (not-gone i k) q))
 
   near-lives : (m : ℕ) → So (near v s m) → below v m (v .own x) ≡ false
   near-lives m h = isnt-so (λ k. ⊎-elim (λ b. disjoint m b k) (λ b. no-so n (below-trans v f s m (v .own x) b k)) (cases _ _ h))
@@ -123,10 +123,10 @@ module _ (v : View) (f : Facts v) (x : ℕ) (e : End) (tx : So (taken v x)) (s :
   init-still : Still v (subtree-gone v (v .own x) x e) s (near v s)
   init-still =
       record {
-        here = near-here v f s;
-        up-kept = near-up v f s;
-        own-kept = near-own v f s;
-        children-kept = near-children v f s;
+        here = near-here f s;
+        up-kept = near-up f s;
+        own-kept = near-own f s;
+        children-kept = near-children f s;
         ups = λ m h. refl;
         levels = λ m h. refl;
         lives = λ m h. rw (near-lives m h);
@@ -145,22 +145,22 @@ module _ (v : View) (f : Facts v) (x : ℕ) (e : End) (tx : So (taken v x)) (s :
 -- ---- either
 
 -- an end leaves all that the sheet of S rests on
-pub end-still : (t : Table) (w : Sane t) (x : ℕ) (e : End) → So (living (view t) x) → (s : ℕ) → seen (view t) s x ≡ false → (So (is-init (view t) x) → below (view t) s (view t .own x) ≡ false) → Still (view t) (view (end t x e)) s (near (view t) s)
-end-still t w x e l s o n =
+pub end-still : {t : Table} (w : Sane t) (x : ℕ) (e : End) → So (living (view t) x) → {s : ℕ} → seen (view t) s x ≡ false → (So (is-init (view t) x) → below (view t) s (view t .own x) ≡ false) → Still (view t) (view (end t x e)) s (near (view t) s)
+end-still {t} w x e l {s} o n =
     let tx = lives-taken (view t) x l in
     subst (λ u. Still (view t) u s (near (view t) s)) (sym (end-view t w x e tx))
-    (choose (λ u. Still (view t) u s (near (view t) s)) (is-init (view t) x) (λ q. init-still (view t) (w .facts) x e tx s o (n q)) (λ q. member-still (view t) (w .facts) x e (living-own-alive (view t) (w .facts) x l) tx s o))
+    (choose (λ u. Still (view t) u s (near (view t) s)) (is-init (view t) x) (λ q. init-still (w .facts) x e tx s o (n q)) (λ q. member-still (w .facts) x e (living-own-alive (view t) (w .facts) x l) tx s o))
 
 -- an init's namespace lives no more
-pub end-dies : (t : Table) (w : Sane t) (x : ℕ) (e : End) → So (taken (view t) x) → So (is-init (view t) x) → alive (view (end t x e)) (view t .own x) ≡ false
-end-dies t w x e tx q = subst (λ (u : View). alive u (view t .own x) ≡ false) (sym (end-view t w x e tx)) (rw (q, below-refl (view t) (view t .own x)))
+pub end-dies : {t : Table} (w : Sane t) (x : ℕ) (e : End) → So (taken (view t) x) → So (is-init (view t) x) → alive (view (end t x e)) (view t .own x) ≡ false
+end-dies {t} w x e tx q = subst (λ (u : View). alive u (view t .own x) ≡ false) (sym (end-view t w x e tx)) (rw (q, below-refl (view t) (view t .own x)))
 
 -- what lives after a change lived before
-pub freed-back : (t : Table) → Sane t → (n : ℕ) → So (alive (view (freed t)) n) → So (alive (view t) n)
-freed-back t w n = subst (λ (u : View). So (alive u n) → So (alive (view t) n)) (sym (freed-view t (w .shape-of))) (choose (λ l. So (is-alive l) → So (alive (view t) n)) (kept (view t) n) (λ k h. h) (λ k h. absurd (false≢true h)))
+pub freed-back : {t : Table} → Sane t → (n : ℕ) → So (alive (view (freed t)) n) → So (alive (view t) n)
+freed-back {t} w n = subst (λ (u : View). So (alive u n) → So (alive (view t) n)) (sym (freed-view t (w .shape-of))) (choose (λ l. So (is-alive l) → So (alive (view t) n)) (kept (view t) n) (λ k h. h) (λ k h. absurd (false≢true h)))
 
-pub end-back : (t : Table) → Sane t → (x : ℕ) (e : End) → So (taken (view t) x) → (n : ℕ) → So (alive (view (end t x e)) n) → So (alive (view t) n)
-end-back t w x e tx n =
+pub end-back : {t : Table} → Sane t → (x : ℕ) (e : End) → So (taken (view t) x) → (n : ℕ) → So (alive (view (end t x e)) n) → So (alive (view t) n)
+end-back {t} w x e tx n =
     subst (λ (u : View). So (alive u n) → So (alive (view t) n)) (sym (end-view t w x e tx))
     (choose (λ (u : View). So (alive u n) → So (alive (view t) n)) (is-init (view t) x)
     (λ q. choose (λ l. So (is-alive l) → So (alive (view t) n)) (below (view t) n (view t .own x)) (λ k h. absurd (false≢true h)) (λ k h. h)) (λ q h. h))
@@ -186,7 +186,7 @@ exit-leaves z t s i h hs k a g = go (eqb i 0) refl g
     go true q g = rw (q, exit) (as-it-was t s hs)
     go false q g =
         rw (q, exit)
-        (freed-leaves t t₁ s h (end-sane t (sane t h) i e li (eqb-false _ _ q) (remainder z)) hs (stands-still (view t) (view t₁) s (near (view t) s) (facts t h) still hs) (same-still (view t) (view t₁) s (near (view t) s) (facts t h) still))
+        (freed-leaves h (end-sane t (sane t h) i e li (eqb-false _ _ q) (remainder z)) hs (stands-still (facts t h) still hs) (same-still (facts t h) still))
       where
         e : End
         e = Exited (status z)
@@ -201,7 +201,7 @@ exit-leaves z t s i h hs k a g = go (eqb i 0) refl g
         o = outsider t s i (Exit z) a
 
         no-touch : ends-above t (freed t₁) (at s) ≡ false
-        no-touch = untouched-made t s i (Exit z) h k a (answers (freed t₁) 0) (rw (q, exit) refl) refl
+        no-touch = untouched-made s i (Exit z) h k a (answers (freed t₁) 0) (rw (q, exit) refl) refl
 
         own-not : view t .own i ≡ s → ⊥
         own-not m = not-own t s i (lives-taken (view t) i li) o m
@@ -210,7 +210,7 @@ exit-leaves z t s i h hs k a g = go (eqb i 0) refl g
         not-above m =
             isnt-so
             (λ b. lives-on t (freed t₁) s no-touch (view t .own i) (facts t h .in-namespace _ (own-taken (view t) (facts t h) i (lives-taken (view t) i li))) own-not b (living-own-alive (view t) (facts t h) i li)
-            (isnt-so (λ y. false≢true (sym (end-dies t (sane t h) i e (lives-taken (view t) i li) m) ∙ freed-back t₁ (end-sane t (sane t h) i e li (eqb-false _ _ q) (remainder z)) (view t .own i) y))))
+            (isnt-so (λ y. false≢true (sym (end-dies (sane t h) i e (lives-taken (view t) i li) m) ∙ freed-back (end-sane t (sane t h) i e li (eqb-false _ _ q) (remainder z)) (view t .own i) y))))
 
         still : Still (view t) (view t₁) s (near (view t) s)
-        still = end-still t (sane t h) i e li s o not-above
+        still = end-still (sane t h) i e li o not-above

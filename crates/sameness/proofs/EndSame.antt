@@ -38,8 +38,8 @@ pub record Midway (t u : Table) (s r f g : ℕ) : Type 0 where
   pub same : Same (view t) (view u) s r
   pub from : Twins (view t) (view u) s r f g
 
-pub pair-of : (t u : Table) (s r f g : ℕ) → Midway t u s r f g → Pair (view t) (view u) s r
-pair-of t u s r f g w = record { facts-v = w .sane-t .facts; facts-u = w .sane-u .facts; alive-v = w .alive-s; alive-u = w .alive-r; same = w .same }
+pub pair-of : {t u : Table} {s r f g : ℕ} → Midway t u s r f g → Pair (view t) (view u) s r
+pair-of w = record { facts-v = w .sane-t .facts; facts-u = w .sane-u .facts; alive-v = w .alive-s; alive-u = w .alive-r; same = w .same }
 
 -- a target on each: twins that the callers see, or nobody that lives
 abbrev pub Target : View → View → ℕ → ℕ → ℕ → ℕ → ℕ → Type 0
@@ -77,7 +77,7 @@ ended-end v x e i h =
 
 -- ---- two tables
 
-module _ (v u v′ u′ : View) (s r f g : ℕ) (p : Pair v u s r) (from : Twins v u s r f g) (Q Q′ : ℕ → Bool) (a : Shape v v′ Q) (b : Shape u u′ Q′) (both-remain : (i j : ℕ) → Twin v u s r i j → Q i ≡ Q′ j) where
+module _ {v u v′ u′ : View} {s r f g : ℕ} (p : Pair v u s r) (from : Twins v u s r f g) {Q Q′ : ℕ → Bool} (a : Shape v v′ Q) (b : Shape u u′ Q′) (both-remain : (i j : ℕ) → Twin v u s r i j → Q i ≡ Q′ j) where
   not-living : (z : View) (i : ℕ) → taken z i ≡ false → living z i ≡ false
   unfolding living
   not-living z i h = false-and _ _ (no-so h)
@@ -87,11 +87,11 @@ module _ (v u v′ u′ : View) (s r f g : ℕ) (p : Pair v u s r) (from : Twins
       record {
         lives-v = ap is-alive lt ∙ from .lives-v;
         lives-u = ap is-alive lu ∙ from .lives-u;
-        below-v = below-shape v v′ Q a f s ∙ from .below-v;
-        below-u = below-shape u u′ Q′ b g r ∙ from .below-u;
+        below-v = below-shape a f s ∙ from .below-v;
+        below-u = below-shape b g r ∙ from .below-u;
         inits =
-            ap (λ l. pid-seen v′ s (init-of l)) lt ∙ pid-shape v v′ Q a s (init v f) qt ∙ from .inits
-            ∙ sym (ap (λ l. pid-seen u′ r (init-of l)) lu ∙ pid-shape u u′ Q′ b r (init u g) qu);
+            ap (λ l. pid-seen v′ s (init-of l)) lt ∙ pid-shape a s (init v f) qt ∙ from .inits
+            ∙ sym (ap (λ l. pid-seen u′ r (init-of l)) lu ∙ pid-shape b r (init u g) qu);
       }
 
   targets-after : ((i : ℕ) → living v i ≡ false → living v′ i ≡ false) → ((j : ℕ) → living u j ≡ false → living u′ j ≡ false) → (i j : ℕ) → Target v u s r f i j → Target v′ u′ s r f i j
@@ -99,13 +99,13 @@ module _ (v u v′ u′ : View) (s r f g : ℕ) (p : Pair v u s r) (from : Twins
   targets-after dt du i j (inl (m, h)) = go (Q i) refl
     where
       go : (c : Bool) → Q i ≡ c → Target v′ u′ s r f i j
-      go true q = inl (twin-shape v u v′ u′ s r p Q Q′ a b both-remain i j m q, seen-shape v v′ Q a f i q ∙ h)
+      go true q = inl (twin-shape p a b both-remain m q, seen-shape a f i q ∙ h)
       go false q = inr (not-living v′ i (a .gone i q), not-living u′ j (b .gone j (sym (both-remain i j m) ∙ q)))
 
-remain-shape : (v v′ : View) → Remain v v′ everyone everyone → Shape v v′ everyone
-remain-shape v v′ w = record { owns = w .owns; pids = w .pids; gone = w .gone; ups = fun-ext (λ n. w .ups n refl); levels = fun-ext (λ n. w .levels n refl) }
+remain-shape : {v v′ : View} → Remain v v′ everyone everyone → Shape v v′ everyone
+remain-shape w = record { owns = w .owns; pids = w .pids; gone = w .gone; ups = fun-ext (λ n. w .ups n refl); levels = fun-ext (λ n. w .levels n refl) }
 
-module _ (v u : View) (s r f g x y : ℕ) (e : End) (p : Pair v u s r) (from : Twins v u s r f g) (k : Twin v u s r x y) (sx : So (seen v f x)) (lx : So (living v x)) (fell-v : (i : ℕ) → living v i ≡ false → living (ended-view v x e) i ≡ false) (fell-u : (j : ℕ) → living u j ≡ false → living (ended-view u y e) j ≡ false) (both-init : is-init v x ≡ is-init u y) where
+module _ {v u : View} {s r f g x y : ℕ} (e : End) (p : Pair v u s r) (from : Twins v u s r f g) (k : Twin v u s r x y) (sx : So (seen v f x)) (lx : So (living v x)) (fell-v : (i : ℕ) → living v i ≡ false → living (ended-view v x e) i ≡ false) (fell-u : (j : ℕ) → living u j ≡ false → living (ended-view u y e) j ≡ false) (both-init : is-init v x ≡ is-init u y) where
   own-lives : So (alive v (v .own x))
   own-lives = living-own-alive v (p .facts-v) x lx
 
@@ -116,14 +116,14 @@ module _ (v u : View) (s r f g x y : ℕ) (e : End) (p : Pair v u s r) (from : T
 
   member-after : is-init v x ≡ false → Then false
   member-after h =
-      let a = member-remain v x e in
-      let b = member-remain u y e in (
+      let a = member-remain x e in
+      let b = member-remain y e in (
         (p .alive-v, p .alive-u),
         (
-          member-same v u s r p x y e k own-lives,
+          member-same p e k own-lives,
           (
-            from-after v u (member-of v x e) (member-of u y e) s r f g p from everyone everyone (remain-shape _ _ a) (remain-shape _ _ b) (λ i j m. refl) refl refl refl refl,
-            targets-after v u (member-of v x e) (member-of u y e) s r f g p from everyone everyone (remain-shape _ _ a) (remain-shape _ _ b) (λ i j m. refl) (rw h at fell-v) (rw (sym both-init ∙ h) at fell-u),
+            from-after p from (remain-shape a) (remain-shape b) (λ i j m. refl) refl refl refl refl,
+            targets-after p from (remain-shape a) (remain-shape b) (λ i j m. refl) (rw h at fell-v) (rw (sym both-init ∙ h) at fell-u),
           ),
         ),
       )
@@ -138,30 +138,30 @@ module _ (v u : View) (s r f g x y : ℕ) (e : End) (p : Pair v u s r) (from : T
         lt-of l m = omega arith
 
     -- what lies above does not lie in the subtree
-    out : (z : View) (h : Facts z) (n top : ℕ) → z .level n < z .level top → below z n top ≡ false
-    out z h n top l = isnt-so (λ b. omega (arith, below-level z h n top b))
+    out : {z : View} (h : Facts z) (n top : ℕ) → z .level n < z .level top → below z n top ≡ false
+    out {z} h n top l = isnt-so (λ b. omega (arith, below-level z h n top b))
 
-    spared : (z : View) (h : Facts z) (c n : ℕ) → z .level n < z .level (z .own c) → subtree-gone z (z .own c) c e .life n ≡ z .life n
-    spared z h c n l = ap (λ (b : Bool). if b then Dead else z .life n) (out z h n (z .own c) l)
+    spared : {z : View} (h : Facts z) (c n : ℕ) → z .level n < z .level (z .own c) → subtree-gone z (z .own c) c e .life n ≡ z .life n
+    spared {z} h c n l = ap (λ (b : Bool). if b then Dead else z .life n) (out h n (z .own c) l)
 
     init-after : is-init v x ≡ true → Then true
     init-after h =
-        let tops = owns v u s r p x y k own-lives in
+        let tops = owns p k own-lives in
         let deep : v .level s < v .level (v .own x) = omega (arith, deeper, below-level v (p .facts-v) f s (from .below-v)) in
         let positive : 0 < v .level (v .own x) = omega (arith, deep) in
-        let up = above-pid v u s r p _ _ tops deep in
-        let a = fallen-shape v x e in
-        let b = fallen-shape u y e in
-        let c = both-stay v u s r p x y e k own-lives positive up in
-        let same = twins-level v u s r p _ _ tops in
-        let lu : u .level g < u .level (u .own y) = omega (arith, deeper, same, twins-level v u s r p f g from) in
+        let up = above-pid p tops deep in
+        let a = fallen-shape x e in
+        let b = fallen-shape y e in
+        let c = both-stay p e k own-lives positive up in
+        let same = twins-level p tops in
+        let lu : u .level g < u .level (u .own y) = omega (arith, deeper, same, twins-level p from) in
         let lr : u .level r < u .level (u .own y) = omega (arith, deep, same, p .same .levels) in (
-          (ap is-alive (spared v (p .facts-v) x s deep) ∙ p .alive-v, ap is-alive (spared u (p .facts-u) y r lr) ∙ p .alive-u),
+          (ap is-alive (spared (p .facts-v) x s deep) ∙ p .alive-v, ap is-alive (spared (p .facts-u) y r lr) ∙ p .alive-u),
           (
-            init-same v u s r p x y e k own-lives positive up,
+            init-same p e k own-lives positive up,
             (
-              from-after v u _ _ s r f g p from (stays v x) (stays u y) a b c (spared v (p .facts-v) x f deeper) (spared u (p .facts-u) y g lu) (init-stays v (p .facts-v) x f (from .lives-v) (out v (p .facts-v) f _ deeper)) (init-stays u (p .facts-u) y g (from .lives-u) (out u (p .facts-u) g _ lu)),
-              targets-after v u _ _ s r f g p from (stays v x) (stays u y) a b c (rw h at fell-v) (rw (sym both-init ∙ h) at fell-u),
+              from-after p from a b c (spared (p .facts-v) x f deeper) (spared (p .facts-u) y g lu) (init-stays (p .facts-v) x f (from .lives-v) (out (p .facts-v) f _ deeper)) (init-stays (p .facts-u) y g (from .lives-u) (out (p .facts-u) g _ lu)),
+              targets-after p from a b c (rw h at fell-v) (rw (sym both-init ∙ h) at fell-u),
             ),
           ),
         )
@@ -177,21 +177,21 @@ module _ (v u : View) (s r f g x y : ℕ) (e : End) (p : Pair v u s r) (from : T
       go false h = member-after h
 
 -- the root init is an init, of a namespace at level 0
-zero-init : (v : View) (f : Facts v) (x : ℕ) → x ≡ 0 → So (is-init v x) × (v .level (v .own x) ≡ 0)
+zero-init : {v : View} (f : Facts v) (x : ℕ) → x ≡ 0 → So (is-init v x) × (v .level (v .own x) ≡ 0)
 unfolding is-init
-zero-init v f x z = let e = ap (v .own) z ∙ f .root-own in (eq-eqb (init v (v .own x)) x (ap (init v) e ∙ f .root-init ∙ sym z), ap (v .level) e ∙ f .root-level)
+zero-init {v} f x z = let e = ap (v .own) z ∙ f .root-own in (eq-eqb (init v (v .own x)) x (ap (init v) e ∙ f .root-init ∙ sym z), ap (v .level) e ∙ f .root-level)
 
 -- an end of two twins that live, none of them the init of the callers' own namespace
-pub end-same : (t u : Table) (s r f g x y : ℕ) (e : End) → Midway t u s r f g → Twin (view t) (view u) s r x y → So (seen (view t) f x) → So (living (view t) x) → So (kept-end (Ended e)) → (So (is-init (view t) x) → view t .own x ≡ f → ⊥) → Onward t u s r f g (end t x e) (end u y e)
-end-same t u s r f g x y e w k sx lx ok other =
-    let (alive, (same, (from, targets))) = subst₂ (After (view t) (view u) s r f g) (sym ev) (sym eu) (end-after (view t) (view u) s r f g x y e pr (w .from) k sx lx (ended-end (view t) x e) (ended-end (view u) y e) both-init other) in
+pub end-same : {t u : Table} {s r f g x y : ℕ} (e : End) → Midway t u s r f g → Twin (view t) (view u) s r x y → So (seen (view t) f x) → So (living (view t) x) → So (kept-end (Ended e)) → (So (is-init (view t) x) → view t .own x ≡ f → ⊥) → Onward t u s r f g (end t x e) (end u y e)
+end-same {t} {u} {s} {r} {f} {g} {x} {y} e w k sx lx ok other =
+    let (alive, (same, (from, targets))) = subst₂ (After (view t) (view u) s r f g) (sym ev) (sym eu) (end-after e pr (w .from) k sx lx (ended-end (view t) x e) (ended-end (view u) y e) both-init other) in
     (record { sane-t = end-sane t (w .sane-t) x e lx x-other ok; sane-u = end-sane u (w .sane-u) y e ly y-other ok; alive-s = alive .0; alive-r = alive .1; same = same; from = from }, targets)
   where
     pr : Pair (view t) (view u) s r
-    pr = pair-of t u s r f g w
+    pr = pair-of w
 
     ly : So (living (view u) y)
-    ly = sym (living-twins (view t) (view u) s r pr x y k) ∙ lx
+    ly = sym (living-twins pr k) ∙ lx
 
     lives : So (alive (view t) (view t .own x))
     lives = living-own-alive (view t) (w .sane-t .facts) x lx
@@ -203,13 +203,13 @@ end-same t u s r f g x y e w k sx lx ok other =
     eu = end-view u (w .sane-u) y e (lives-taken (view u) y ly)
 
     both-init : is-init (view t) x ≡ is-init (view u) y
-    both-init = is-init-twins (view t) (view u) s r pr x y k lives
+    both-init = is-init-twins pr k lives
 
     low : So (is-init (view t) x) → view t .level f < view t .level (view t .own x)
-    low h = deeper (view t) (view u) s r f g x y e pr (w .from) k sx lx (ended-end (view t) x e) (ended-end (view u) y e) both-init (other h)
+    low h = deeper e pr (w .from) k sx lx (ended-end (view t) x e) (ended-end (view u) y e) both-init (other h)
 
     x-other : x ≡ 0 → ⊥
-    x-other z = let (i, l) = zero-init (view t) (w .sane-t .facts) x z in omega (arith, l, low i)
+    x-other z = let (i, l) = zero-init (w .sane-t .facts) x z in omega (arith, l, low i)
 
     y-other : y ≡ 0 → ⊥
-    y-other z = let (i, l) = zero-init (view u) (w .sane-u .facts) y z in omega (arith, l, low (both-init ∙ i), twins-level (view t) (view u) s r pr _ _ (owns (view t) (view u) s r pr x y k lives))
+    y-other z = let (i, l) = zero-init (w .sane-u .facts) y z in omega (arith, l, low (both-init ∙ i), twins-level pr (owns pr k lives))

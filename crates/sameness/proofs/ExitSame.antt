@@ -42,14 +42,14 @@ use Rattle.table.specs.declared.State.the-variants.{Ended}
 use Rattle.table.specs.declared.Table.{Table}
 
 -- S and S
-pub tops : (v u : View) (s r : ℕ) (w : Pair v u s r) → Twins v u s r s r
-tops v u s r w =
+pub tops : {v u : View} {s r : ℕ} (w : Pair v u s r) → Twins v u s r s r
+tops {v} {u} {s} {r} w =
     record { lives-v = w .alive-v; lives-u = w .alive-u; below-v = below-refl v s; below-u = below-refl u r; inits = init-pid v (w .facts-v) s (w .alive-v) ∙ sym (init-pid u (w .facts-u) r (w .alive-u)) }
 
 -- the root init calls inside S only if S is the root
-zero-there : (v u : View) (s r : ℕ) (w : Pair v u s r) (i j : ℕ) → Twin v u s r i j → i ≡ 0 → j ≡ 0
+zero-there : {v u : View} {s r : ℕ} (w : Pair v u s r) {i j : ℕ} → Twin v u s r i j → i ≡ 0 → j ≡ 0
 unfolding pid-seen
-zero-there v u s r w i j k z =
+zero-there {v} {u} {s} {r} w {i} {j} k z =
     pid-unique u (w .facts-u) r j 0 (alive-taken u (w .facts-u) r (w .alive-u)) (k .seen-u) zero-seen (sym (k .pids) ∙ one ∙ sym one′)
   where
     level-s : v .level s ≡ 0
@@ -68,22 +68,22 @@ zero-there v u s r w i j k z =
     zero-seen = subst₂ (λ x y. So (seen u x y)) (sym r-root) (w .facts-u .root-init) (init-seen u (w .facts-u) 0 0 (subst (λ x. So (alive u x)) r-root (w .alive-u)) (below-refl u 0))
 
 -- the init of the namespace above S is not seen from S
-above-zero : (v : View) (f : Facts v) (s : ℕ) → So (alive v s) → 0 < v .level s → pid-in v s (init v (v .up s)) ≡ 0
+above-zero : {v : View} (f : Facts v) (s : ℕ) → So (alive v s) → 0 < v .level s → pid-in v s (init v (v .up s)) ≡ 0
 unfolding seen
-above-zero v f s a l =
-    pid-in-unseen v f s (init v (v .up s))
+above-zero {v} f s a l =
+    pid-in-unseen f s (init v (v .up s))
     (bool-ext _ _ (λ h. absurd (omega (arith, below-level v f _ s (right _ _ h), ap (v .level) (init-own v f (v .up s) (alive-up v f s _ a e)), up-level v f s _ e))) (λ h. absurd (false≢true h)))
   where
     e : v .level s ≡ suc (pred (v .level s))
     e = omega arith
 
-unseen-above : (v : View) (f : Facts v) (s n : ℕ) → So (alive v s) → n ≡ s → 0 < v .level s → pid-in v s (init v (v .up n)) ≡ 0
-unseen-above v f s n a e l = ap (λ x. pid-in v s (init v (v .up x))) e ∙ above-zero v f s a l
+unseen-above : {v : View} (f : Facts v) (s n : ℕ) → So (alive v s) → n ≡ s → 0 < v .level s → pid-in v s (init v (v .up n)) ≡ 0
+unseen-above {v} f s n a e l = ap (λ x. pid-in v s (init v (v .up x))) e ∙ above-zero f s a l
 
 -- an init that is not the root's is of a namespace below the root
-init-positive : (v : View) (f : Facts v) (c s : ℕ) → So (is-init v c) → v .own c ≡ s → (c ≡ 0 → ⊥) → So (namespace-taken v s) → 0 < v .level s
+init-positive : {v : View} (f : Facts v) (c s : ℕ) → So (is-init v c) → v .own c ≡ s → (c ≡ 0 → ⊥) → So (namespace-taken v s) → 0 < v .level s
 unfolding is-init
-init-positive v f c s i o n h = lt-of (λ z. n (sym (eqb-true _ _ i) ∙ ap (init v) (o ∙ root-only v f s h z) ∙ f .root-init))
+init-positive {v} f c s i o n h = lt-of (λ z. n (sym (eqb-true _ _ i) ∙ ap (init v) (o ∙ root-only v f s h z) ∙ f .root-init))
   where
     lt-of : (v .level s ≡ 0 → ⊥) → 0 < v .level s
     lt-of k = omega arith
@@ -93,7 +93,7 @@ stands-as : (v u : View) (n : ℕ) → u .level n ≡ v .level n → So (namespa
 unfolding namespace-taken
 stands-as v u n e h = ap (λ x. eqb n 0 or not (eqb x 0)) e ∙ h
 
-module _ (t u : Table) (s r c d : ℕ) (w : Ready t u s r c d) (e : End) (ok : So (kept-end (Ended e))) where
+module _ {t u : Table} {s r c d : ℕ} (w : Ready t u s r c d) (e : End) (ok : So (kept-end (Ended e))) where
   held : Midway t u s r s r
   held =
       record {
@@ -102,20 +102,20 @@ module _ (t u : Table) (s r c d : ℕ) (w : Ready t u s r c d) (e : End) (ok : S
         alive-s = w .pair .alive-v;
         alive-r = w .pair .alive-u;
         same = w .pair .same;
-        from = tops (view t) (view u) s r (w .pair);
+        from = tops (w .pair);
       }
 
   -- S lives on
   lives-on : (So (is-init (view t) c) → view t .own c ≡ s → ⊥) → SoundTable (freed (end t c e)) → SoundTable (freed (end u d e)) → Kept t u s r (answers (freed (end t c e)) 0) (answers (freed (end u d e)) 0)
   unfolding answers granted
   lives-on other h g =
-      let (x, move) = end-same t u s r s r c d e held (w .twin) (w .twin .seen-v) (runs-lives t c (w .runs-t)) ok other in
-      inr (refl, freed-alike t u _ _ (x .sane-t) (x .sane-u) s r (pair-of (end t c e) (end u d e) s r s r x))
+      let (x, move) = end-same e held (w .twin) (w .twin .seen-v) (runs-lives t c (w .runs-t)) ok other in
+      inr (refl, freed-alike t u (x .sane-t) (x .sane-u) (pair-of x))
 
   -- S's init ends
   dies : So (is-init (view t) c) → view t .own c ≡ s → (c ≡ 0 → ⊥) → (d ≡ 0 → ⊥) → SoundTable (freed (end t c e)) → SoundTable (freed (end u d e)) → Kept t u s r (answers (freed (end t c e)) 0) (answers (freed (end u d e)) 0)
   unfolding answers granted
-  dies ic oc nc nd h g = inr (refl, freed-sheets t u (end t c e) (end u d e) ft fu s r (stands t (held .sane-t) c s tc (taken-s t u s r c d w)) (stands u (held .sane-u) d r td (taken-r t u s r c d w)) (λ k. ap (λ (l : ℕ → ℕ). l s) (end-tree t (held .sane-t) c e tc .1)) (λ k. ap (λ (l : ℕ → ℕ). l r) (end-tree u (held .sane-u) d e td .1)) same)
+  dies ic oc nc nd h g = inr (refl, freed-sheets t u ft fu (stands t (held .sane-t) c s tc (taken-s w)) (stands u (held .sane-u) d r td (taken-r w)) (λ k. ap (λ (l : ℕ → ℕ). l s) (end-tree t (held .sane-t) c e tc .1)) (λ k. ap (λ (l : ℕ → ℕ). l r) (end-tree u (held .sane-u) d e td .1)) same)
     where
       p : Pair (view t) (view u) s r
       p = w .pair
@@ -139,16 +139,16 @@ module _ (t u : Table) (s r c d : ℕ) (w : Ready t u s r c d) (e : End) (ok : S
       same =
           subst₂ (λ (a b : View). Same a b s r) (sym (end-view t (held .sane-t) c e tc)) (sym (end-view u (held .sane-u) d e td))
           (subst₂ (λ (a b : Bool). Same (if a then subtree-gone (view t) (view t .own c) c e else member-of (view t) c e) (if b then subtree-gone (view u) (view u .own d) d e else member-of (view u) d e) s r) (sym ic) (sym id)
-          (init-same (view t) (view u) s r p c d e (w .twin) (own-lives t u s r c d w) positive (unseen-above (view t) (p .facts-v) s (view t .own c) (p .alive-v) oc positive-s ∙ sym (unseen-above (view u) (p .facts-u) r (view u .own d) (p .alive-u) od positive-r))))
+          (init-same p e (w .twin) (own-lives w) positive (unseen-above (p .facts-v) s (view t .own c) (p .alive-v) oc positive-s ∙ sym (unseen-above (p .facts-u) r (view u .own d) (p .alive-u) od positive-r))))
         where
           id : So (is-init (view u) d)
-          id = sym (is-init-twins (view t) (view u) s r p c d (w .twin) (own-lives t u s r c d w)) ∙ ic
+          id = sym (is-init-twins p (w .twin) (own-lives w)) ∙ ic
 
           od : view u .own d ≡ r
-          od = twins-unique (view t) (view u) s r p _ _ s r (owns-twins t u s r c d w) (tops (view t) (view u) s r p) oc
+          od = twins-unique p (owns-twins w) (tops p) oc
 
           positive-s : 0 < view t .level s
-          positive-s = init-positive (view t) (p .facts-v) c s ic oc nc (taken-s t u s r c d w)
+          positive-s = init-positive (p .facts-v) c s ic oc nc (taken-s w)
 
           positive-r : 0 < view u .level r
           positive-r = omega (arith, positive-s, p .same .levels)
@@ -163,17 +163,17 @@ exit-same z t u s r c d w h g = go (eqb c 0) refl
   where
     zeros : eqb c 0 ≡ eqb d 0
     zeros =
-        bool-ext _ _ (λ e. eq-eqb d 0 (zero-there (view t) (view u) s r (w .pair) c d (w .twin) (eqb-true c 0 e)))
-        (λ e. eq-eqb c 0 (zero-there (view u) (view t) r s (flip-pair (view t) (view u) s r (w .pair)) d c (flip-twin (view t) (view u) s r c d (w .twin)) (eqb-true d 0 e)))
+        bool-ext _ _ (λ e. eq-eqb d 0 (zero-there (w .pair) (w .twin) (eqb-true c 0 e)))
+        (λ e. eq-eqb c 0 (zero-there (flip-pair (w .pair)) (flip-twin (w .twin)) (eqb-true d 0 e)))
 
     e : End
     e = Exited (status z)
 
     ends : eqb c 0 ≡ false → Dec (view t .own c ≡ s) → (b : Bool) → is-init (view t) c ≡ b → SoundTable (freed (end t c e)) → SoundTable (freed (end u d e)) → Kept t u s r (answers (freed (end t c e)) 0) (answers (freed (end u d e)) 0)
-    ends n (yes o) true i a b = dies t u s r c d w e (remainder z) i o (eqb-false c 0 n) (eqb-false d 0 (sym zeros ∙ n)) a b
-    ends n (yes o) false i a b = lives-on t u s r c d w e (remainder z) (λ j q. false≢true (sym i ∙ j)) a b
-    ends n (no o) i j a b = lives-on t u s r c d w e (remainder z) (λ j q. o q) a b
+    ends n (yes o) true i a b = dies w e (remainder z) i o (eqb-false c 0 n) (eqb-false d 0 (sym zeros ∙ n)) a b
+    ends n (yes o) false i a b = lives-on w e (remainder z) (λ j q. false≢true (sym i ∙ j)) a b
+    ends n (no o) i j a b = lives-on w e (remainder z) (λ j q. o q) a b
 
     go : (b : Bool) → eqb c 0 ≡ b → Kept t u s r (exit t c z) (exit u d z)
-    go true n = rw (n, sym zeros ∙ n, exit) (both-refuse t u s r c d w Ebusy)
+    go true n = rw (n, sym zeros ∙ n, exit) (both-refuse w Ebusy)
     go false n = rw (n, sym zeros ∙ n, exit) (ends n (ℕ-discrete (view t .own c) s) (is-init (view t) c) refl (rw (n, exit) at h) (rw (sym zeros ∙ n, exit) at g))

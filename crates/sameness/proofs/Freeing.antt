@@ -23,7 +23,7 @@ use Rattle.rules.specs.Sound.{SoundTable}
 use Rattle.table.specs.Tests.{if_then_else_}
 use Rattle.table.specs.declared.Table.{Table}
 
-module _ (v : View) (f : Facts v) where
+module _ {v : View} (f : Facts v) where
   -- the view once they are freed
   abbrev w : View
   w = restrict (kept v) v
@@ -43,16 +43,16 @@ module _ (v : View) (f : Facts v) where
       }
 
   seen-freed : (s i : ℕ) → seen w s i ≡ seen v s i
-  seen-freed s i = seen-remain v w (kept v) everyone f remain s i refl
+  seen-freed s i = seen-remain f remain s i refl
 
   row-freed : (s i : ℕ) → So (kept v s) → So (taken v i) → row w s i ≡ row v s i
   unfolding row
   row-freed s i ks h =
-      row-remain v w (kept v) everyone f remain s i ks refl h
-      ∙ (λ z. lit v s i (v .state i) (v .handled i) (v .pending i) (v .unshared i) (pid-in-remain v w (kept v) everyone f remain s (v .parent i) ks refl z) (children z) (last z))
+      row-remain f remain s i ks refl h
+      ∙ (λ z. lit v s i (v .state i) (v .handled i) (v .pending i) (v .unshared i) (pid-in-remain f remain s (v .parent i) ks refl z) (children z) (last z))
     where
       children : name w s (v .children i) ≡ name v s (v .children i)
-      children = ⊎-elim (λ x. name-remain v w (kept v) everyone f remain s (v .children i) ks (kept-children v f i h) x) (λ e. name-no-slot w s _ e ∙ sym (name-no-slot v s _ e)) (children-of v f i h)
+      children = ⊎-elim (λ x. name-remain f remain s (v .children i) ks (kept-children v f i h) x) (λ e. name-no-slot w s _ e ∙ sym (name-no-slot v s _ e)) (children-of v f i h)
 
       last : (if is-init v i then w .last (v .own i) else 0) ≡ (if is-init v i then v .last (v .own i) else 0)
       last = rw (kept-own v f i h)
@@ -92,9 +92,9 @@ empty-sheet v s l h e = λ z. record { level = e z; rows = ap (map (row v s)) (g
     go (x ∷ xs) n = absurd (n x (inl refl))
 
 -- where S is then, and its sheet
-pub sheet-freed : (t₀ t : Table) → Sane t → (s : ℕ) → So (namespace-taken (view t) s) → (kept (view t) s ≡ false → view t .level s ≡ view t₀ .level s) → sheet-of (freed t) (follow t₀ (freed t) (at s)) ≡ sheet (view t) s
+pub sheet-freed : (t₀ : Table) {t : Table} → Sane t → (s : ℕ) → So (namespace-taken (view t) s) → (kept (view t) s ≡ false → view t .level s ≡ view t₀ .level s) → sheet-of (freed t) (follow t₀ (freed t) (at s)) ≡ sheet (view t) s
 unfolding follow sheet-of
-sheet-freed t₀ t x s h e = go (kept (view t) s) refl
+sheet-freed t₀ {t} x s h e = go (kept (view t) s) refl
   where
     f : Facts (view t)
     f = x .facts
@@ -104,20 +104,20 @@ sheet-freed t₀ t x s h e = go (kept (view t) s) refl
 
     go : (b : Bool) → kept (view t) s ≡ b → sheet-of (freed t) (if namespace-taken (view (freed t)) s then at s else gone (view t₀ .level s)) ≡ sheet (view t) s
     go true k =
-        rw (ap (λ (u : View). namespace-taken u s) ev ∙ stands-freed (view t) f s k h)
-        (ap (λ (u : View). sheet u s) ev ∙ sheets-of-same _ (view t) s s (subst Facts ev (facts (freed t) (freed-keeps t (x .shape-of) f))) f (stands-freed (view t) f s k h) h (same-freed (view t) f s k))
-    go false k = rw (ap (λ (u : View). namespace-taken u s) ev ∙ gone-freed (view t) f s k) (sym (empty-sheet (view t) s _ (nobody-freed (view t) f s k) (e k)))
+        rw (ap (λ (u : View). namespace-taken u s) ev ∙ stands-freed f s k h)
+        (ap (λ (u : View). sheet u s) ev ∙ sheets-of-same (subst Facts ev (facts (freed t) (freed-keeps t (x .shape-of) f))) f (stands-freed f s k h) h (same-freed f s k))
+    go false k = rw (ap (λ (u : View). namespace-taken u s) ev ∙ gone-freed f s k) (sym (empty-sheet (view t) s _ (nobody-freed f s k) (e k)))
 
 -- two tables in the middle of a call that are the same to S: so they are once freed
-pub freed-sheets : (t u t₁ u₁ : Table) → Sane t₁ → Sane u₁ → (s r : ℕ) → So (namespace-taken (view t₁) s) → So (namespace-taken (view u₁) r) → (kept (view t₁) s ≡ false → view t₁ .level s ≡ view t .level s) → (kept (view u₁) r ≡ false → view u₁ .level r ≡ view u .level r) → Same (view t₁) (view u₁) s r → sheet-of (freed t₁) (follow t (freed t₁) (at s)) ≡ sheet-of (freed u₁) (follow u (freed u₁) (at r))
-freed-sheets t u t₁ u₁ a b s r hs hr es er w = sheet-freed t t₁ a s hs es ∙ sheets-of-same (view t₁) (view u₁) s r (a .facts) (b .facts) hs hr w ∙ sym (sheet-freed u u₁ b r hr er)
+pub freed-sheets : (t u : Table) {t₁ u₁ : Table} → Sane t₁ → Sane u₁ → {s r : ℕ} → So (namespace-taken (view t₁) s) → So (namespace-taken (view u₁) r) → (kept (view t₁) s ≡ false → view t₁ .level s ≡ view t .level s) → (kept (view u₁) r ≡ false → view u₁ .level r ≡ view u .level r) → Same (view t₁) (view u₁) s r → sheet-of (freed t₁) (follow t (freed t₁) (at s)) ≡ sheet-of (freed u₁) (follow u (freed u₁) (at r))
+freed-sheets t u a b {s} {r} hs hr es er w = sheet-freed t a s hs es ∙ sheets-of-same (a .facts) (b .facts) hs hr w ∙ sym (sheet-freed u b r hr er)
 
 -- and where S lives
-pub freed-alike : (t u t₁ u₁ : Table) → Sane t₁ → Sane u₁ → (s r : ℕ) → Pair (view t₁) (view u₁) s r → sheet-of (freed t₁) (follow t (freed t₁) (at s)) ≡ sheet-of (freed u₁) (follow u (freed u₁) (at r))
-freed-alike t u t₁ u₁ a b s r p =
-    freed-sheets t u t₁ u₁ a b s r (alive-taken (view t₁) (a .facts) s (p .alive-v)) (alive-taken (view u₁) (b .facts) r (p .alive-u))
-    (λ k. absurd (no-so k (alive-kept (view t₁) (a .facts) s (p .alive-v)))) (λ k. absurd (no-so k (alive-kept (view u₁) (b .facts) r (p .alive-u)))) (p .same)
+pub freed-alike : (t u : Table) {t₁ u₁ : Table} → Sane t₁ → Sane u₁ → {s r : ℕ} → Pair (view t₁) (view u₁) s r → sheet-of (freed t₁) (follow t (freed t₁) (at s)) ≡ sheet-of (freed u₁) (follow u (freed u₁) (at r))
+freed-alike t u {t₁} {u₁} a b {s} {r} p =
+    freed-sheets t u a b (alive-taken (view t₁) (a .facts) s (p .alive-v)) (alive-taken (view u₁) (b .facts) r (p .alive-u))
+    (λ k. absurd (no-so k (alive-kept (a .facts) s (p .alive-v)))) (λ k. absurd (no-so k (alive-kept (b .facts) r (p .alive-u)))) (p .same)
 
 -- a table in the middle of an outsider's call that is the same to S as before
-pub freed-leaves : (t t₁ : Table) (s : ℕ) → SoundTable t → Sane t₁ → So (namespace-taken (view t) s) → So (namespace-taken (view t₁) s) → Same (view t₁) (view t) s s → sheet-of (freed t₁) (follow t (freed t₁) (at s)) ≡ sheet (view t) s
-freed-leaves t t₁ s h x hs hs₁ w = sheet-freed t t₁ x s hs₁ (λ k. w .levels) ∙ sheets-of-same (view t₁) (view t) s s (x .facts) (facts t h) hs₁ hs w
+pub freed-leaves : {t t₁ : Table} {s : ℕ} → SoundTable t → Sane t₁ → So (namespace-taken (view t) s) → So (namespace-taken (view t₁) s) → Same (view t₁) (view t) s s → sheet-of (freed t₁) (follow t (freed t₁) (at s)) ≡ sheet (view t) s
+freed-leaves {t} {s} h x hs hs₁ w = sheet-freed t x s hs₁ (λ k. w .levels) ∙ sheets-of-same (x .facts) (facts t h) hs₁ hs w

@@ -54,6 +54,6 @@ unfolding refused sheet-of
 refused-same t u s r e hs hr q = inr (refl, rw (follow-self t (at s) hs, follow-self u (at r) hr) q)
 
 -- S stands after the call, and the tables are the same to it
-pub stands-same : (t u t′ u′ : Table) (s r : ℕ) → SoundTable t′ → SoundTable u′ → So (namespace-taken (view t′) s) → So (namespace-taken (view u′) r) → Same (view t′) (view u′) s r → sheet-of t′ (follow t t′ (at s)) ≡ sheet-of u′ (follow u u′ (at r))
+pub stands-same : (t u : Table) {t′ u′ : Table} {s r : ℕ} → SoundTable t′ → SoundTable u′ → So (namespace-taken (view t′) s) → So (namespace-taken (view u′) r) → Same (view t′) (view u′) s r → sheet-of t′ (follow t t′ (at s)) ≡ sheet-of u′ (follow u u′ (at r))
 unfolding follow sheet-of
-stands-same t u t′ u′ s r h g hs hr w = rw (hs, hr) (sheets-of-same (view t′) (view u′) s r (facts t′ h) (facts u′ g) hs hr w)
+stands-same t u {t′} {u′} h g hs hr w = rw (hs, hr) (sheets-of-same (facts t′ h) (facts u′ g) hs hr w)

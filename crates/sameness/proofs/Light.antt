@@ -23,8 +23,8 @@ use Rattle.table.specs.declared.Table.{Table}
 abbrev pub relight : View → View → View
 relight v x = record { own = v .own; children = x .children; parent = v .parent; state = x .state; ended = x .ended; handled = x .handled; pending = x .pending; unshared = x .unshared; pid = v .pid; up = v .up; level = v .level; last = v .last; life = v .life }
 
-pub light-remain : (v v′ : View) → v′ ≡ relight v v′ → Remain v v′ everyone everyone
-light-remain v v′ p =
+pub light-remain : {v v′ : View} → v′ ≡ relight v v′ → Remain v v′ everyone everyone
+light-remain p =
     record {
       owns = λ i q. ap (λ (y : View). y .own i) p;
       pids = λ i l q. ap (λ (y : View). y .pid i l) p;
@@ -62,12 +62,12 @@ pub record Lights (v u v′ u′ : View) (s r i j : ℕ) : Type 0 where
   pub childrens : name v s (v′ .children i) ≡ name u r (u′ .children j)
 
 -- the tables stay the same to S if each twin pair shows the same
-pub same-light : (v u v′ u′ : View) (s r : ℕ) → Pair v u s r → v′ ≡ relight v v′ → u′ ≡ relight u u′ → ((i j : ℕ) → Twin v u s r i j → Lights v u v′ u′ s r i j) → Same v′ u′ s r
+pub same-light : {v u v′ u′ : View} {s r : ℕ} → Pair v u s r → v′ ≡ relight v v′ → u′ ≡ relight u u′ → ((i j : ℕ) → Twin v u s r i j → Lights v u v′ u′ s r i j) → Same v′ u′ s r
 unfolding row
-same-light v u v′ u′ s r w pv pu h =
-    same-remain v u v′ u′ s r w everyone everyone everyone everyone (light-remain v v′ pv) (light-remain u u′ pu) refl refl (λ i j k. refl)
+same-light {v} {u} {v′} {u′} {s} {r} w pv pu h =
+    same-remain w (light-remain pv) (light-remain pu) refl refl (λ i j k. refl)
     (λ i j k q.
-    let rows = twin-rows v u s r w i j k in
+    let rows = twin-rows w k in
     let l = h i j k in
     record {
       states = l .states;
@@ -104,7 +104,7 @@ pub record Placed (p q : Process) : Type 0 where
   pub parents : p .parent ≡ q .parent
   pub pids : p .pids ≡ q .pids
 
-module _ (t : Table) (c : ℕ) (p : Process) (k : Placed p (process t c)) where
+module _ (t : Table) (c : ℕ) {p : Process} (k : Placed p (process t c)) where
   -- what is read of the table with it
   pub put-light : view (put t c p) ≡ relight (view t) (view (put t c p))
   put-light =

@@ -26,53 +26,53 @@ abbrev pub member-of : View → ℕ → End → View
 member-of v x e = member-gone v x (init v (v .own x)) e
 
 -- all processes and namespaces stand
-pub member-remain : (v : View) (x : ℕ) (e : End) → Remain v (member-of v x e) everyone everyone
+pub member-remain : {v : View} (x : ℕ) (e : End) → Remain v (member-of v x e) everyone everyone
 unfolding taken
-member-remain v x e =
+member-remain x e =
     record { owns = λ i q. refl; pids = λ i l q. refl; gone = λ i q. absurd (false≢true (sym q)); ups = λ n h. refl; levels = λ n h. refl; lives = λ n h. refl; up-kept = λ n k h q. refl; own-kept = λ i q h. refl; init-kept = λ n h a. refl }
 
-module _ (v : View) (f : Facts v) (x : ℕ) (e : End) (s i : ℕ) where
+module _ {v : View} (f : Facts v) (x : ℕ) (e : End) (s i : ℕ) where
   abbrev after : View
   after = member-of v x e
 
   parent-after : pid-in after s (after .parent i) ≡ (if eqb i x then pid-in v s (v .parent i) else (if child-of v x i then pid-in v s (init v (v .own x)) else pid-in v s (v .parent i)))
   parent-after =
-      pid-in-remain v after everyone everyone f (member-remain v x e) s (after .parent i) refl refl
+      pid-in-remain f (member-remain x e) s (after .parent i) refl refl
       ∙ pick (pid-in v s) (eqb i x) _ _ ∙ ap (λ (n : ℕ). if eqb i x then pid-in v s (v .parent i) else n) (pick (pid-in v s) (child-of v x i) _ _)
 
   children-after : So (taken v i) → name after s (after .children i) ≡ (if eqb i x then name v s no-slot else name v s (v .children i))
   children-after h =
-      ⊎-elim (λ k. name-remain v after everyone everyone f (member-remain v x e) s _ refl refl k) (λ z. name-no-slot after s _ z ∙ sym (name-no-slot v s _ z))
+      ⊎-elim (λ k. name-remain f (member-remain x e) s _ refl refl k) (λ z. name-no-slot after s _ z ∙ sym (name-no-slot v s _ z))
       (choose (λ n. So (namespace-taken v n) ⊎ (n ≡ no-slot)) (eqb i x) (λ a. inr refl) (λ a. children-of v f i h))
       ∙ pick (name v s) (eqb i x) no-slot (v .children i)
 
-module _ (v u : View) (s r : ℕ) (p : Pair v u s r) (x y : ℕ) (e : End) (k : Twin v u s r x y) (lives : So (alive v (v .own x))) where
+module _ {v u : View} {s r : ℕ} (p : Pair v u s r) {x y : ℕ} (e : End) (k : Twin v u s r x y) (lives : So (alive v (v .own x))) where
   -- the inits that take the children
   reapers : pid-in v s (init v (v .own x)) ≡ pid-in u r (init u (u .own y))
   reapers =
-      let l = owns v u s r p x y k lives in
+      let l = owns p k lives in
       pid-in-seen v s _ (init-seen v (p .facts-v) _ s (l .lives-v) (l .below-v)) ∙ l .inits ∙ sym (pid-in-seen u r _ (init-seen u (p .facts-u) _ r (l .lives-u) (l .below-u)))
 
-  member-lit : (i j : ℕ) → Twin v u s r i j → Lit v u (member-of v x e) (member-of u y e) s r i j
+  member-lit : {i j : ℕ} → Twin v u s r i j → Lit v u (member-of v x e) (member-of u y e) s r i j
   unfolding row
-  member-lit i j m =
-      let rows = twin-rows v u s r p i j m in
-      let slot = twin-eqb v u s r p i j x y m k in
-      let child = child-twins v u s r p i j x y m k in
+  member-lit {i} {j} m =
+      let rows = twin-rows p m in
+      let slot = twin-eqb p m k in
+      let child = child-twins p m k in
       let none = name-no-slot v s no-slot refl ∙ sym (name-no-slot u r no-slot refl) in
       record {
         states = λ z. if slot z then Ended e else rows z .state;
         handleds = λ z. if slot z then 0 else rows z .handled;
         pendings = λ z. if slot z then 0 else rows z .pending;
         marks = λ z. if slot z then false else rows z .unshared;
-        parents = parent-after v (p .facts-v) x e s i ∙ (λ z. if slot z then rows z .parent else (if child z then reapers z else rows z .parent)) ∙ sym (parent-after u (p .facts-u) y e r j);
+        parents = parent-after (p .facts-v) x e s i ∙ (λ z. if slot z then rows z .parent else (if child z then reapers z else rows z .parent)) ∙ sym (parent-after (p .facts-u) y e r j);
         childrens =
-            children-after v (p .facts-v) x e s i (seen-taken v s i (m .seen-v))
+            children-after (p .facts-v) x e s i (seen-taken v s i (m .seen-v))
             ∙ (λ z. if slot z then none z else rows z .children)
-            ∙ sym (children-after u (p .facts-u) y e r j (seen-taken u r j (m .seen-u)));
+            ∙ sym (children-after (p .facts-u) y e r j (seen-taken u r j (m .seen-u)));
         lasts = λ z. rows z .last;
       }
 
   -- each row is the same on both
   pub member-same : Same (member-of v x e) (member-of u y e) s r
-  member-same = same-remain v u (member-of v x e) (member-of u y e) s r p everyone everyone everyone everyone (member-remain v x e) (member-remain u y e) refl refl (λ i j m. refl) (λ i j m q. member-lit i j m)
+  member-same = same-remain p (member-remain x e) (member-remain y e) refl refl (λ i j m. refl) (λ i j m q. member-lit m)

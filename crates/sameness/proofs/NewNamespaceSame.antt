@@ -45,7 +45,7 @@ use Rattle.table.specs.declared.Life.the-variants.{Unborn}
 use Rattle.table.specs.declared.Refusal.the-variants.{Einval, Enospc}
 use Rattle.table.specs.declared.Table.{Table}
 
-module _ (t : Table) (f : Sane t) (c : ℕ) (room : free-namespace-slot (view t) ≡ namespace-slots → ⊥) where
+module _ {t : Table} (f : Sane t) (c : ℕ) (room : free-namespace-slot (view t) ≡ namespace-slots → ⊥) where
   abbrev pub x : ℕ
   x = free-namespace-slot (view t)
 
@@ -106,14 +106,14 @@ module _ (t : Table) (f : Sane t) (c : ℕ) (room : free-namespace-slot (view t)
   unfolding name name-by
   x-name s = rw (ne-eqb x no-slot (λ e. omega (arith, free-namespace-is (view t) room .0)), ap (λ q. q .life) the-namespace) refl
 
-module _ (t : Table) (ft : Sane t) (c : ℕ) (room : free-namespace-slot (view t) ≡ namespace-slots → ⊥) (s : ℕ) (hs : So (namespace-taken (view t) s)) where
-  R : Remain (view t) (view (new-namespace t c)) (K t ft c room) everyone
-  R = namespace-remain t ft c room
+module _ {t : Table} (ft : Sane t) (c : ℕ) (room : free-namespace-slot (view t) ≡ namespace-slots → ⊥) (s : ℕ) (hs : So (namespace-taken (view t) s)) where
+  R : Remain (view t) (view (new-namespace t c)) (K ft c room) everyone
+  R = namespace-remain ft c room
 
-  stays : (n : ℕ) → So (namespace-taken (view t) n) → So (K t ft c room n)
-  stays n k = ap not (ne-eqb n (free-namespace-slot (view t)) (taken-other t ft c room n k))
+  stays : (n : ℕ) → So (namespace-taken (view t) n) → So (K ft c room n)
+  stays n k = ap not (ne-eqb n (free-namespace-slot (view t)) (taken-other ft c room n k))
 
-  new-still : Still (view t) (view (new-namespace t c)) s (K t ft c room)
+  new-still : Still (view t) (view (new-namespace t c)) s (K ft c room)
   unfolding new-namespace
   new-still =
       record {
@@ -124,7 +124,7 @@ module _ (t : Table) (ft : Sane t) (c : ℕ) (room : free-namespace-slot (view t
         ups = R .ups;
         levels = R .levels;
         lives = R .lives;
-        seens = λ i. seen-remain (view t) (view (new-namespace t c)) (K t ft c room) everyone (ft .facts) R s i refl;
+        seens = λ i. seen-remain (ft .facts) R s i refl;
         owns = λ i k. refl;
         pids = λ i l k. refl;
         states = λ i k. refl;
@@ -133,15 +133,15 @@ module _ (t : Table) (ft : Sane t) (c : ℕ) (room : free-namespace-slot (view t
         marks = λ i k. refl;
         childrens = λ i k. refl;
         parents = λ i k. refl;
-        lasts = λ i k. ap (λ z. z .last .0) (getD-set-other (t .namespaces) (free-namespace-slot (view t)) (view t .own i) _ no-namespace (taken-other t ft c room _ (own-taken (view t) (ft .facts) i (seen-taken (view t) s i k))));
+        lasts = λ i k. ap (λ z. z .last .0) (getD-set-other (t .namespaces) (free-namespace-slot (view t)) (view t .own i) _ no-namespace (taken-other ft c room _ (own-taken (view t) (ft .facts) i (seen-taken (view t) s i k))));
       }
 
   -- a fresh namespace changes nothing for S
   pub new-same : Same (view (new-namespace t c)) (view t) s s
-  new-same = same-still (view t) (view (new-namespace t c)) s (K t ft c room) (ft .facts) new-still
+  new-same = same-still (ft .facts) new-still
 
   pub new-stands : So (namespace-taken (view (new-namespace t c)) s)
-  new-stands = stands-still (view t) (view (new-namespace t c)) s (K t ft c room) (ft .facts) new-still hs
+  new-stands = stands-still (ft .facts) new-still hs
 
   pub new-seen : (i : ℕ) → seen (view (new-namespace t c)) s i ≡ seen (view t) s i
   new-seen i = new-still .seens i
@@ -152,12 +152,12 @@ module _ (t : Table) (ft : Sane t) (c : ℕ) (room : free-namespace-slot (view t
   new-outside tc f₁ o = bool-ext _ _ (λ b. absurd (go b (ℕ-discrete (view (new-namespace t c) .level (free-namespace-slot (view t))) (view (new-namespace t c) .level s)))) (λ b. absurd (false≢true b))
     where
       go : So (below (view (new-namespace t c)) (free-namespace-slot (view t)) s) → Dec (view (new-namespace t c) .level (free-namespace-slot (view t)) ≡ view (new-namespace t c) .level s) → ⊥
-      go b (yes e) = taken-other t ft c room s hs (sym (below-same (view (new-namespace t c)) (f₁ .facts) (free-namespace-slot (view t)) s b e))
+      go b (yes e) = taken-other ft c room s hs (sym (below-same (view (new-namespace t c)) (f₁ .facts) (free-namespace-slot (view t)) s b e))
       go b (no e) =
           false≢true
           (sym o ∙ both _ _ tc
-          (sym (below-remain (view t) (view (new-namespace t c)) (K t ft c room) everyone (ft .facts) R (view t .own c) s (stays _ (own-taken (view t) (ft .facts) c tc)))
-          ∙ subst (λ n. So (below (view (new-namespace t c)) n s)) (ap (λ z. z .parent .0) (the-namespace t ft c room)) (below-parent (view (new-namespace t c)) (f₁ .facts) (free-namespace-slot (view t)) s b (strict (below-level (view (new-namespace t c)) (f₁ .facts) (free-namespace-slot (view t)) s b) e))))
+          (sym (below-remain (ft .facts) R (view t .own c) s (stays _ (own-taken (view t) (ft .facts) c tc)))
+          ∙ subst (λ n. So (below (view (new-namespace t c)) n s)) (ap (λ z. z .parent .0) (the-namespace ft c room)) (below-parent (view (new-namespace t c)) (f₁ .facts) (free-namespace-slot (view t)) s b (strict (below-level (view (new-namespace t c)) (f₁ .facts) (free-namespace-slot (view t)) s b) e))))
         where
           strict : view (new-namespace t c) .level s ≤ view (new-namespace t c) .level (free-namespace-slot (view t)) → (view (new-namespace t c) .level (free-namespace-slot (view t)) ≡ view (new-namespace t c) .level s → ⊥) → view (new-namespace t c) .level s < view (new-namespace t c) .level (free-namespace-slot (view t))
           strict l n = omega arith
@@ -173,7 +173,7 @@ still-there t c i h = h
 
 -- ---- two tables
 
-module _ (t u : Table) (s r c d : ℕ) (w : Ready t u s r c d) (ot : own-level (view t) c ≡ deepest → ⊥) (ou : own-level (view u) d ≡ deepest → ⊥) (rt : free-namespace-slot (view t) ≡ namespace-slots → ⊥) (ru : free-namespace-slot (view u) ≡ namespace-slots → ⊥) where
+module _ {t u : Table} {s r c d : ℕ} (w : Ready t u s r c d) (ot : own-level (view t) c ≡ deepest → ⊥) (ou : own-level (view u) d ≡ deepest → ⊥) (rt : free-namespace-slot (view t) ≡ namespace-slots → ⊥) (ru : free-namespace-slot (view u) ≡ namespace-slots → ⊥) where
   ft : Sane t
   ft = sane t (w .sound-t)
 
@@ -194,49 +194,49 @@ module _ (t u : Table) (s r c d : ℕ) (w : Ready t u s r c d) (ot : own-level (
 
   new-pair : Pair (view tn) (view un) s r
   new-pair =
-      let kt = alive-kept-there t ft c rt s (w .pair .alive-v) in
-      let ku = alive-kept-there u fu d ru r (w .pair .alive-u) in
+      let kt = alive-kept-there ft c rt s (w .pair .alive-v) in
+      let ku = alive-kept-there fu d ru r (w .pair .alive-u) in
       record {
         facts-v = gt .facts;
         facts-u = gu .facts;
-        alive-v = ap is-alive (namespace-remain t ft c rt .lives s kt) ∙ w .pair .alive-v;
-        alive-u = ap is-alive (namespace-remain u fu d ru .lives r ku) ∙ w .pair .alive-u;
+        alive-v = ap is-alive (namespace-remain ft c rt .lives s kt) ∙ w .pair .alive-v;
+        alive-u = ap is-alive (namespace-remain fu d ru .lives r ku) ∙ w .pair .alive-u;
         same =
-            same-trans (view tn) (view t) (view un) s s r (new-same t ft c rt s (taken-s t u s r c d w))
-            (same-trans (view t) (view u) (view un) s r r (w .pair .same) (flip-same (view un) (view u) r r (new-same u fu d ru r (taken-r t u s r c d w))));
+            same-trans (new-same ft c rt s (taken-s w))
+            (same-trans (w .pair .same) (flip-same (new-same fu d ru r (taken-r w))));
       }
 
-  new-twin : (i j : ℕ) → Twin (view t) (view u) s r i j → Twin (view tn) (view un) s r i j
-  new-twin i j m =
+  new-twin : {i j : ℕ} → Twin (view t) (view u) s r i j → Twin (view tn) (view un) s r i j
+  new-twin {i} {j} m =
       record {
-        seen-v = seen-remain (view t) (view tn) (K t ft c rt) everyone (ft .facts) (namespace-remain t ft c rt) s i refl ∙ m .seen-v;
-        seen-u = seen-remain (view u) (view un) (K u fu d ru) everyone (fu .facts) (namespace-remain u fu d ru) r j refl ∙ m .seen-u;
-        pids = pid-remain (view t) (view tn) (K t ft c rt) everyone (ft .facts) (namespace-remain t ft c rt) s i (alive-kept-there t ft c rt s (w .pair .alive-v)) refl ∙ m .pids ∙ sym (pid-remain (view u) (view un) (K u fu d ru) everyone (fu .facts) (namespace-remain u fu d ru) r j (alive-kept-there u fu d ru r (w .pair .alive-u)) refl);
+        seen-v = seen-remain (ft .facts) (namespace-remain ft c rt) s i refl ∙ m .seen-v;
+        seen-u = seen-remain (fu .facts) (namespace-remain fu d ru) r j refl ∙ m .seen-u;
+        pids = pid-remain (ft .facts) (namespace-remain ft c rt) s i (alive-kept-there ft c rt s (w .pair .alive-v)) refl ∙ m .pids ∙ sym (pid-remain (fu .facts) (namespace-remain fu d ru) r j (alive-kept-there fu d ru r (w .pair .alive-u)) refl);
       }
 
   -- ---- unshare
 
-  stands-here : (z : Table) (f : Sane z) (e : ℕ) (room : free-namespace-slot (view z) ≡ namespace-slots → ⊥) (q : ℕ) → So (alive (view z) q) → So (namespace-taken (view (new-namespace z e)) q)
-  stands-here z f e room q a = standing (view z) (view (new-namespace z e)) (K z f e room) everyone (namespace-remain z f e room) q (alive-kept-there z f e room q a) (alive-taken (view z) (f .facts) q a)
+  stands-here : {z : Table} (f : Sane z) (e : ℕ) (room : free-namespace-slot (view z) ≡ namespace-slots → ⊥) (q : ℕ) → So (alive (view z) q) → So (namespace-taken (view (new-namespace z e)) q)
+  stands-here {z} f e room q a = standing (namespace-remain f e room) q (alive-kept-there f e room q a) (alive-taken (view z) (f .facts) q a)
 
   unshared-kept : Kept t u s r (answers (set-children tn c (free-namespace-slot (view t)) true) 0) (answers (set-children un d (free-namespace-slot (view u)) true) 0)
   unfolding set-children answers granted
   unshared-kept =
-      let k = new-twin c d (w .twin) in
+      let k = new-twin (w .twin) in
       let z = shown tn un s r new-pair c d k in
       let a = unshare-sane t (w .sound-t) c (w .runs-t) ot rt in
       let b = unshare-sane u (w .sound-u) d (w .runs-u) ou ru in
       inr (
         refl,
-        freed-alike t u _ _ a b s r
+        freed-alike t u a b
             (record {
               facts-v = a .facts;
               facts-u = b .facts;
               alive-v = new-pair .alive-v;
               alive-u = new-pair .alive-u;
               same =
-                  same-put tn un s r c d new-pair k (omega (arith, process-count tn (gt .shape-of), ft .facts .in-range c (seen-taken (view t) s c (w .twin .seen-v)))) (omega (arith, process-count un (gu .shape-of), fu .facts .in-range d (seen-taken (view u) r d (w .twin .seen-u)))) _ _ (record { owns = refl; parents = refl; pids = refl }) (record { owns = refl; parents = refl; pids = refl })
-                  (record { states = z .states; handleds = z .handleds; pendings = z .pendings; marks = refl; childrens = x-name t ft c rt s ∙ sym (x-name u fu d ru r) });
+                  same-put tn un new-pair k (omega (arith, process-count tn (gt .shape-of), ft .facts .in-range c (seen-taken (view t) s c (w .twin .seen-v)))) (omega (arith, process-count un (gu .shape-of), fu .facts .in-range d (seen-taken (view u) r d (w .twin .seen-u)))) (record { owns = refl; parents = refl; pids = refl }) (record { owns = refl; parents = refl; pids = refl })
+                  (record { states = z .states; handleds = z .handleds; pendings = z .pendings; marks = refl; childrens = x-name ft c rt s ∙ sym (x-name fu d ru r) });
             }),
       )
 
@@ -244,48 +244,48 @@ module _ (t u : Table) (s r c d : ℕ) (w : Ready t u s r c d) (ot : own-level (
 
   new-owns : Twins (view tn) (view un) s r (view t .own c) (view u .own d)
   new-owns =
-      subst₂ (λ a b. Twins (view tn) (view un) s r a b) (namespace-remain t ft c rt .owns c refl) (namespace-remain u fu d ru .owns d refl)
-      (owns (view tn) (view un) s r new-pair c d (new-twin c d (w .twin)) (subst (λ n. So (alive (view tn) n)) (sym (namespace-remain t ft c rt .owns c refl)) (ap is-alive (namespace-remain t ft c rt .lives (view t .own c) (alive-kept-there t ft c rt _ (own-lives t u s r c d w))) ∙ own-lives t u s r c d w)))
+      subst₂ (λ a b. Twins (view tn) (view un) s r a b) (namespace-remain ft c rt .owns c refl) (namespace-remain fu d ru .owns d refl)
+      (owns new-pair (new-twin (w .twin)) (subst (λ n. So (alive (view tn) n)) (sym (namespace-remain ft c rt .owns c refl)) (ap is-alive (namespace-remain ft c rt .lives (view t .own c) (alive-kept-there ft c rt _ (own-lives w))) ∙ own-lives w)))
 
   new-cradles : Cradles (view tn) (view un) s r (free-namespace-slot (view t)) (free-namespace-slot (view u))
   new-cradles =
       inr
       (record {
-        unborn-v = unborn-there t ft c rt;
-        unborn-u = unborn-there u fu d ru;
-        lasts = ap (λ q. q .last .0) (the-namespace t ft c rt) ∙ sym (ap (λ q. q .last .0) (the-namespace u fu d ru));
-        ups = subst₂ (λ a b. Twins (view tn) (view un) s r a b) (sym (ap (λ q. q .parent .0) (the-namespace t ft c rt))) (sym (ap (λ q. q .parent .0) (the-namespace u fu d ru))) new-owns;
-        level-v = one-up (view tn) (gt .facts) _ (unborn-there t ft c rt) (x-taken t ft c rt);
-        level-u = one-up (view un) (gu .facts) _ (unborn-there u fu d ru) (x-taken u fu d ru);
+        unborn-v = unborn-there ft c rt;
+        unborn-u = unborn-there fu d ru;
+        lasts = ap (λ q. q .last .0) (the-namespace ft c rt) ∙ sym (ap (λ q. q .last .0) (the-namespace fu d ru));
+        ups = subst₂ (λ a b. Twins (view tn) (view un) s r a b) (sym (ap (λ q. q .parent .0) (the-namespace ft c rt))) (sym (ap (λ q. q .parent .0) (the-namespace fu d ru))) new-owns;
+        level-v = one-up (gt .facts) _ (unborn-there ft c rt) (x-taken ft c rt);
+        level-u = one-up (gu .facts) _ (unborn-there fu d ru) (x-taken fu d ru);
       })
 
   -- the fresh namespace lies below S
-  fresh-below : (z : Table) (f : Sane z) (e : ℕ) (room : free-namespace-slot (view z) ≡ namespace-slots → ⊥) (g : Facts (view (new-namespace z e))) (q : ℕ) → So (below (view (new-namespace z e)) (view z .own e) q) → So (below (view (new-namespace z e)) (free-namespace-slot (view z)) q)
-  fresh-below z f e room g q h =
+  fresh-below : {z : Table} (f : Sane z) (e : ℕ) (room : free-namespace-slot (view z) ≡ namespace-slots → ⊥) (g : Facts (view (new-namespace z e))) (q : ℕ) → So (below (view (new-namespace z e)) (view z .own e) q) → So (below (view (new-namespace z e)) (free-namespace-slot (view z)) q)
+  fresh-below {z} f e room g q h =
       below-trans (view (new-namespace z e)) g _ (view z .own e) q
-      (subst (λ n. So (below (view (new-namespace z e)) (free-namespace-slot (view z)) n)) (ap (λ q. q .parent .0) (the-namespace z f e room)) (up-below (view (new-namespace z e)) g (free-namespace-slot (view z)) _ (ap (λ q. q .level) (the-namespace z f e room)))) h
+      (subst (λ n. So (below (view (new-namespace z e)) (free-namespace-slot (view z)) n)) (ap (λ q. q .parent .0) (the-namespace f e room)) (up-below g (free-namespace-slot (view z)) _ (ap (λ q. q .level) (the-namespace f e room)))) h
 
   cloned-kept : (free-slot (view t) ≡ process-slots → ⊥) → (free-slot (view u) ≡ process-slots → ⊥) → SoundTable (birth tn c (free-namespace-slot (view t))) → SoundTable (birth un d (free-namespace-slot (view u))) → Kept t u s r (born t c (birth tn c (free-namespace-slot (view t)))) (born u d (birth un d (free-namespace-slot (view u))))
   unfolding namespace-taken
   cloned-kept pt pu h g =
       let (lt, et) = free-slot-is (view tn) (λ e. pt (sym (same-free t c) ∙ e)) in
       let (lu, eu) = free-slot-is (view un) (λ e. pu (sym (same-free u d) ∙ e)) in
-      let ev = birth-view tn (gt .shape-of) (gt .facts) c (free-namespace-slot (view t)) (x-taken t ft c rt) lt in
-      let ew = birth-view un (gu .shape-of) (gu .facts) d (free-namespace-slot (view u)) (x-taken u fu d ru) lu in
+      let ev = birth-view tn (gt .shape-of) (gt .facts) c (free-namespace-slot (view t)) (x-taken ft c rt) lt in
+      let ew = birth-view un (gu .shape-of) (gu .facts) d (free-namespace-slot (view u)) (x-taken fu d ru) lu in
       inr (
-        ap Number (next-twins (view t) (view u) s r (w .pair) _ _ (owns-twins t u s r c d w)),
-        stands-same t u (birth tn c (free-namespace-slot (view t))) (birth un d (free-namespace-slot (view u))) s r h g
-            (ap (λ (x : View). eqb s 0 or not (eqb (x .level s) 0)) ev ∙ stands-here t ft c rt s (w .pair .alive-v))
-            (ap (λ (x : View). eqb r 0 or not (eqb (x .level r) 0)) ew ∙ stands-here u fu d ru r (w .pair .alive-u))
+        ap Number (next-twins (w .pair) (owns-twins w)),
+        stands-same t u h g
+            (ap (λ (x : View). eqb s 0 or not (eqb (x .level s) 0)) ev ∙ stands-here ft c rt s (w .pair .alive-v))
+            (ap (λ (x : View). eqb r 0 or not (eqb (x .level r) 0)) ew ∙ stands-here fu d ru r (w .pair .alive-u))
             (subst₂ (λ (a b : View). Same a b s r) (sym ev) (sym ew)
-            (birth-same (view tn) (view un) s r new-pair c d (free-namespace-slot (view t)) (free-namespace-slot (view u)) (free-slot (view tn)) (free-slot (view un)) (new-twin c d (w .twin)) new-cradles (x-taken t ft c rt) (x-taken u fu d ru) (fresh-below t ft c rt (gt .facts) s (new-owns .below-v)) (fresh-below u fu d ru (gu .facts) r (new-owns .below-u)) (isnt-so et) (isnt-so eu) lt lu
-            (λ i j m z. not-held t ft c rt i (still-there t c i (seen-taken (view tn) s i (m .seen-v))) ∙ sym (not-held u fu d ru j (still-there u d j (seen-taken (view un) r j (m .seen-u))))))),
+            (birth-same new-pair (free-namespace-slot (view t)) (free-namespace-slot (view u)) (free-slot (view tn)) (free-slot (view un)) (new-twin (w .twin)) new-cradles (x-taken ft c rt) (x-taken fu d ru) (fresh-below ft c rt (gt .facts) s (new-owns .below-v)) (fresh-below fu d ru (gu .facts) r (new-owns .below-u)) (isnt-so et) (isnt-so eu) lt lu
+            (λ i j m z. not-held ft c rt i (still-there t c i (seen-taken (view tn) s i (m .seen-v))) ∙ sym (not-held fu d ru j (still-there u d j (seen-taken (view un) r j (m .seen-u))))))),
       )
 
 -- ---- the two calls
 
-levels-alike : (t u : Table) (s r c d : ℕ) → Ready t u s r c d → own-level (view t) c ≡ own-level (view u) d
-levels-alike t u s r c d w = twins-level (view t) (view u) s r (w .pair) _ _ (owns-twins t u s r c d w)
+levels-alike : {t u : Table} {s r c d : ℕ} → Ready t u s r c d → own-level (view t) c ≡ own-level (view u) d
+levels-alike w = twins-level (w .pair) (owns-twins w)
 
 -- unshare by twin callers
 pub unshare-same : MadeSame Unshare
@@ -296,16 +296,16 @@ unshare-same t u s r c d w h g = go (process t c .unshared) refl (eqb (own-level
     mark = shown t u s r (w .pair) c d (w .twin) .marks
 
     deep : eqb (own-level (view t) c) deepest ≡ eqb (own-level (view u) d) deepest
-    deep = ap (λ n. eqb n deepest) (levels-alike t u s r c d w)
+    deep = ap (λ n. eqb n deepest) (levels-alike w)
 
     go : (m : Bool) → process t c .unshared ≡ m → (a : Bool) → eqb (own-level (view t) c) deepest ≡ a → (b : Bool) → eqb (free-namespace-slot (view t)) namespace-slots ≡ b → (b′ : Bool) → eqb (free-namespace-slot (view u)) namespace-slots ≡ b′ → Kept t u s r (unshare t c) (unshare u d)
-    go true em a ea b eb b′ eb′ = rw (em, sym mark ∙ em, unshare) (both-refuse t u s r c d w Einval)
-    go false em true ea b eb b′ eb′ = rw (em, sym mark ∙ em, ea, sym deep ∙ ea, unshare) (both-refuse t u s r c d w Enospc)
+    go true em a ea b eb b′ eb′ = rw (em, sym mark ∙ em, unshare) (both-refuse w Einval)
+    go false em true ea b eb b′ eb′ = rw (em, sym mark ∙ em, ea, sym deep ∙ ea, unshare) (both-refuse w Enospc)
     go false em false ea true eb b′ eb′ = rw (em, ea, eb, unshare) (no-room-left t u s r (unshare u d))
     go false em false ea false eb true eb′ = rw (sym mark ∙ em, sym deep ∙ ea, eb′, unshare) (no-room-right t u s r (unshare t c))
     go false em false ea false eb false eb′ =
         rw (em, sym mark ∙ em, ea, sym deep ∙ ea, eb, eb′, unshare)
-        (unshared-kept t u s r c d w (eqb-false _ _ ea) (eqb-false _ _ (sym deep ∙ ea)) (eqb-false _ _ eb) (eqb-false _ _ eb′))
+        (unshared-kept w (eqb-false _ _ ea) (eqb-false _ _ (sym deep ∙ ea)) (eqb-false _ _ eb) (eqb-false _ _ eb′))
 
 -- clone new by twin callers
 pub clone-new-same : MadeSame CloneNew
@@ -313,12 +313,12 @@ unfolding MadeSame make clone-new
 clone-new-same t u s r c d w h g = go (eqb (own-level (view t) c) deepest) refl (eqb (free-slot (view t)) process-slots or eqb (free-namespace-slot (view t)) namespace-slots) refl (eqb (free-slot (view u)) process-slots or eqb (free-namespace-slot (view u)) namespace-slots) refl
   where
     deep : eqb (own-level (view t) c) deepest ≡ eqb (own-level (view u) d) deepest
-    deep = ap (λ n. eqb n deepest) (levels-alike t u s r c d w)
+    deep = ap (λ n. eqb n deepest) (levels-alike w)
 
     go : (a : Bool) → eqb (own-level (view t) c) deepest ≡ a → (b : Bool) → eqb (free-slot (view t)) process-slots or eqb (free-namespace-slot (view t)) namespace-slots ≡ b → (b′ : Bool) → eqb (free-slot (view u)) process-slots or eqb (free-namespace-slot (view u)) namespace-slots ≡ b′ → Kept t u s r (clone-new t c) (clone-new u d)
-    go true ea b eb b′ eb′ = rw (ea, sym deep ∙ ea, clone-new) (both-refuse t u s r c d w Enospc)
+    go true ea b eb b′ eb′ = rw (ea, sym deep ∙ ea, clone-new) (both-refuse w Enospc)
     go false ea true eb b′ eb′ = rw (ea, eb, clone-new) (no-room-left t u s r (clone-new u d))
     go false ea false eb true eb′ = rw (sym deep ∙ ea, eb′, clone-new) (no-room-right t u s r (clone-new t c))
     go false ea false eb false eb′ =
         rw (ea, sym deep ∙ ea, eb, eb′, clone-new)
-        (cloned-kept t u s r c d w (eqb-false _ _ ea) (eqb-false _ _ (sym deep ∙ ea)) (eqb-false _ _ (or-false-right _ _ eb)) (eqb-false _ _ (or-false-right _ _ eb′)) (eqb-false _ _ (or-false-left _ _ eb)) (eqb-false _ _ (or-false-left _ _ eb′)) (rw (ea, eb, clone-new) at h) (rw (sym deep ∙ ea, eb′, clone-new) at g))
+        (cloned-kept w (eqb-false _ _ ea) (eqb-false _ _ (sym deep ∙ ea)) (eqb-false _ _ (or-false-right _ _ eb)) (eqb-false _ _ (or-false-right _ _ eb′)) (eqb-false _ _ (or-false-left _ _ eb)) (eqb-false _ _ (or-false-left _ _ eb′)) (rw (ea, eb, clone-new) at h) (rw (sym deep ∙ ea, eb′, clone-new) at g))

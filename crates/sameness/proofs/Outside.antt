@@ -51,20 +51,20 @@ granted-not true b e h = absurd (false≢true (sym e))
 granted-not false b e h = isnt b h
 
 -- a granted call that is allowed makes no touch
-pub untouched-made : (t : Table) (s i : ℕ) (c : Call) → SoundTable t → So (runs (view t) i) → So (allowed t (at s) (outside i c)) → (o : Outcome) → make t i c ≡ o → is-refused (o .reply .answer) ≡ false → touched t (o .table) (at s) i c ≡ false
+pub untouched-made : {t : Table} (s i : ℕ) (c : Call) → SoundTable t → So (runs (view t) i) → So (allowed t (at s) (outside i c)) → (o : Outcome) → make t i c ≡ o → is-refused (o .reply .answer) ≡ false → touched t (o .table) (at s) i c ≡ false
 unfolding allowed touches
-untouched-made t s i c h k a o q e =
+untouched-made {t} s i c h k a o q e =
     granted-not (is-refused (o .reply .answer)) (touched t (o .table) (at s) i c) e
     (subst (λ (y : Outcome). So (not (not (is-refused (y .reply .answer)) and touched t (y .table) (at s) i c))) (step-made t i c h k ∙ q) (right _ _ a))
 
 -- S stands, and each row that was there is there, and no other
-pub stands-leaves : (t t′ : Table) (s : ℕ) → SoundTable t → SoundTable t′ → So (namespace-taken (view t) s) → So (namespace-taken (view t′) s) → Same (view t′) (view t) s s → sheet-of t′ (follow t t′ (at s)) ≡ sheet (view t) s
+pub stands-leaves : {t t′ : Table} {s : ℕ} → SoundTable t → SoundTable t′ → So (namespace-taken (view t) s) → So (namespace-taken (view t′) s) → Same (view t′) (view t) s s → sheet-of t′ (follow t t′ (at s)) ≡ sheet (view t) s
 unfolding follow sheet-of
-stands-leaves t t′ s h h′ k k′ w = rw k′ (sheets-of-same (view t′) (view t) s s (facts t′ h′) (facts t h) k′ k w)
+stands-leaves {t} {t′} h h′ k k′ w = rw k′ (sheets-of-same (facts t′ h′) (facts t h) k′ k w)
 
-signals-leave : (t : Table) (s i a b : ℕ) → SoundTable t → SoundTable (put t i (with-signals (process t i) a b)) → So (namespace-taken (view t) s) → seen (view t) s i ≡ false → sheet-of (put t i (with-signals (process t i) a b)) (follow t (put t i (with-signals (process t i) a b)) (at s)) ≡ sheet (view t) s
+signals-leave : {t : Table} (s i a b : ℕ) → SoundTable t → SoundTable (put t i (with-signals (process t i) a b)) → So (namespace-taken (view t) s) → seen (view t) s i ≡ false → sheet-of (put t i (with-signals (process t i) a b)) (follow t (put t i (with-signals (process t i) a b)) (at s)) ≡ sheet (view t) s
 unfolding namespace-taken
-signals-leave t s i a b h g hs o = stands-leaves t _ s h g hs hs (same-still (view t) _ s (near (view t) s) (facts t h) (put-still t (facts t h) i (with-signals (process t i) a b) (record { owns = refl; parents = refl; pids = refl }) s o))
+signals-leave {t} s i a b h g hs o = stands-leaves h g hs hs (same-still (facts t h) (put-still t (facts t h) i (record { owns = refl; parents = refl; pids = refl }) o))
 
 pub getpid-leaves : MadeLeaves Getpid
 unfolding MadeLeaves make getpid answers granted
@@ -81,8 +81,8 @@ handle-leaves z on t s i h hs k a g = go (not (within 1 signals z) or eqb (natur
   where
     go : (b : Bool) → not (within 1 signals z) or eqb (natural z) sigkill or eqb (natural z) sigstop ≡ b → (o : Bool) → on ≡ o → sheet-of (handle t i z on .table) (follow t (handle t i z on .table) (at s)) ≡ sheet (view t) s
     go true e o q = rw (e, handle) (as-it-was t s hs)
-    go false e true q = rw (e, q, handle) (signals-leave t s i _ _ h (rw (e, q, handle) at g) hs (outsider t s i (Handle z on) a))
-    go false e false q = rw (e, q, handle) (signals-leave t s i _ _ h (rw (e, q, handle) at g) hs (outsider t s i (Handle z on) a))
+    go false e true q = rw (e, q, handle) (signals-leave s i _ _ h (rw (e, q, handle) at g) hs (outsider t s i (Handle z on) a))
+    go false e false q = rw (e, q, handle) (signals-leave s i _ _ h (rw (e, q, handle) at g) hs (outsider t s i (Handle z on) a))
 
 pub poll-leaves : MadeLeaves Poll
 unfolding MadeLeaves make poll answers granted
@@ -90,4 +90,4 @@ poll-leaves t s i h hs k a g = go (eqb (lowest-signal (process t i .pending)) si
   where
     go : (b : Bool) → eqb (lowest-signal (process t i .pending)) signals ≡ b → sheet-of (poll t i .table) (follow t (poll t i .table) (at s)) ≡ sheet (view t) s
     go true e = rw (e, poll) (as-it-was t s hs)
-    go false e = rw (e, poll) (signals-leave t s i _ _ h (rw (e, poll) at g) hs (outsider t s i Poll a))
+    go false e = rw (e, poll) (signals-leave s i _ _ h (rw (e, poll) at g) hs (outsider t s i Poll a))

@@ -22,7 +22,7 @@ use Rattle.table.specs.Tests.{_and_, if_then_else_}
 use Rattle.table.specs.declared.Life.the-variants.{Unborn, Alive, Dead}
 use Rattle.table.specs.declared.Life.{Life}
 
-module _ (v : View) (f : Facts v) where
+module _ {v : View} (f : Facts v) where
   -- seen from one is seen from all above
   pub seen-above : (n m i : ℕ) → So (below v n m) → So (seen v n i) → So (seen v m i)
   unfolding seen
@@ -44,89 +44,89 @@ module _ (v : View) (f : Facts v) where
       go true e = refl
       go false e = absurd (omega (arith, pid-in-unseen n i e))
 
-parent-there : (v u : View) (s r : ℕ) (w : Pair v u s r) (i j : ℕ) → Twin v u s r i j → So (seen v s (v .parent i)) → So (seen u r (u .parent j))
+parent-there : {v u : View} {s r : ℕ} (w : Pair v u s r) {i j : ℕ} → Twin v u s r i j → So (seen v s (v .parent i)) → So (seen u r (u .parent j))
 unfolding row
-parent-there v u s r w i j k h =
-    pid-in-pos u (w .facts-u) r (u .parent j)
-    (omega (arith, seen-pid v (w .facts-v) s (v .parent i) h, pid-in-seen v s (v .parent i) h, ap (λ (q : Row). q .parent) (twin-rows v u s r w i j k)))
+parent-there {v} {u} {s} {r} w {i} {j} k h =
+    pid-in-pos (w .facts-u) r (u .parent j)
+    (omega (arith, seen-pid (w .facts-v) s (v .parent i) h, pid-in-seen v s (v .parent i) h, ap (λ (q : Row). q .parent) (twin-rows w k)))
 
-module _ (v u : View) (s r : ℕ) (w : Pair v u s r) where
+module _ {v u : View} {s r : ℕ} (w : Pair v u s r) where
   -- parents, and whether one has ended
-  pub parent-seen : (i j : ℕ) → Twin v u s r i j → seen v s (v .parent i) ≡ seen u r (u .parent j)
-  parent-seen i j k = bool-ext _ _ (parent-there v u s r w i j k) (parent-there u v r s (flip-pair v u s r w) j i (flip-twin v u s r i j k))
+  pub parent-seen : {i j : ℕ} → Twin v u s r i j → seen v s (v .parent i) ≡ seen u r (u .parent j)
+  parent-seen k = bool-ext _ _ (parent-there w k) (parent-there (flip-pair w) (flip-twin k))
 
-  pub parent-twin : (i j : ℕ) → Twin v u s r i j → So (seen v s (v .parent i)) → Twin v u s r (v .parent i) (u .parent j)
+  pub parent-twin : {i j : ℕ} → Twin v u s r i j → So (seen v s (v .parent i)) → Twin v u s r (v .parent i) (u .parent j)
   unfolding row
-  parent-twin i j k h =
+  parent-twin k h =
       record {
         seen-v = h;
-        seen-u = parent-there v u s r w i j k h;
-        pids = sym (pid-in-seen v s _ h) ∙ ap (λ (q : Row). q .parent) (twin-rows v u s r w i j k) ∙ pid-in-seen u r _ (parent-there v u s r w i j k h);
+        seen-u = parent-there w k h;
+        pids = sym (pid-in-seen v s _ h) ∙ ap (λ (q : Row). q .parent) (twin-rows w k) ∙ pid-in-seen u r _ (parent-there w k h);
       }
 
   -- a twin pair's parents as seen from a pair of living namespaces
-  pub parent-pid : (i j n m : ℕ) → Twin v u s r i j → Twins v u s r n m → pid-in v n (v .parent i) ≡ pid-in u m (u .parent j)
+  pub parent-pid : {i j n m : ℕ} → Twin v u s r i j → Twins v u s r n m → pid-in v n (v .parent i) ≡ pid-in u m (u .parent j)
   unfolding pid-in
-  parent-pid i j n m k l = go (seen v s (v .parent i)) refl
+  parent-pid {i} {j} {n} {m} k l = go (seen v s (v .parent i)) refl
     where
       outside : (x : View) (f : Facts x) (a b c : ℕ) → So (below x a b) → seen x b c ≡ false → seen x a c ≡ false
-      outside x f a b c h e = bool-ext _ _ (λ y. absurd (false≢true (sym e ∙ seen-above x f a b c h y))) (λ y. absurd (false≢true y))
+      outside x f a b c h e = bool-ext _ _ (λ y. absurd (false≢true (sym e ∙ seen-above f a b c h y))) (λ y. absurd (false≢true y))
 
       go : (b : Bool) → seen v s (v .parent i) ≡ b → (if seen v n (v .parent i) then pid-seen v n (v .parent i) else 0) ≡ (if seen u m (u .parent j) then pid-seen u m (u .parent j) else 0)
       go true e =
-          ap₂ (λ (b : Bool) (y : ℕ). if b then y else 0) (seen-twins v u s r w _ _ n m (parent-twin i j k e) l) (pid-twins v u s r w _ _ n m (parent-twin i j k e) l)
+          ap₂ (λ (b : Bool) (y : ℕ). if b then y else 0) (seen-twins w (parent-twin k e) l) (pid-twins w (parent-twin k e) l)
       go false e =
-          rw (outside v (w .facts-v) n s _ (l .below-v) e, outside u (w .facts-u) m r _ (l .below-u) (sym (parent-seen i j k) ∙ e)) refl
+          rw (outside v (w .facts-v) n s _ (l .below-v) e, outside u (w .facts-u) m r _ (l .below-u) (sym (parent-seen k) ∙ e)) refl
 
   -- two pairs of twins are of the same slots on one table as on the other
-  pub twin-eqb : (i j c d : ℕ) → Twin v u s r i j → Twin v u s r c d → eqb i c ≡ eqb j d
-  twin-eqb i j c d a b =
-      bool-ext _ _ (λ e. eq-eqb j d (twin-unique v u s r w i j c d a b (eqb-true i c e)))
-      (λ e. eq-eqb i c (twin-unique u v r s (flip-pair v u s r w) j i d c (flip-twin v u s r i j a) (flip-twin v u s r c d b) (eqb-true j d e)))
+  pub twin-eqb : {i j c d : ℕ} → Twin v u s r i j → Twin v u s r c d → eqb i c ≡ eqb j d
+  twin-eqb {i} {j} {c} {d} a b =
+      bool-ext _ _ (λ e. eq-eqb j d (twin-unique w a b (eqb-true i c e)))
+      (λ e. eq-eqb i c (twin-unique (flip-pair w) (flip-twin a) (flip-twin b) (eqb-true j d e)))
 
   -- nobody by the number on both, or a pair of twins
-  pub find-twins : (n m k : ℕ) → Twins v u s r n m → ((find v n k ≡ process-slots) × (find u m k ≡ process-slots)) ⊎ (Twin v u s r (find v n k) (find u m k) × (find v n k < process-slots) × (find u m k < process-slots))
-  find-twins n m k l = go (find-cases v n k) (find-cases u m k)
+  pub find-twins : {n m : ℕ} (k : ℕ) → Twins v u s r n m → ((find v n k ≡ process-slots) × (find u m k ≡ process-slots)) ⊎ (Twin v u s r (find v n k) (find u m k) × (find v n k < process-slots) × (find u m k < process-slots))
+  find-twins {n} {m} k l = go (find-cases v n k) (find-cases u m k)
     where
       go : Found v n k (find v n k) → Found u m k (find u m k) → ((find v n k ≡ process-slots) × (find u m k ≡ process-slots)) ⊎ (Twin v u s r (find v n k) (find u m k) × (find v n k < process-slots) × (find u m k < process-slots))
       go (inl (a, b, c)) (inl (x, y, z)) =
-          let (j, p) = twin-there v u s r w (find v n k) (seen-above v (w .facts-v) n s _ (l .below-v) a) in
-          let e = pid-unique u (w .facts-u) m j (find u m k) (alive-taken u (w .facts-u) m (l .lives-u)) (sym (seen-twins v u s r w _ j n m p l) ∙ a) x (sym (pid-twins v u s r w _ j n m p l) ∙ b ∙ sym y) in
+          let (j, p) = twin-there w (find v n k) (seen-above (w .facts-v) n s _ (l .below-v) a) in
+          let e = pid-unique u (w .facts-u) m j (find u m k) (alive-taken u (w .facts-u) m (l .lives-u)) (sym (seen-twins w p l) ∙ a) x (sym (pid-twins w p l) ∙ b ∙ sym y) in
           inr (subst (λ q. Twin v u s r (find v n k) q) e p, c, z)
       go (inl (a, b, c)) (inr (x, y)) =
-          let (j, p) = twin-there v u s r w (find v n k) (seen-above v (w .facts-v) n s _ (l .below-v) a) in
-          absurd (y j (w .facts-u .in-range j (seen-taken u r j (p .seen-u))) (sym (seen-twins v u s r w _ j n m p l) ∙ a) (sym (pid-twins v u s r w _ j n m p l) ∙ b))
+          let (j, p) = twin-there w (find v n k) (seen-above (w .facts-v) n s _ (l .below-v) a) in
+          absurd (y j (w .facts-u .in-range j (seen-taken u r j (p .seen-u))) (sym (seen-twins w p l) ∙ a) (sym (pid-twins w p l) ∙ b))
       go (inr (a, b)) (inl (x, y, z)) =
-          let (i, p) = twin-there u v r s (flip-pair v u s r w) (find u m k) (seen-above u (w .facts-u) m r _ (l .below-u) x) in
-          let q = flip-twin u v r s _ _ p in
-          absurd (b i (w .facts-v .in-range i (seen-taken v s i (q .seen-v))) (seen-twins v u s r w i _ n m q l ∙ x) (pid-twins v u s r w i _ n m q l ∙ y))
+          let (i, p) = twin-there (flip-pair w) (find u m k) (seen-above (w .facts-u) m r _ (l .below-u) x) in
+          let q = flip-twin p in
+          absurd (b i (w .facts-v .in-range i (seen-taken v s i (q .seen-v))) (seen-twins w q l ∙ x) (pid-twins w q l ∙ y))
       go (inr (a, b)) (inr (x, y)) = inl (a, x)
 
   -- whether a process is the init of its namespace, where that lives
-  pub is-init-twins : (i j : ℕ) → Twin v u s r i j → So (alive v (v .own i)) → is-init v i ≡ is-init u j
+  pub is-init-twins : {i j : ℕ} → Twin v u s r i j → So (alive v (v .own i)) → is-init v i ≡ is-init u j
   unfolding is-init
-  is-init-twins i j k a = twin-eqb _ _ _ _ (inits-twin v u s r w _ _ (owns v u s r w i j k a)) k
+  is-init-twins k a = twin-eqb (inits-twin w (owns w k a)) k
 
   -- the child of a twin is a child of its twin
-  pub child-twins : (i j c d : ℕ) → Twin v u s r i j → Twin v u s r c d → child-of v c i ≡ child-of u d j
+  pub child-twins : {i j c d : ℕ} → Twin v u s r i j → Twin v u s r c d → child-of v c i ≡ child-of u d j
   unfolding child-of
-  child-twins i j c d k l =
+  child-twins {i} {j} {c} {d} k l =
       ap₂ _and_ (seen-taken v s i (k .seen-v) ∙ sym (seen-taken u r j (k .seen-u))) (go (seen v s (v .parent i)) refl)
     where
       other : (x : View) (a b p : ℕ) → So (seen x a b) → seen x a p ≡ false → eqb p b ≡ false
       other x a b p h e = ne-eqb p b (λ q. false≢true (sym e ∙ ap (seen x a) q ∙ h))
 
       go : (b : Bool) → seen v s (v .parent i) ≡ b → eqb (v .parent i) c ≡ eqb (u .parent j) d
-      go true e = twin-eqb _ _ c d (parent-twin i j k e) l
-      go false e = other v s c _ (l .seen-v) e ∙ sym (other u r d _ (l .seen-u) (sym (parent-seen i j k) ∙ e))
+      go true e = twin-eqb (parent-twin k e) l
+      go false e = other v s c _ (l .seen-v) e ∙ sym (other u r d _ (l .seen-u) (sym (parent-seen k) ∙ e))
 
-  pub ended-twins : (i j : ℕ) → Twin v u s r i j → v .ended i ≡ u .ended j
+  pub ended-twins : {i j : ℕ} → Twin v u s r i j → v .ended i ≡ u .ended j
   unfolding row
-  ended-twins i j k = w .facts-v .ended-is i ∙ ap (λ (o : Row). is-ended (o .state)) (twin-rows v u s r w i j k) ∙ sym (w .facts-u .ended-is j)
+  ended-twins {i} {j} k = w .facts-v .ended-is i ∙ ap (λ (o : Row). is-ended (o .state)) (twin-rows w k) ∙ sym (w .facts-u .ended-is j)
 
-  pub living-twins : (i j : ℕ) → Twin v u s r i j → living v i ≡ living u j
+  pub living-twins : {i j : ℕ} → Twin v u s r i j → living v i ≡ living u j
   unfolding living
-  living-twins i j k = ap₂ (λ (a b : Bool). a and not b) (seen-taken v s i (k .seen-v) ∙ sym (seen-taken u r j (k .seen-u))) (ended-twins i j k)
+  living-twins {i} {j} k = ap₂ (λ (a b : Bool). a and not b) (seen-taken v s i (k .seen-v) ∙ sym (seen-taken u r j (k .seen-u))) (ended-twins k)
 
 -- ---- the namespaces that twins hold for their children, and the subtree of a living one
 
@@ -136,7 +136,7 @@ name-level (dead-at l k) = l
 name-level unborn-name = 0
 name-level no-name = 0
 
-module _ (v : View) (f : Facts v) where
+module _ {v : View} (f : Facts v) where
   -- a living process's children's namespace
   pub children-taken : (i : ℕ) → So (living v i) → So (namespace-taken v (v .children i))
   unfolding S.children-namespaces
@@ -159,10 +159,10 @@ module _ (v : View) (f : Facts v) where
   by-level s n Dead a b = refl
 
   pub name-unborn : (s n : ℕ) → So (namespace-taken v n) → is-unborn-name (name v s n) ≡ unborn v n
-  name-unborn s n h = ap is-unborn-name (name-taken v f s n h) ∙ by-unborn s n (v .life n)
+  name-unborn s n h = ap is-unborn-name (name-taken f s n h) ∙ by-unborn s n (v .life n)
 
   pub name-level-dead : (s n : ℕ) → So (namespace-taken v n) → alive v n ≡ false → unborn v n ≡ false → name-level (name v s n) ≡ v .level n
-  name-level-dead s n h a b = ap name-level (name-taken v f s n h) ∙ by-level s n (v .life n) a b
+  name-level-dead s n h a b = ap name-level (name-taken f s n h) ∙ by-level s n (v .life n) a b
 
   -- an unborn namespace lies below a living one only if its holder is seen from there
   pub unborn-outside : (top i : ℕ) → So (living v i) → So (unborn v (v .children i)) → So (alive v top) → seen v top i ≡ false → below v (v .children i) top ≡ false
@@ -178,52 +178,52 @@ module _ (v : View) (f : Facts v) where
           lt-of : v .level top ≤ v .level (v .children i) → (v .level (v .children i) ≡ v .level top → ⊥) → v .level top < v .level (v .children i)
           lt-of l m = omega arith
 
-module _ (v u : View) (s r : ℕ) (w : Pair v u s r) where
+module _ {v u : View} {s r : ℕ} (w : Pair v u s r) where
   -- two namespaces of the subtree with the same name, not unborn
   pub anchors-of : (n m : ℕ) → name v s n ≡ name u r m → So (namespace-taken v n) → So (namespace-taken u m) → So (below v n s) → So (below u m r) → unborn v n ≡ false → unborn u m ≡ false → Twins v u s r (anchor v n) (anchor u m)
   anchors-of n m e hn hm bn bm un um =
       record {
-        lives-v = anchor-alive v (w .facts-v) n hn;
-        lives-u = anchor-alive u (w .facts-u) m hm;
-        below-v = anchor-least v (w .facts-v) n s (w .alive-v) bn;
-        below-u = anchor-least u (w .facts-u) m r (w .alive-u) bm;
+        lives-v = anchor-alive (w .facts-v) n hn;
+        lives-u = anchor-alive (w .facts-u) m hm;
+        below-v = anchor-least (w .facts-v) n s (w .alive-v) bn;
+        below-u = anchor-least (w .facts-u) m r (w .alive-u) bm;
         inits =
-            sym (pid-in-seen v s _ (init-seen v (w .facts-v) _ s (anchor-alive v (w .facts-v) n hn) (anchor-least v (w .facts-v) n s (w .alive-v) bn)))
-            ∙ sym (name-anchor v (w .facts-v) s n hn un) ∙ ap name-pid e ∙ name-anchor u (w .facts-u) r m hm um
-            ∙ pid-in-seen u r _ (init-seen u (w .facts-u) _ r (anchor-alive u (w .facts-u) m hm) (anchor-least u (w .facts-u) m r (w .alive-u) bm));
+            sym (pid-in-seen v s _ (init-seen v (w .facts-v) _ s (anchor-alive (w .facts-v) n hn) (anchor-least (w .facts-v) n s (w .alive-v) bn)))
+            ∙ sym (name-anchor (w .facts-v) s n hn un) ∙ ap name-pid e ∙ name-anchor (w .facts-u) r m hm um
+            ∙ pid-in-seen u r _ (init-seen u (w .facts-u) _ r (anchor-alive (w .facts-u) m hm) (anchor-least (w .facts-u) m r (w .alive-u) bm));
       }
 
   -- they lie below the same living ones
-  pub below-named : (n m top end : ℕ) → Twins v u s r (anchor v n) (anchor u m) → Twins v u s r top end → below v n top ≡ below u m end
-  below-named n m top end a l =
+  pub below-named : (n m : ℕ) {top end : ℕ} → Twins v u s r (anchor v n) (anchor u m) → Twins v u s r top end → below v n top ≡ below u m end
+  below-named n m {top} {end} a l =
       bool-ext _ _
-      (λ h. below-trans u (w .facts-u) _ _ end (anchor-below u (w .facts-u) m) (sym (below-twins v u s r w _ _ top end a l) ∙ anchor-least v (w .facts-v) n top (l .lives-v) h))
-      (λ h. below-trans v (w .facts-v) _ _ top (anchor-below v (w .facts-v) n) (below-twins v u s r w _ _ top end a l ∙ anchor-least u (w .facts-u) m end (l .lives-u) h))
+      (λ h. below-trans u (w .facts-u) _ _ end (anchor-below (w .facts-u) m) (sym (below-twins w a l) ∙ anchor-least (w .facts-v) n top (l .lives-v) h))
+      (λ h. below-trans v (w .facts-v) _ _ top (anchor-below (w .facts-v) n) (below-twins w a l ∙ anchor-least (w .facts-u) m end (l .lives-u) h))
 
   -- and have the same level
   pub level-named : (n m : ℕ) → name v s n ≡ name u r m → So (namespace-taken v n) → So (namespace-taken u m) → unborn v n ≡ false → unborn u m ≡ false → Twins v u s r (anchor v n) (anchor u m) → v .level n ≡ u .level m
   level-named n m e hn hm un um a = go (alive v n) refl
     where
       same : alive v n ≡ alive u m
-      same = sym (name-alive v (w .facts-v) s n hn) ∙ ap is-by-init e ∙ name-alive u (w .facts-u) r m hm
+      same = sym (name-alive (w .facts-v) s n hn) ∙ ap is-by-init e ∙ name-alive (w .facts-u) r m hm
 
       go : (b : Bool) → alive v n ≡ b → v .level n ≡ u .level m
-      go true h = ap (v .level) (sym (anchor-self v (w .facts-v) n h)) ∙ twins-level v u s r w _ _ a ∙ ap (u .level) (anchor-self u (w .facts-u) m (sym same ∙ h))
-      go false h = sym (name-level-dead v (w .facts-v) s n hn h un) ∙ ap name-level e ∙ name-level-dead u (w .facts-u) r m hm (sym same ∙ h) um
+      go true h = ap (v .level) (sym (anchor-self (w .facts-v) n h)) ∙ twins-level w a ∙ ap (u .level) (anchor-self (w .facts-u) m (sym same ∙ h))
+      go false h = sym (name-level-dead (w .facts-v) s n hn h un) ∙ ap name-level e ∙ name-level-dead (w .facts-u) r m hm (sym same ∙ h) um
 
   -- whether the parent of a twin is in a subtree
-  pub parent-in-twins : (i j n m : ℕ) → Twin v u s r i j → Twins v u s r n m → seen v n (v .parent i) ≡ seen u m (u .parent j)
-  parent-in-twins i j n m k l = go (seen v s (v .parent i)) refl
+  pub parent-in-twins : {i j n m : ℕ} → Twin v u s r i j → Twins v u s r n m → seen v n (v .parent i) ≡ seen u m (u .parent j)
+  parent-in-twins {i} {j} {n} {m} k l = go (seen v s (v .parent i)) refl
     where
       outside : (x : View) (f : Facts x) (a b c : ℕ) → So (below x a b) → seen x b c ≡ false → seen x a c ≡ false
-      outside x f a b c h e = bool-ext _ _ (λ y. absurd (false≢true (sym e ∙ seen-above x f a b c h y))) (λ y. absurd (false≢true y))
+      outside x f a b c h e = bool-ext _ _ (λ y. absurd (false≢true (sym e ∙ seen-above f a b c h y))) (λ y. absurd (false≢true y))
 
       go : (b : Bool) → seen v s (v .parent i) ≡ b → seen v n (v .parent i) ≡ seen u m (u .parent j)
-      go true e = seen-twins v u s r w _ _ n m (parent-twin v u s r w i j k e) l
-      go false e = outside v (w .facts-v) n s _ (l .below-v) e ∙ sym (outside u (w .facts-u) m r _ (l .below-u) (sym (parent-seen v u s r w i j k) ∙ e))
+      go true e = seen-twins w (parent-twin w k e) l
+      go false e = outside v (w .facts-v) n s _ (l .below-v) e ∙ sym (outside u (w .facts-u) m r _ (l .below-u) (sym (parent-seen w k) ∙ e))
 
   -- the number in S of the init above a living namespace that is not S
-  pub above-pid : (n m : ℕ) → Twins v u s r n m → v .level s < v .level n → pid-in v s (init v (v .up n)) ≡ pid-in u r (init u (u .up m))
-  above-pid n m l h =
-      let k = twins-up v u s r w n m l h in
+  pub above-pid : {n m : ℕ} → Twins v u s r n m → v .level s < v .level n → pid-in v s (init v (v .up n)) ≡ pid-in u r (init u (u .up m))
+  above-pid l h =
+      let k = twins-up w l h in
       pid-in-seen v s _ (init-seen v (w .facts-v) _ s (k .lives-v) (k .below-v)) ∙ k .inits ∙ sym (pid-in-seen u r _ (init-seen u (w .facts-u) _ r (k .lives-u) (k .below-u)))

@@ -36,12 +36,12 @@ everyone i = true
 abbrev pub lit : View → ℕ → ℕ → State → ℕ → ℕ → Bool → ℕ → Name → ℕ → Row
 lit v s i st h q m p c z = record { pids = values (v .pid i) (levels - v .level s) (v .level s); state = st; handled = h; pending = q; unshared = m; parent = p; own = name v s (v .own i); children = c; last = z }
 
-module _ (v v′ : View) (K Q : ℕ → Bool) (f : Facts v) (w : Remain v v′ K Q) where
+module _ {v v′ : View} {K Q : ℕ → Bool} (f : Facts v) (w : Remain v v′ K Q) where
   stays : Stays v v′ K
   stays = record { ups = w .ups; levels = w .levels; lives = w .lives; up-kept = w .up-kept }
 
   pub below-remain : (a b : ℕ) → So (K a) → below v′ a b ≡ below v a b
-  below-remain = below-stays v v′ K f stays
+  below-remain = below-stays f stays
 
   pub taken-remain : (i : ℕ) → So (Q i) → taken v′ i ≡ taken v i
   unfolding taken
@@ -77,7 +77,7 @@ module _ (v v′ : View) (K Q : ℕ → Bool) (f : Facts v) (w : Remain v v′ K
   pid-in-remain n i k h = ap₂ (λ (b : Bool) (x : ℕ). if b then x else 0) (seen-remain n i h) (pid-remain n i k h)
 
   pub name-remain : (s n : ℕ) → So (K s) → So (K n) → So (namespace-taken v n) → name v′ s n ≡ name v s n
-  name-remain s n hs = name-stays v v′ K f stays s (λ m k a. pid-in-remain s (init v m) hs (w .init-kept m k a)) n
+  name-remain s n hs = name-stays f stays s (λ m k a. pid-in-remain s (init v m) hs (w .init-kept m k a)) n
 
   -- the row of one that remains, but for what may change
   pub row-remain : (s i : ℕ) → So (K s) → So (Q i) → So (taken v i) → row v′ s i ≡ lit v s i (v′ .state i) (v′ .handled i) (v′ .pending i) (v′ .unshared i) (pid-in v′ s (v′ .parent i)) (name v′ s (v′ .children i)) (if is-init v i then v′ .last (v .own i) else 0)
@@ -112,20 +112,20 @@ unfolding row
 lit-same v u s r i j e es eh eq em ep ec ez =
     λ k. record { pids = e k .pids; state = es k; handled = eh k; pending = eq k; unshared = em k; parent = ep k; own = e k .own; children = ec k; last = ez k }
 
-module _ (v u v′ u′ : View) (s r : ℕ) (w : Pair v u s r) (K Q K′ Q′ : ℕ → Bool) (a : Remain v v′ K Q) (b : Remain u u′ K′ Q′) (hs : So (K s)) (hr : So (K′ r)) (both-remain : (i j : ℕ) → Twin v u s r i j → Q i ≡ Q′ j) (h : (i j : ℕ) → Twin v u s r i j → So (Q i) → Lit v u v′ u′ s r i j) where
+module _ {v u v′ u′ : View} {s r : ℕ} (w : Pair v u s r) {K Q K′ Q′ : ℕ → Bool} (a : Remain v v′ K Q) (b : Remain u u′ K′ Q′) (hs : So (K s)) (hr : So (K′ r)) (both-remain : (i j : ℕ) → Twin v u s r i j → Q i ≡ Q′ j) (h : (i j : ℕ) → Twin v u s r i j → So (Q i) → Lit v u v′ u′ s r i j) where
   remain-rows : (i j : ℕ) → Twin v u s r i j → So (Q i) → row v′ s i ≡ row u′ r j
   remain-rows i j k q =
-      row-remain v v′ K Q (w .facts-v) a s i hs q (seen-taken v s i (k .seen-v))
-      ∙ lit-same v u s r i j (twin-rows v u s r w i j k) (h i j k q .states) (h i j k q .handleds) (h i j k q .pendings) (h i j k q .marks) (h i j k q .parents) (h i j k q .childrens) (h i j k q .lasts)
-      ∙ sym (row-remain u u′ K′ Q′ (w .facts-u) b r j hr (sym (both-remain i j k) ∙ q) (seen-taken u r j (k .seen-u)))
+      row-remain (w .facts-v) a s i hs q (seen-taken v s i (k .seen-v))
+      ∙ lit-same v u s r i j (twin-rows w k) (h i j k q .states) (h i j k q .handleds) (h i j k q .pendings) (h i j k q .marks) (h i j k q .parents) (h i j k q .childrens) (h i j k q .lasts)
+      ∙ sym (row-remain (w .facts-u) b r j hr (sym (both-remain i j k) ∙ q) (seen-taken u r j (k .seen-u)))
 
   -- two tables that were the same to S still are, if what may change is the same
   pub same-remain : Same v′ u′ s r
   same-remain =
-      same-rows v u v′ u′ s r w Q Q′ (a .levels s hs) (b .levels r hr) (seen-remain v v′ K Q (w .facts-v) a s) (remains v v′ K Q (w .facts-v) a s)
-      (seen-remain u u′ K′ Q′ (w .facts-u) b r) (remains u u′ K′ Q′ (w .facts-u) b r) both-remain remain-rows
+      same-rows v′ u′ w Q Q′ (a .levels s hs) (b .levels r hr) (seen-remain (w .facts-v) a s) (remains (w .facts-v) a s)
+      (seen-remain (w .facts-u) b r) (remains (w .facts-u) b r) both-remain remain-rows
 
 -- a namespace of K stands
-pub standing : (v v′ : View) (K Q : ℕ → Bool) → Remain v v′ K Q → (n : ℕ) → So (K n) → So (namespace-taken v n) → So (namespace-taken v′ n)
+pub standing : {v v′ : View} {K Q : ℕ → Bool} → Remain v v′ K Q → (n : ℕ) → So (K n) → So (namespace-taken v n) → So (namespace-taken v′ n)
 unfolding namespace-taken
-standing v v′ K Q w n h k = ap (λ x. eqb n 0 or not (eqb x 0)) (w .levels n h) ∙ k
+standing w n h k = ap (λ x. eqb n 0 or not (eqb x 0)) (w .levels n h) ∙ k

@@ -38,38 +38,38 @@ abbrev pub Named : Table → Table → ℕ → ℕ → ℕ → ℕ → Type 0
 Named t u s r x y = ((x ≡ process-slots) × (y ≡ process-slots)) ⊎ (Twin (view t) (view u) s r x y × (x < process-slots) × (y < process-slots))
 
 -- a number names twins, or nobody
-pub named-twins : (t u : Table) (s r i j : ℕ) → Ready t u s r i j → (z : ℤ) → Named t u s r (named (view t) i z) (named (view u) j z)
+pub named-twins : {t u : Table} {s r i j : ℕ} → Ready t u s r i j → (z : ℤ) → Named t u s r (named (view t) i z) (named (view u) j z)
 unfolding named
-named-twins t u s r i j w (pos zero) = inl (refl, refl)
-named-twins t u s r i j w (pos (suc k)) = find-twins (view t) (view u) s r (w .pair) _ _ (suc k) (owns-twins t u s r i j w)
-named-twins t u s r i j w (negsuc k) = inl (refl, refl)
+named-twins w (pos zero) = inl (refl, refl)
+named-twins w (pos (suc k)) = find-twins (w .pair) (suc k) (owns-twins w)
+named-twins w (negsuc k) = inl (refl, refl)
 
-module _ (t u : Table) (s r i j : ℕ) (w : Ready t u s r i j) where
+module _ {t u : Table} {s r i j : ℕ} (w : Ready t u s r i j) where
   -- both callers take the own namespaces of two twins that they see
-  set-children-kept : (x y : ℕ) → Twin (view t) (view u) s r x y → So (seen (view t) (view t .own i) x) → So (seen (view u) (view u .own j) y) → Kept t u s r (answers (set-children t i (view t .own x) (process t i .unshared)) 0) (answers (set-children u j (view u .own y) (process u j .unshared)) 0)
+  set-children-kept : {x y : ℕ} → Twin (view t) (view u) s r x y → So (seen (view t) (view t .own i) x) → So (seen (view u) (view u .own j) y) → Kept t u s r (answers (set-children t i (view t .own x) (process t i .unshared)) 0) (answers (set-children u j (view u .own y) (process u j .unshared)) 0)
   unfolding set-children row answers granted
-  set-children-kept x y k sx sy =
+  set-children-kept {x} {y} k sx sy =
       let z = shown t u s r (w .pair) i j (w .twin) in
       let a = setns-sane t (w .sound-t) i x (process t i .unshared) (runs-lives t i (w .runs-t)) sx in
       let b = setns-sane u (w .sound-u) j y (process u j .unshared) (runs-lives u j (w .runs-u)) sy in
       inr (
         refl,
-        freed-alike t u _ _ a b s r
+        freed-alike t u a b
             (record {
               facts-v = a .facts;
               facts-u = b .facts;
               alive-v = w .pair .alive-v;
               alive-u = w .pair .alive-u;
               same =
-                  same-put t u s r i j (w .pair) (w .twin) (lt-t t u s r i j w) (lt-u t u s r i j w) _ _ (record { owns = refl; parents = refl; pids = refl }) (record { owns = refl; parents = refl; pids = refl })
-                  (record { states = z .states; handleds = z .handleds; pendings = z .pendings; marks = z .marks; childrens = ap (λ (q : Row). q .own) (twin-rows (view t) (view u) s r (w .pair) x y k) });
+                  same-put t u (w .pair) (w .twin) (lt-t w) (lt-u w) (record { owns = refl; parents = refl; pids = refl }) (record { owns = refl; parents = refl; pids = refl })
+                  (record { states = z .states; handleds = z .handleds; pendings = z .pendings; marks = z .marks; childrens = ap (λ (q : Row). q .own) (twin-rows (w .pair) k) });
             }),
       )
 
 -- setns by twin callers
 pub setns-same : (z : ℤ) → MadeSame (Setns z)
 unfolding MadeSame make setns _or_ answers granted
-setns-same z t u s r i j w h g = go (named-twins t u s r i j w z)
+setns-same z t u s r i j w h g = go (named-twins w z)
   where
     x : ℕ
     x = named (view t) i z
@@ -78,13 +78,13 @@ setns-same z t u s r i j w h g = go (named-twins t u s r i j w z)
     y = named (view u) j z
 
     either : (a : Twin (view t) (view u) s r x y) → eqb x process-slots ≡ false → eqb y process-slots ≡ false → (b : Bool) → view t .ended x ≡ b → view u .ended y ≡ b → Kept t u s r (setns t i z) (setns u j z)
-    either a ex ey true e d = rw (ex, ey, e, d, setns) (both-refuse t u s r i j w Esrch)
-    either a ex ey false e d = rw (ex, ey, e, d, setns) (set-children-kept t u s r i j w x y a (named-seen (view t) i z (eqb-false _ _ ex)) (named-seen (view u) j z (eqb-false _ _ ey)))
+    either a ex ey true e d = rw (ex, ey, e, d, setns) (both-refuse w Esrch)
+    either a ex ey false e d = rw (ex, ey, e, d, setns) (set-children-kept w a (named-seen (view t) i z (eqb-false _ _ ex)) (named-seen (view u) j z (eqb-false _ _ ey)))
 
     go : Named t u s r x y → Kept t u s r (setns t i z) (setns u j z)
-    go (inl (e, d)) = rw (eq-eqb x process-slots e, eq-eqb y process-slots d, setns) (both-refuse t u s r i j w Esrch)
+    go (inl (e, d)) = rw (eq-eqb x process-slots e, eq-eqb y process-slots d, setns) (both-refuse w Esrch)
     go (inr (a, l, m)) =
-        either a (ne-eqb x process-slots (λ e. omega (arith, e))) (ne-eqb y process-slots (λ e. omega (arith, e))) (view t .ended x) refl (sym (ended-twins (view t) (view u) s r (w .pair) x y a))
+        either a (ne-eqb x process-slots (λ e. omega (arith, e))) (ne-eqb y process-slots (λ e. omega (arith, e))) (view t .ended x) refl (sym (ended-twins (w .pair) a))
 
 -- by an outsider
 pub setns-leaves : (z : ℤ) → MadeLeaves (Setns z)
@@ -95,5 +95,5 @@ setns-leaves z t s i h hs k a g = go (eqb (named (view t) i z) process-slots or 
     go true e = rw (e, setns) (as-it-was t s hs)
     go false e =
         rw (e, setns)
-        (freed-leaves t _ s h (setns-sane t h i _ (process t i .unshared) (runs-lives t i k) (named-seen (view t) i z (eqb-false _ _ (or-false-left _ _ e)))) hs hs
-        (same-still (view t) _ s (near (view t) s) (facts t h) (put-still t (facts t h) i (with-children (process t i) (view t .own (named (view t) i z)) (process t i .unshared)) (record { owns = refl; parents = refl; pids = refl }) s (outsider t s i (Setns z) a))))
+        (freed-leaves h (setns-sane t h i _ (process t i .unshared) (runs-lives t i k) (named-seen (view t) i z (eqb-false _ _ (or-false-left _ _ e)))) hs hs
+        (same-still (facts t h) (put-still t (facts t h) i (record { owns = refl; parents = refl; pids = refl }) (outsider t s i (Setns z) a))))

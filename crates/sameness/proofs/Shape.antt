@@ -29,7 +29,7 @@ pub record Shape (v v′ : View) (Q : ℕ → Bool) : Type 0 where
   pub ups : v′ .up ≡ v .up
   pub levels : v′ .level ≡ v .level
 
-module _ (v v′ : View) (Q : ℕ → Bool) (w : Shape v v′ Q) where
+module _ {v v′ : View} {Q : ℕ → Bool} (w : Shape v v′ Q) where
   pub below-shape : (a b : ℕ) → below v′ a b ≡ below v a b
   unfolding below
   below-shape a b = ap₂ (λ (up : ℕ → ℕ) (level : ℕ → ℕ). climb up (level a) a b) (w .ups) (w .levels)
@@ -62,22 +62,22 @@ module _ (v v′ : View) (Q : ℕ → Bool) (w : Shape v v′ Q) where
   pid-in-shape n i h = ap₂ (λ (b : Bool) (x : ℕ). if b then x else 0) (seen-shape n i h) (pid-shape n i h)
 
 -- two tables, the rows of who remains given
-module _ (v u v′ u′ : View) (s r : ℕ) (w : Pair v u s r) (Q Q′ : ℕ → Bool) (a : Shape v v′ Q) (b : Shape u u′ Q′) (both-remain : (i j : ℕ) → Twin v u s r i j → Q i ≡ Q′ j) where
+module _ {v u v′ u′ : View} {s r : ℕ} (w : Pair v u s r) {Q Q′ : ℕ → Bool} (a : Shape v v′ Q) (b : Shape u u′ Q′) (both-remain : (i j : ℕ) → Twin v u s r i j → Q i ≡ Q′ j) where
   -- two tables that were the same to S still are, if the rows of who remains are
   pub same-shape : ((i j : ℕ) → Twin v u s r i j → So (Q i) → row v′ s i ≡ row u′ r j) → Same v′ u′ s r
-  same-shape = same-rows v u v′ u′ s r w Q Q′ (ap (λ (l : ℕ → ℕ). l s) (a .levels)) (ap (λ (l : ℕ → ℕ). l r) (b .levels)) (seen-shape v v′ Q a s) (remains v v′ Q a s) (seen-shape u u′ Q′ b r) (remains u u′ Q′ b r) both-remain
+  same-shape = same-rows v′ u′ w Q Q′ (ap (λ (l : ℕ → ℕ). l s) (a .levels)) (ap (λ (l : ℕ → ℕ). l r) (b .levels)) (seen-shape a s) (remains a s) (seen-shape b r) (remains b r) both-remain
 
-  pub twin-shape : (i j : ℕ) → Twin v u s r i j → So (Q i) → Twin v′ u′ s r i j
-  twin-shape i j k q =
+  pub twin-shape : {i j : ℕ} → Twin v u s r i j → So (Q i) → Twin v′ u′ s r i j
+  twin-shape {i} {j} k q =
       record {
-        seen-v = seen-shape v v′ Q a s i q ∙ k .seen-v;
-        seen-u = seen-shape u u′ Q′ b r j (sym (both-remain i j k) ∙ q) ∙ k .seen-u;
-        pids = pid-shape v v′ Q a s i q ∙ k .pids ∙ sym (pid-shape u u′ Q′ b r j (sym (both-remain i j k) ∙ q));
+        seen-v = seen-shape a s i q ∙ k .seen-v;
+        seen-u = seen-shape b r j (sym (both-remain i j k) ∙ q) ∙ k .seen-u;
+        pids = pid-shape a s i q ∙ k .pids ∙ sym (pid-shape b r j (sym (both-remain i j k) ∙ q));
       }
 
 -- ---- a subtree dies: all below top, top included
 
-module _ (v v′ : View) (f : Facts v) (Q : ℕ → Bool) (w : Shape v v′ Q) (top m : ℕ) (deep : v .level top ≡ suc m) (lives : (n : ℕ) → v′ .life n ≡ (if below v n top then Dead else v .life n)) where
+module _ {v v′ : View} (f : Facts v) {Q : ℕ → Bool} (w : Shape v v′ Q) (top m : ℕ) (deep : v .level top ≡ suc m) (lives : (n : ℕ) → v′ .life n ≡ (if below v n top then Dead else v .life n)) where
   life-out : (n : ℕ) → below v n top ≡ false → v′ .life n ≡ v .life n
   life-out n e = lives n ∙ ap (λ (b : Bool). if b then Dead else v .life n) e
 
@@ -86,7 +86,7 @@ module _ (v v′ : View) (f : Facts v) (Q : ℕ → Bool) (w : Shape v v′ Q) (
 
   -- above what does not lie below top nothing does
   up-out : (n k : ℕ) → v .level n ≡ suc k → below v n top ≡ false → below v (v .up n) top ≡ false
-  up-out n k e h = bool-ext _ _ (λ b. absurd (false≢true (sym h ∙ below-trans v f n (v .up n) top (up-below v f n k e) b))) (λ b. absurd (false≢true b))
+  up-out n k e h = bool-ext _ _ (λ b. absurd (false≢true (sym h ∙ below-trans v f n (v .up n) top (up-below f n k e) b))) (λ b. absurd (false≢true b))
 
   top-up-out : below v (v .up top) top ≡ false
   top-up-out = bool-ext _ _ (λ b. absurd (omega (arith, below-level v f (v .up top) top b, up-level v f top m deep))) (λ b. absurd (false≢true b))
@@ -118,7 +118,7 @@ module _ (v v′ : View) (f : Facts v) (Q : ℕ → Bool) (w : Shape v v′ Q) (
   module _ (stays : (n : ℕ) → So (alive v n) → below v n top ≡ false → So (Q (init v n))) where
     -- outside the subtree names stay; in it they name the init above
     pub name-out : (s n : ℕ) → below v n top ≡ false → So (namespace-taken v n) → name v′ s n ≡ name v s n
-    name-out s n h = name-stays v v′ out f stays-out s (λ m k a. pid-in-shape v v′ Q w s (init v m) (stays m a (isnt (below v m top) k))) n (ap not h)
+    name-out s n h = name-stays f stays-out s (λ m k a. pid-in-shape w s (init v m) (stays m a (isnt (below v m top) k))) n (ap not h)
 
     pub name-in : (s n : ℕ) → So (alive v top) → So (below v n top) → So (namespace-taken v n) → name v′ s n ≡ dead-at (v .level n) (pid-in v s (init v (v .up top)))
     unfolding name name-by
@@ -126,4 +126,4 @@ module _ (v v′ : View) (f : Facts v) (Q : ℕ → Bool) (w : Shape v v′ Q) (
         rw (ne-eqb n no-slot (λ e. omega (arith, f .in-namespace n ht)), life-in n h)
         (ap₂ dead-at (ap (λ (level : ℕ → ℕ). level n) (w .levels))
         (ap (pid-in v′ s) (ap init-of (ap (v′ .life) (ap (λ (level : ℕ → ℕ). nearest (v′ .life) (v′ .up) (level n) n) (w .levels) ∙ near-in a (v .level n) n refl h) ∙ life-out (v .up top) top-up-out))
-        ∙ pid-in-shape v v′ Q w s (init v (v .up top)) (stays (v .up top) (alive-up v f top m a deep) top-up-out)))
+        ∙ pid-in-shape w s (init v (v .up top)) (stays (v .up top) (alive-up v f top m a deep) top-up-out)))

@@ -22,7 +22,7 @@ pub record Stays (v v′ : View) (K : ℕ → Bool) : Type 0 where
   pub lives : (n : ℕ) → So (K n) → v′ .life n ≡ v .life n
   pub up-kept : (n k : ℕ) → So (K n) → v .level n ≡ suc k → So (K (v .up n))
 
-module _ (v v′ : View) (K : ℕ → Bool) (f : Facts v) (w : Stays v v′ K) where
+module _ {v v′ : View} {K : ℕ → Bool} (f : Facts v) (w : Stays v v′ K) where
   climb-stays : (k a b : ℕ) → So (K a) → v .level a ≡ k → climb (v′ .up) k a b ≡ climb (v .up) k a b
   unfolding climb
   climb-stays zero a b h e = refl
@@ -56,7 +56,7 @@ module _ (v v′ : View) (K : ℕ → Bool) (f : Facts v) (w : Stays v v′ K) w
     by-stays n hn ht Dead e =
         let near = ap (λ k. nearest (v′ .life) (v′ .up) k n) (w .levels n hn) ∙ near-stays (v .level n) n hn refl in
         let kept = near-kept (v .level n) n hn refl in
-        ap₂ dead-at (w .levels n hn) (ap (pid-in v′ s) (ap init-of (ap (v′ .life) near ∙ w .lives (anchor v n) kept)) ∙ inits (anchor v n) kept (anchor-alive v f n ht))
+        ap₂ dead-at (w .levels n hn) (ap (pid-in v′ s) (ap init-of (ap (v′ .life) near ∙ w .lives (anchor v n) kept)) ∙ inits (anchor v n) kept (anchor-alive f n ht))
 
     -- so do their names
     pub name-stays : (n : ℕ) → So (K n) → So (namespace-taken v n) → name v′ s n ≡ name v s n

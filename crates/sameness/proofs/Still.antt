@@ -46,7 +46,7 @@ pub record Still (v v′ : View) (s : ℕ) (K : ℕ → Bool) : Type 0 where
   pub parents : (i : ℕ) → So (seen v s i) → pid-in v s (v′ .parent i) ≡ pid-in v s (v .parent i)
   pub lasts : (i : ℕ) → So (seen v s i) → v′ .last (v .own i) ≡ v .last (v .own i)
 
-module _ (v v′ : View) (s : ℕ) (K : ℕ → Bool) (f : Facts v) (w : Still v v′ s K) where
+module _ {v v′ : View} {s : ℕ} {K : ℕ → Bool} (f : Facts v) (w : Still v v′ s K) where
   pub pid-in-still : (i : ℕ) → pid-in v′ s i ≡ pid-in v s i
   unfolding pid-in pid-seen
   pid-in-still i = go (seen v s i) refl
@@ -59,7 +59,7 @@ module _ (v v′ : View) (s : ℕ) (K : ℕ → Bool) (f : Facts v) (w : Still v
   stays = record { ups = w .ups; levels = w .levels; lives = w .lives; up-kept = w .up-kept }
 
   name-still : (n : ℕ) → So (K n) → So (namespace-taken v n) → name v′ s n ≡ name v s n
-  name-still = name-stays v v′ K f stays s (λ m k a. pid-in-still (init v m))
+  name-still = name-stays f stays s (λ m k a. pid-in-still (init v m))
 
   child : (i : ℕ) → So (seen v s i) → name v′ s (v .children i) ≡ name v s (v .children i)
   child i q = ⊎-elim none (λ t. ⊎-elim (λ h. name-still (v .children i) h t) none (w .children-kept i q)) (⊎-elim inr inl (children-of v f i (seen-taken v s i q)))
@@ -92,7 +92,7 @@ module _ (v v′ : View) (s : ℕ) (K : ℕ → Bool) (f : Facts v) (w : Still v
       }
 
   pub below-still : (a b : ℕ) → So (K a) → below v′ a b ≡ below v a b
-  below-still = below-stays v v′ K f stays
+  below-still = below-stays f stays
 
   pub stands-still : So (namespace-taken v s) → So (namespace-taken v′ s)
   unfolding namespace-taken
@@ -103,16 +103,16 @@ module _ (v v′ : View) (s : ℕ) (K : ℕ → Bool) (f : Facts v) (w : Still v
 abbrev pub near : View → ℕ → ℕ → Bool
 near v s n = below v n s or below v s n
 
-module _ (v : View) (f : Facts v) (s : ℕ) where
+module _ {v : View} (f : Facts v) (s : ℕ) where
   pub near-here : So (near v s s)
   near-here = or-left _ _ (below-refl v s)
 
   -- with each its parent, with each process of S its namespaces
   pub near-up : (n k : ℕ) → So (near v s n) → v .level n ≡ suc k → So (near v s (v .up n))
-  near-up n k h e = ⊎-elim (λ b. go (v .level s) refl b) (λ b. or-right _ _ (below-trans v f s n (v .up n) b (up-below v f n k e))) (cases _ _ h)
+  near-up n k h e = ⊎-elim (λ b. go (v .level s) refl b) (λ b. or-right _ _ (below-trans v f s n (v .up n) b (up-below f n k e))) (cases _ _ h)
     where
       open-case : So (below v n s) → Dec (v .level s ≡ v .level n) → So (near v s (v .up n))
-      open-case b (yes q) = or-right _ _ (subst (λ x. So (below v x (v .up n))) (below-same v f n s b (sym q)) (up-below v f n k e))
+      open-case b (yes q) = or-right _ _ (subst (λ x. So (below v x (v .up n))) (below-same v f n s b (sym q)) (up-below f n k e))
       open-case b (no q) = or-left _ _ (below-parent v f n s b (strict (below-level v f n s b) q))
         where
           strict : v .level s ≤ v .level n → (v .level s ≡ v .level n → ⊥) → v .level s < v .level n
@@ -133,20 +133,20 @@ module _ (v : View) (f : Facts v) (s : ℕ) where
 
       go : (b : Bool) → v .ended i ≡ b → So (near v s (v .children i)) ⊎ (v .children i ≡ no-slot)
       go true e = inr (f .ended-bare i ti e .0 .0 .0)
-      go false e = inl (or-left _ _ (below-trans v f _ _ s (children-below v f i (both _ _ ti (ap not e))) (seen-below v s i h)))
+      go false e = inl (or-left _ _ (below-trans v f _ _ s (children-below f i (both _ _ ti (ap not e))) (seen-below v s i h)))
 
 -- one outside S changed in its lights
-pub put-still : (t : Table) (f : Facts (view t)) (c : ℕ) (p : Process) → Placed p (process t c) → (s : ℕ) → seen (view t) s c ≡ false → Still (view t) (view (put t c p)) s (near (view t) s)
-put-still t f c p k s o =
+pub put-still : (t : Table) (f : Facts (view t)) (c : ℕ) {p : Process} → Placed p (process t c) → {s : ℕ} → seen (view t) s c ≡ false → Still (view t) (view (put t c p)) s (near (view t) s)
+put-still t f c {p} k {s} o =
     record {
-      here = near-here (view t) f s;
-      up-kept = near-up (view t) f s;
-      own-kept = near-own (view t) f s;
-      children-kept = near-children (view t) f s;
+      here = near-here f s;
+      up-kept = near-up f s;
+      own-kept = near-own f s;
+      children-kept = near-children f s;
       ups = λ n h. refl;
       levels = λ n h. refl;
       lives = λ n h. refl;
-      seens = λ i. seen-remain (view t) (view (put t c p)) everyone everyone f (light-remain (view t) (view (put t c p)) (put-light t c p k)) s i refl;
+      seens = λ i. seen-remain f (light-remain (put-light t c k)) s i refl;
       owns = λ i h. ap (λ q. q .own .0) (same i h);
       pids = λ i l h. ap (λ q. pid-at q l) (same i h);
       states = λ i h. ap (λ q. q .state) (same i h);
@@ -159,4 +159,4 @@ put-still t f c p k s o =
     }
   where
     same : (i : ℕ) → So (seen (view t) s i) → process (put t c p) i ≡ process t i
-    same i h = put-other t c p k i (λ e. false≢true (sym o ∙ ap (seen (view t) s) (sym e) ∙ h))
+    same i h = put-other t c k i (λ e. false≢true (sym o ∙ ap (seen (view t) s) (sym e) ∙ h))
