@@ -1,8 +1,9 @@
 -- The nearest living namespace, and the name that a sheet gives.
-use Prim.Native.Nat.{ℕ, zero, suc}
+use Prim.Native.Nat.{ℕ, zero, suc, _<_, _≤_}
 use native.Mathlib.Decide.{ℕ-discrete}
 use native.Mathlib.Omega.{arith}
 use mathlib.Core.Bool.{Bool, true, false, So, false≢true}
+use mathlib.Core.Logic.{_⊎_, inl, inr}
 use mathlib.Core.Path.{_≡_, refl, sym, _∙_, ap, subst}
 use borrow.Author.Tests.{ne-eqb, eq-eqb}
 use Rattle.rules.proofs.Laws.Below.{up-level, below-level, below-trans}
@@ -62,6 +63,17 @@ module _ {v : View} (f : Facts v) where
       go : (b : Bool) → alive v n ≡ b → So (alive v (nearest-alive v k (v .up n))) → So (alive v (elim b [ true ↦ n | false ↦ nearest-alive v k (v .up n) ]))
       go true a r = a
       go false a r = r
+
+  -- what lies below another is deeper
+  pub deeper : (a b : ℕ) → So (below v a b) → (a ≡ b → ⊥) → v .level b < v .level a
+  deeper a b h o = go (ℕ-discrete (v .level a) (v .level b)) (below-level v f a b h)
+    where
+      go : Dec (v .level a ≡ v .level b) → v .level b ≤ v .level a → v .level b < v .level a
+      go (yes q) l = absurd (o (below-same v f a b h q))
+      go (no q) l = omega arith
+
+  pub below-up : (a b : ℕ) → So (below v a b) → (a ≡ b → ⊥) → So (below v (v .up a) b)
+  below-up a b h o = below-parent v f a b h (deeper a b h o)
 
   pub up-below : (n k : ℕ) → v .level n ≡ suc k → So (below v n (v .up n))
   unfolding up-by
@@ -123,6 +135,15 @@ module _ {v : View} (f : Facts v) where
 
   pub name-anchor : (s n : ℕ) → So (namespace-taken v n) → unborn v n ≡ false → name-pid (name v s n) ≡ pid-in v s (init v (anchor v n))
   name-anchor s n h k = ap name-pid (name-taken s n h) ∙ by-pid s n (v .life n) refl k
+
+-- what does not live has no init
+pub init-or-none : (v : View) (n : ℕ) → So (alive v n) ⊎ (init v n ≡ no-slot)
+init-or-none v n = go (v .life n)
+  where
+    go : (l : Life) → So (is-alive l) ⊎ (init-of l ≡ no-slot)
+    go Unborn = inr refl
+    go (Alive i) = inl refl
+    go Dead = inr refl
 
 -- no slot has no name
 pub name-no-slot : (v : View) (s n : ℕ) → n ≡ no-slot → name v s n ≡ no-name

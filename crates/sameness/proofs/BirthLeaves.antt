@@ -14,13 +14,13 @@ use Rattle.rules.proofs.Laws.Facts.{Facts, facts, Sane, sane, seen-taken, seen-
 use Rattle.rules.proofs.Laws.Steps.{runs-lives}
 use Rattle.rules.proofs.Laws.Tests.{no-so, isnt-so, left, right, cases, or-false-left, or-false-right, bool-ext}
 use Rattle.rules.proofs.Laws.Tree.{below-refl}
-use Rattle.sameness.proofs.Born.{below-grown, seen-grown, life-born, life-other, bottom, old}
+use Rattle.sameness.proofs.Born.{Room, below-grown, seen-grown, life-born, life-other, bottom, old}
 use Rattle.sameness.proofs.Freeing.{freed-leaves}
-use Rattle.sameness.proofs.NewNamespaceSame.{x-taken, same-free, new-stands, new-outside, new-seen, new-same}
+use Rattle.sameness.proofs.NewNamespace.{new-taken, same-free, new-outside, new-still}
 use Rattle.sameness.proofs.Outside.{MadeLeaves, as-it-was, outsider, stands-leaves, untouched-made}
 use Rattle.sameness.proofs.Readers.{children-taken}
 use Rattle.sameness.proofs.Same.{Same, same-trans}
-use Rattle.sameness.proofs.Still.{Still, same-still, stands-still, near, near-here, near-up, near-own, near-children, put-still}
+use Rattle.sameness.proofs.Still.{Still, same-still, stands-still, near, put-still}
 use Rattle.rules.specs.Answers.{is-refused, refused, answers, granted}
 use Rattle.rules.specs.Births.{birth}
 use Rattle.rules.specs.Calls.{born, clone, clone-new, new-namespace, own-level, set-children, unshare}
@@ -28,7 +28,7 @@ use Rattle.sameness.specs.Events.{at, follow, namespace-inside, sheet-of
 use Rattle.table.specs.Limits.{deepest, namespace-slots, process-slots}
 use Rattle.rules.specs.Pids.{free-namespace-slot, free-slot, next-pid}
 use Rattle.table.specs.Slots.{process}
-use Rattle.rules.specs.Read.{View, below, dead, living, namespace-taken, seen, taken, unborn, view}
+use Rattle.rules.specs.Read.{View, below, dead, living, namespace-taken, seen, unborn, view}
 use Rattle.rules.specs.Records.{with-children}
 use Rattle.sameness.specs.Sheet.{sheet}
 use Rattle.rules.specs.Sound.{SoundTable}
@@ -39,56 +39,47 @@ use Rattle.table.specs.declared.Call.the-variants.{Clone, CloneNew, Unshare}
 use Rattle.table.specs.declared.Table.{Table}
 
 -- a birth in a namespace that is not of S
-module _ {v : View} (f : Facts v) (c n k : ℕ) (new : taken v k ≡ false) (tn : So (namespace-taken v n)) (s : ℕ) (o : below v n s ≡ false) where
+module _ {v : View} {n k : ℕ} (room : Room v n k) (c s : ℕ) (o : below v n s ≡ false) where
   abbrev v′ : View
   v′ = with-born v c n k
 
   apart : (i : ℕ) → So (seen v s i) → i ≡ k → ⊥
-  apart i h = old f c n k new tn i (seen-taken v s i h)
+  apart i h = old room c i (seen-taken v s i h)
 
   seen-either : (i : ℕ) → Dec (i ≡ k) → seen v′ s i ≡ seen v s i
   unfolding seen
-  seen-either i (no e) = seen-grown f c n k new tn s i e
-  seen-either i (yes e) = bool-ext _ _ (λ h. absurd (no-so o (sym (below-grown f c n k new tn n s) ∙ subst (λ x. So (below v′ x s)) (rw (eq-eqb i k e)) (right _ _ h)))) (λ h. absurd (old f c n k new tn i (left _ _ h) e))
+  seen-either i (no e) = seen-grown room c s i e
+  seen-either i (yes e) = bool-ext _ _ (λ h. absurd (no-so o (sym (below-grown room c n s) ∙ subst (λ x. So (below v′ x s)) (rw (eq-eqb i k e)) (right _ _ h)))) (λ h. absurd (old room c i (left _ _ h) e))
 
   life-near : (m : ℕ) → So (near v s m) → (b : Bool) → unborn v m ≡ b → v′ .life m ≡ v .life m
-  life-near m h false e = life-born f c n k new tn m e
-  life-near m h true e = life-other f c n k new tn m e (λ q. ⊎-elim (λ b. not-here (subst (λ x. So (below v x s)) (sym q) b)) (λ b. not-here (subst (λ x. So (below v n x)) (sym (bottom f s m b e ∙ sym q)) (below-refl v n))) (cases _ _ h))
+  life-near m h false e = life-born room c m e
+  life-near m h true e = life-other room c m e (λ q. ⊎-elim (λ b. not-here (subst (λ x. So (below v x s)) (sym q) b)) (λ b. not-here (subst (λ x. So (below v n x)) (sym (bottom (room .facts) s m b e ∙ sym q)) (below-refl v n))) (cases _ _ h))
     where
       not-here : So (below v n s) → ⊥
       not-here b = false≢true (sym o ∙ b)
 
   -- it leaves all that the sheet of S rests on
-  pub birth-still : Still v v′ s (near v s)
+  pub birth-still : Still v v′ s
   birth-still =
       record {
-        here = near-here f s;
-        up-kept = near-up f s;
-        own-kept = near-own f s;
-        children-kept = near-children f s;
         ups = λ m h. refl;
         levels = λ m h. refl;
         lives = λ m h. life-near m h (unborn v m) refl;
         seens = λ i. seen-either i (ℕ-discrete i k);
-        owns = λ i h. rw (ne-eqb i k (apart i h));
+        looks = λ i h. rw (ne-eqb i k (apart i h));
         pids = λ i l h. rw (ne-eqb i k (apart i h));
-        states = λ i h. rw (ne-eqb i k (apart i h));
-        handleds = λ i h. rw (ne-eqb i k (apart i h));
-        pendings = λ i h. rw (ne-eqb i k (apart i h));
-        marks = λ i h. rw (ne-eqb i k (apart i h));
-        childrens = λ i h. rw (ne-eqb i k (apart i h));
         parents = λ i h. rw (ne-eqb i k (apart i h));
         lasts = λ i h. ap (λ (b : Bool). if b then next-pid v (v .own i) else v .last (v .own i)) (not-above i h);
       }
     where
       not-above : (i : ℕ) → So (seen v s i) → below v n (v .own i) ≡ false
-      not-above i h = bool-ext _ _ (λ b. absurd (false≢true (sym o ∙ below-trans v f n (v .own i) s b (seen-below v s i h)))) (λ b. absurd (false≢true b))
+      not-above i h = isnt-so (λ b. no-so o (below-trans v (room .facts) n (v .own i) s b (seen-below v s i h)))
 
 module _ {t : Table} (w : Sane t) (c n : ℕ) (tn : So (namespace-taken (view t) n)) (room : free-slot (view t) ≡ process-slots → ⊥) (s : ℕ) (o : below (view t) n s ≡ false) where
-  still : Still (view t) (view (birth t c n)) s (near (view t) s)
+  still : Still (view t) (view (birth t c n)) s
   still =
       let (low, free) = free-slot-is (view t) room in
-      subst (λ u. Still (view t) u s (near (view t) s)) (sym (birth-view t (w .shape-of) (w .facts) c n tn low)) (birth-still (w .facts) c n (free-slot (view t)) (isnt-so free) tn s o)
+      subst (λ u. Still (view t) u s) (sym (birth-view t (w .shape-of) (w .facts) c n tn low)) (birth-still (record { facts = w .facts; slot = low; empty = isnt-so free; stands = tn }) c s o)
 
   pub birth-same : Same (view (birth t c n)) (view t) s s
   birth-same = same-still (w .facts) still
@@ -129,8 +120,8 @@ clone-new-leaves t s i h hs k a g = go (eqb (own-level (view t) i) deepest) refl
     go false ea true eb g = rw (ea, eb, clone-new) (as-it-was t s hs)
     go false ea false eb g =
         rw (ea, eb, clone-new)
-        (stands-leaves h (rw (ea, eb, clone-new) at g) hs (birth-stands f₁ i x tx room₁ s o (new-stands (sane t h) i room s hs))
-        (same-trans (birth-same f₁ i x tx room₁ s o) (new-same (sane t h) i room s hs)))
+        (stands-leaves h (rw (ea, eb, clone-new) at g) hs (birth-stands f₁ i x tx room₁ s o (stands-still (facts t h) still hs))
+        (same-trans (birth-same f₁ i x tx room₁ s o) (same-still (facts t h) still)))
       where
         x : ℕ
         x = free-namespace-slot (view t)
@@ -141,6 +132,9 @@ clone-new-leaves t s i h hs k a g = go (eqb (own-level (view t) i) deepest) refl
         room : free-namespace-slot (view t) ≡ namespace-slots → ⊥
         room = eqb-false _ _ (or-false-right _ _ eb)
 
+        still : Still (view t) (view t₁) s
+        still = new-still (sane t h) i room s hs
+
         li : So (living (view t) i)
         li = runs-lives t i k
 
@@ -148,13 +142,13 @@ clone-new-leaves t s i h hs k a g = go (eqb (own-level (view t) i) deepest) refl
         f₁ = namespace-sane t (sane t h) i li (eqb-false _ _ ea) room
 
         tx : So (namespace-taken (view t₁) x)
-        tx = x-taken (sane t h) i room
+        tx = new-taken (sane t h) i room
 
         room₁ : free-slot (view t₁) ≡ process-slots → ⊥
         room₁ e = eqb-false _ _ (or-false-left _ _ eb) (sym (same-free t i) ∙ e)
 
         o : below (view t₁) x s ≡ false
-        o = new-outside (sane t h) i room s hs (lives-taken (view t) i li) f₁ (outsider t s i CloneNew a)
+        o = new-outside (sane t h) i room s hs (lives-taken (view t) i li) (f₁ .facts) (outsider t s i CloneNew a)
 
 -- ---- unshare by an outsider
 
@@ -169,10 +163,10 @@ unshare-leaves t s i h hs k a g = go (process t i .unshared) refl (eqb (own-leve
     go false em false ea true eb = rw (em, ea, eb, unshare) (as-it-was t s hs)
     go false em false ea false eb =
         rw (em, ea, eb, unshare)
-        (freed-leaves h (unshare-sane t h i k (eqb-false _ _ ea) room) hs (new-stands (sane t h) i room s hs)
+        (freed-leaves h (unshare-sane t h i k (eqb-false _ _ ea) room) hs (stands-still (facts t h) still hs)
         (same-trans
-        (same-still f₁ (put-still t₁ f₁ i (record { owns = refl; parents = refl; pids = refl }) (new-seen (sane t h) i room s hs i ∙ outsider t s i Unshare a)))
-        (new-same (sane t h) i room s hs)))
+        (same-still f₁ (put-still t₁ f₁ i (with-children (process t₁ i) (free-namespace-slot (view t)) true) (refl, refl, refl) s (still .seens i ∙ outsider t s i Unshare a)))
+        (same-still (facts t h) still)))
       where
         room : free-namespace-slot (view t) ≡ namespace-slots → ⊥
         room = eqb-false _ _ eb
@@ -182,3 +176,6 @@ unshare-leaves t s i h hs k a g = go (process t i .unshared) refl (eqb (own-leve
 
         f₁ : Facts (view t₁)
         f₁ = namespace-sane t (sane t h) i (runs-lives t i k) (eqb-false _ _ ea) room .facts
+
+        still : Still (view t) (view t₁) s
+        still = new-still (sane t h) i room s hs

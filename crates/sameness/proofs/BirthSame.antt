@@ -11,16 +11,15 @@ use lib.Dec.{eqb, leb}
 use Rattle.rules.proofs.Keeps.Birth.{with-born}
 use Rattle.rules.proofs.Laws.Below.{below-level, below-trans}
 use Rattle.rules.proofs.Laws.Facts.{Facts, seen-taken, lives-taken}
-use Rattle.rules.proofs.Laws.Slots.{own-taken, own-not-unborn, alive-taken, alive-not-unborn, init-taken, children-of, init-seen, parent-living, below-parent, below-same}
+use Rattle.rules.proofs.Laws.Slots.{own-not-unborn, alive-taken, alive-not-unborn, init-taken, children-of, init-seen, parent-living, below-parent, below-same}
 use Rattle.rules.proofs.Laws.Tests.{zero-or, no-so, bool-ext}
 use Rattle.rules.proofs.Laws.Tree.{below-refl}
 use Rattle.sameness.proofs.Anchor.{is-unborn-name, name-taken, up-below, name-no-slot}
-use Rattle.sameness.proofs.Born.{seen-grown, pid-in-grown, life-born, life-new, name-born, name-other, name-new, old, child-seen, Cradles, cradle-next, next-unborn, next-twins, last-twins}
-use Rattle.sameness.proofs.ExitSame
+use Rattle.sameness.proofs.Born.{Room, cradle-below, seen-grown, pid-in-grown, life-born, life-new, name-born, name-other, name-new, old, child-seen, Cradles, cradle-next, next-unborn, next-twins, last-twins}
 use Rattle.sameness.proofs.Readers.{is-init-twins, name-unborn}
 use Rattle.sameness.proofs.Same.{Same, row-by}
-use Rattle.sameness.proofs.Twins.{Pair, Twin, Twins, flip-pair, flip-twin, pid-in-seen, twin-rows, twin-there, twins-level, owns, own-alive, below-twins}
-use Rattle.table.specs.Limits.{levels, no-slot, process-slots}
+use Rattle.sameness.proofs.Twins.{top-twins, Pair, Twin, Twins, flip-pair, flip-twin, pid-in-seen, twin-rows, twin-there, twins-level, owns, own-alive, below-twins}
+use Rattle.table.specs.Limits.{levels, no-slot}
 use Rattle.rules.specs.Pids.{next-pid}
 use Rattle.table.specs.Slots.{init-of, is-alive}
 use Rattle.rules.specs.Read.{View, above-at, alive, below, init, is-init, namespace-taken, pid-in, pid-seen, seen, taken, unborn}
@@ -84,32 +83,41 @@ unborn-below {v} f n o h e a =
         lt-of x y = omega arith
 
 -- the last number that a row shows then
-shows : {v : View} (f : Facts v) (c n k : ℕ) (nv : taken v k ≡ false) (tn : So (namespace-taken v n)) (i : ℕ) → So (taken v i) → (if is-init (with-born v c n k) i then with-born v c n k .last (with-born v c n k .own i) else 0) ≡ (if is-init v i then (if below v n (v .own i) then next-pid v (v .own i) else v .last (v .own i)) else 0)
+shows : {v : View} {n k : ℕ} (a : Room v n k) (c : ℕ) (i : ℕ) → So (taken v i) → (if is-init (with-born v c n k) i then with-born v c n k .last (with-born v c n k .own i) else 0) ≡ (if is-init v i then (if below v n (v .own i) then next-pid v (v .own i) else v .last (v .own i)) else 0)
 unfolding is-init
-shows {v} f c n k nv tn i h =
-    rw (ne-eqb i k (old f c n k nv tn i h))
-    (ap (λ (x : Life). if eqb (init-of x) i then (if below v n (v .own i) then next-pid v (v .own i) else v .last (v .own i)) else 0) (life-born f c n k nv tn (v .own i) (own-not-unborn v f i h)))
+shows {v} {n} {k} a c i h =
+    rw (ne-eqb i k (old a c i h))
+    (ap (λ (x : Life). if eqb (init-of x) i then (if below v n (v .own i) then next-pid v (v .own i) else v .last (v .own i)) else 0) (life-born a c (v .own i) (own-not-unborn v (a .facts) i h)))
+
+-- nobody's parent was the child
+parent-old : {v : View} {n k : ℕ} (a : Room v n k) (i : ℕ) → So (taken v i) → v .parent i ≡ k → ⊥
+parent-old {v} a i h q =
+    zero-or i (λ z. omega (arith, a .slot, a .facts .root-parent, ap (v .parent) z, q))
+    (λ z. no-so (a .empty) (subst (λ x. So (taken v x)) q (lives-taken v _ (parent-living v (a .facts) i h z))))
 
 -- and the child's row
-in-old : {v : View} (f : Facts v) (c n k : ℕ) (nv : taken v k ≡ false) (tn : So (namespace-taken v n)) (x : ℕ) → So (alive v n) → (if eqb (init (with-born v c n k) n) k then x else 0) ≡ 0
-in-old {v} f c n k nv tn x h =
-    ap (λ (y : Life). if eqb (init-of y) k then x else 0) (life-born f c n k nv tn n (alive-not-unborn (v .life n) h))
-    ∙ ap (λ (b : Bool). if b then x else 0) (ne-eqb (init v n) k (old f c n k nv tn (init v n) (init-taken v f n h)))
+in-old : {v : View} {n k : ℕ} (a : Room v n k) (c : ℕ) (x : ℕ) → So (alive v n) → (if eqb (init (with-born v c n k) n) k then x else 0) ≡ 0
+in-old {v} {n} {k} a c x h =
+    ap (λ (y : Life). if eqb (init-of y) k then x else 0) (life-born a c n (alive-not-unborn (v .life n) h))
+    ∙ ap (λ (b : Bool). if b then x else 0) (ne-eqb (init v n) k (old a c (init v n) (init-taken v (a .facts) n h)))
 
-in-new : {v : View} (f : Facts v) (c n k : ℕ) (nv : taken v k ≡ false) (tn : So (namespace-taken v n)) → So (unborn v n) → (if eqb (init (with-born v c n k) n) k then with-born v c n k .last n else 0) ≡ next-pid v n
-in-new {v} f c n k nv tn h =
-    ap (λ (x : Life). if eqb (init-of x) k then with-born v c n k .last n else 0) (life-new f c n k nv tn h)
+in-new : {v : View} {n k : ℕ} (a : Room v n k) (c : ℕ) → So (unborn v n) → (if eqb (init (with-born v c n k) n) k then with-born v c n k .last n else 0) ≡ next-pid v n
+in-new {v} {n} {k} a c h =
+    ap (λ (x : Life). if eqb (init-of x) k then with-born v c n k .last n else 0) (life-new a c h)
     ∙ ap₂ (λ (b d : Bool). if b then (if d then next-pid v n else v .last n) else 0) (eq-eqb k k refl) (below-refl v n)
 
-module _ {v u : View} {s r : ℕ} (w : Pair v u s r) {c d : ℕ} (n m k l : ℕ) (tc : Twin v u s r c d) (cradles : Cradles v u s r n m) (tn : So (namespace-taken v n)) (tm : So (namespace-taken u m)) (bn : So (below v n s)) (bm : So (below u m r)) (nv : taken v k ≡ false) (nu : taken u l ≡ false) (kl : k < process-slots) (ll : l < process-slots) (holders : (i j : ℕ) → Twin v u s r i j → So (unborn v n) → eqb (v .children i) n ≡ eqb (u .children j) m) where
+module _ {v u : View} {s r : ℕ} (w : Pair v u s r) {c d : ℕ} {n m k l : ℕ} (a : Room v n k) (b : Room u m l) (tc : Twin v u s r c d) (cradles : Cradles v u s r n m) (holders : (i j : ℕ) → Twin v u s r i j → So (unborn v n) → eqb (v .children i) n ≡ eqb (u .children j) m) where
   abbrev v′ : View
   v′ = with-born v c n k
 
   abbrev u′ : View
   u′ = with-born u d m l
 
-  tops : Twins v u s r s r
-  tops = ExitSame.tops w
+  bn : So (below v n s)
+  bn = cradle-below w cradles .0
+
+  bm : So (below u m r)
+  bm = cradle-below w cradles .1
 
   levels-nm : v .level n ≡ u .level m
   levels-nm = ⊎-elim (λ x. twins-level w x) (λ x. omega (arith, x .level-v, x .level-u, twins-level w (x .ups))) cradles
@@ -123,9 +131,9 @@ module _ {v u : View} {s r : ℕ} (w : Pair v u s r) {c d : ℕ} (n m k l : ℕ)
     where
       go : (z : Bool) → unborn v n ≡ z → name v′ s n ≡ name u′ r m
       go true h =
-          name-new (w .facts-v) c n k nv tn s h bn ∙ ap by-init (next-twins w tops)
-          ∙ sym (name-new (w .facts-u) d m l nu tm r (sym unborn-nm ∙ h) bm)
-      go false h = name-born (w .facts-v) c n k nv tn s n tn h ∙ alike cradles ∙ sym (name-born (w .facts-u) d m l nu tm r m tm (sym unborn-nm ∙ h))
+          name-new a c s h bn ∙ ap by-init (next-twins w (top-twins w))
+          ∙ sym (name-new b d r (sym unborn-nm ∙ h) bm)
+      go false h = name-born a c s n h ∙ alike cradles ∙ sym (name-born b d r m (sym unborn-nm ∙ h))
         where
           alike : Cradles v u s r n m → name v s n ≡ name u r m
           alike (inl x) = alive-name (w .facts-v) s n (x .lives-v) (init-seen v (w .facts-v) n s (x .lives-v) (x .below-v)) ∙ ap by-init (x .inits) ∙ sym (alive-name (w .facts-u) r m (x .lives-u) (init-seen u (w .facts-u) m r (x .lives-u) (x .below-u)))
@@ -144,10 +152,10 @@ module _ {v u : View} {s r : ℕ} (w : Pair v u s r) {c d : ℕ} (n m k l : ℕ)
     tj = seen-taken u r j (x .seen-u)
 
     oi : i ≡ k → ⊥
-    oi = old (w .facts-v) c n k nv tn i ti
+    oi = old a c i ti
 
     oj : j ≡ l → ⊥
-    oj = old (w .facts-u) d m l nu tm j tj
+    oj = old b d j tj
 
     rows : row v s i ≡ row u r j
     rows = twin-rows w x
@@ -160,14 +168,14 @@ module _ {v u : View} {s r : ℕ} (w : Pair v u s r) {c d : ℕ} (n m k l : ℕ)
         e = ap (λ (o : Row). o .children) rows
 
         born : So (namespace-taken v (v .children i)) → So (namespace-taken u (u .children j)) → (z : Bool) → unborn v (v .children i) ≡ z → unborn u (u .children j) ≡ z → name v′ s (v .children i) ≡ name u′ r (u .children j)
-        born g h false y y′ = name-born (w .facts-v) c n k nv tn s (v .children i) g y ∙ e ∙ sym (name-born (w .facts-u) d m l nu tm r (u .children j) h y′)
+        born g h false y y′ = name-born a c s (v .children i) y ∙ e ∙ sym (name-born b d r (u .children j) y′)
         born g h true y y′ = which (ℕ-discrete n (v .children i)) (ℕ-discrete m (u .children j))
           where
             which : Dec (n ≡ v .children i) → Dec (m ≡ u .children j) → name v′ s (v .children i) ≡ name u′ r (u .children j)
             which (yes q₁) (yes q₂) = ap (name v′ s) (sym q₁) ∙ cradle-name ∙ ap (name u′ r) q₂
             which (yes q₁) (no q₂) = absurd (q₂ (sym (eqb-true _ _ (sym (holders i j x (ap (unborn v) q₁ ∙ y)) ∙ eq-eqb (v .children i) n (sym q₁)))))
             which (no q₁) (yes q₂) = absurd (q₁ (sym (eqb-true _ _ (holders i j x (unborn-nm ∙ ap (unborn u) q₂ ∙ y′) ∙ eq-eqb (u .children j) m (sym q₂)))))
-            which (no q₁) (no q₂) = name-other (w .facts-v) c n k nv tn s (v .children i) g y q₁ ∙ sym (name-other (w .facts-u) d m l nu tm r (u .children j) h y′ q₂)
+            which (no q₁) (no q₂) = name-other a c s (v .children i) g y q₁ ∙ sym (name-other b d r (u .children j) h y′ q₂)
 
         go : So (namespace-taken v (v .children i)) ⊎ (v .children i ≡ no-slot) → So (namespace-taken u (u .children j)) ⊎ (u .children j ≡ no-slot) → name v′ s (v .children i) ≡ name u′ r (u .children j)
         go (inl g) (inl h) = born g h (unborn v (v .children i)) refl (sym (name-unborn (w .facts-u) r (u .children j) h) ∙ sym (ap is-unborn-name e) ∙ name-unborn (w .facts-v) s (v .children i) g)
@@ -177,7 +185,7 @@ module _ {v u : View} {s r : ℕ} (w : Pair v u s r) {c d : ℕ} (n m k l : ℕ)
 
     old-last : (if is-init v′ i then v′ .last (v′ .own i) else 0) ≡ (if is-init u′ j then u′ .last (u′ .own j) else 0)
     unfolding row
-    old-last = shows (w .facts-v) c n k nv tn i ti ∙ go (alive v (v .own i)) refl ∙ sym (shows (w .facts-u) d m l nu tm j tj)
+    old-last = shows a c i ti ∙ go (alive v (v .own i)) refl ∙ sym (shows b d j tj)
       where
         go : (z : Bool) → alive v (v .own i) ≡ z → (if is-init v i then (if below v n (v .own i) then next-pid v (v .own i) else v .last (v .own i)) else 0) ≡ (if is-init u j then (if below u m (u .own j) then next-pid u (u .own j) else u .last (u .own j)) else 0)
         go true h =
@@ -185,17 +193,14 @@ module _ {v u : View} {s r : ℕ} (w : Pair v u s r) {c d : ℕ} (n m k l : ℕ)
             λ y. if is-init-twins w x h y then (if below-cradle o y then next-twins w o y else last-twins w o y) else 0
         go false h = rw (not-init (w .facts-v) i ti h, not-init (w .facts-u) j tj (sym (own-alive w x) ∙ h)) refl
 
-    parent-old : {y : View} (f : Facts y) (e k′ : ℕ) → taken y k′ ≡ false → k′ < process-slots → So (taken y e) → y .parent e ≡ k′ → ⊥
-    parent-old {y} f e k′ no-one lt t q = zero-or e (λ z. omega (arith, lt, f .root-parent, ap (y .parent) z, q)) (λ z. no-so no-one (subst (λ x. So (taken y x)) q (lives-taken y _ (parent-living y f e t z))))
-
     old-rows : row v′ s i ≡ row u′ r j
     unfolding row
     old-rows =
         let ei = ne-eqb i k oi in
         let ej = ne-eqb j l oj in
         row-by v′ u′ s r i j (left-pids v c n k i ei (levels - v .level s) (v .level s) ∙ ap (λ (o : Row). o .pids) rows ∙ sym (left-pids u d m l j ej (levels - u .level r) (u .level r))) (rw (ei, ej) (ap (λ (o : Row). o .state) rows)) (rw (ei, ej) (ap (λ (o : Row). o .handled) rows)) (rw (ei, ej) (ap (λ (o : Row). o .pending) rows)) (rw (ei, ej) (ap (λ (o : Row). o .unshared) rows))
-        (rw (ei, ej) (pid-in-grown (w .facts-v) c n k nv tn s (v .parent i) (parent-old (w .facts-v) i k nv kl ti) ∙ ap (λ (o : Row). o .parent) rows ∙ sym (pid-in-grown (w .facts-u) d m l nu tm r (u .parent j) (parent-old (w .facts-u) j l nu ll tj))))
-        (rw (ei, ej) (name-born (w .facts-v) c n k nv tn s (v .own i) (own-taken v (w .facts-v) i ti) (own-not-unborn v (w .facts-v) i ti) ∙ ap (λ (o : Row). o .own) rows ∙ sym (name-born (w .facts-u) d m l nu tm r (u .own j) (own-taken u (w .facts-u) j tj) (own-not-unborn u (w .facts-u) j tj))))
+        (rw (ei, ej) (pid-in-grown a c s (v .parent i) (parent-old a i ti) ∙ ap (λ (o : Row). o .parent) rows ∙ sym (pid-in-grown b d r (u .parent j) (parent-old b j tj))))
+        (rw (ei, ej) (name-born a c s (v .own i) (own-not-unborn v (w .facts-v) i ti) ∙ ap (λ (o : Row). o .own) rows ∙ sym (name-born b d r (u .own j) (own-not-unborn u (w .facts-u) j tj))))
         (rw (ei, ej) old-children)
         old-last
 
@@ -214,17 +219,17 @@ module _ {v u : View} {s r : ℕ} (w : Pair v u s r) {c d : ℕ} (n m k l : ℕ)
   new-last = rw (eq-eqb k k refl, eq-eqb l l refl) (go cradles)
     where
       go : Cradles v u s r n m → (if eqb (init v′ n) k then v′ .last n else 0) ≡ (if eqb (init u′ m) l then u′ .last m else 0)
-      go (inl y) = in-old (w .facts-v) c n k nv tn (v′ .last n) (y .lives-v) ∙ sym (in-old (w .facts-u) d m l nu tm (u′ .last m) (y .lives-u))
+      go (inl y) = in-old a c (v′ .last n) (y .lives-v) ∙ sym (in-old b d (u′ .last m) (y .lives-u))
       go (inr y) =
-          in-new (w .facts-v) c n k nv tn (y .unborn-v) ∙ next-unborn (w .facts-v) (w .facts-u) n m (y .unborn-v) (y .unborn-u) (y .lasts)
-          ∙ sym (in-new (w .facts-u) d m l nu tm (y .unborn-u))
+          in-new a c (y .unborn-v) ∙ next-unborn (w .facts-v) (w .facts-u) n m (y .unborn-v) (y .unborn-u) (y .lasts)
+          ∙ sym (in-new b d (y .unborn-u))
 
   new-rows : row v′ s k ≡ row u′ r l
   new-rows =
       let ek = eq-eqb k k refl in
       let el = eq-eqb l l refl in
       row-by v′ u′ s r k l new-pids (rw (ek, el)) (rw (ek, el)) (rw (ek, el)) (rw (ek, el))
-      (rw (ek, el) (pid-in-grown (w .facts-v) c n k nv tn s c (old (w .facts-v) c n k nv tn c (seen-taken v s c (tc .seen-v))) ∙ pid-in-seen v s c (tc .seen-v) ∙ tc .pids ∙ sym (pid-in-grown (w .facts-u) d m l nu tm r d (old (w .facts-u) d m l nu tm d (seen-taken u r d (tc .seen-u))) ∙ pid-in-seen u r d (tc .seen-u))))
+      (rw (ek, el) (pid-in-grown a c s c (old a c c (seen-taken v s c (tc .seen-v))) ∙ pid-in-seen v s c (tc .seen-v) ∙ tc .pids ∙ sym (pid-in-grown b d r d (old b d d (seen-taken u r d (tc .seen-u))) ∙ pid-in-seen u r d (tc .seen-u))))
       (rw (ek, el) cradle-name) (rw (ek, el) cradle-name) new-last
 
   -- each row stands as it stood, and the children's rows are the same
@@ -237,13 +242,13 @@ module _ {v u : View} {s r : ℕ} (w : Pair v u s r) {c d : ℕ} (n m k l : ℕ)
       }
     where
       there-case : (i : ℕ) → So (seen v′ s i) → Dec (i ≡ k) → (j : ℕ) × So (seen u′ r j) × (row v′ s i ≡ row u′ r j)
-      there-case i h (yes e) = (l, child-seen (w .facts-u) d m l nu tm r bm, ap (row v′ s) e ∙ new-rows)
+      there-case i h (yes e) = (l, child-seen b d r bm, ap (row v′ s) e ∙ new-rows)
       there-case i h (no o) =
-          let (j, x) = twin-there w i (sym (seen-grown (w .facts-v) c n k nv tn s i o) ∙ h) in
-          (j, seen-grown (w .facts-u) d m l nu tm r j (old (w .facts-u) d m l nu tm j (seen-taken u r j (x .seen-u))) ∙ x .seen-u, old-rows x)
+          let (j, x) = twin-there w i (sym (seen-grown a c s i o) ∙ h) in
+          (j, seen-grown b d r j (old b d j (seen-taken u r j (x .seen-u))) ∙ x .seen-u, old-rows x)
 
       back-case : (j : ℕ) → So (seen u′ r j) → Dec (j ≡ l) → (i : ℕ) × So (seen v′ s i) × (row v′ s i ≡ row u′ r j)
-      back-case j h (yes e) = (k, child-seen (w .facts-v) c n k nv tn s bn, new-rows ∙ sym (ap (row u′ r) e))
+      back-case j h (yes e) = (k, child-seen a c s bn, new-rows ∙ sym (ap (row u′ r) e))
       back-case j h (no o) =
-          let (i, x) = twin-there (flip-pair w) j (sym (seen-grown (w .facts-u) d m l nu tm r j o) ∙ h) in
-          (i, seen-grown (w .facts-v) c n k nv tn s i (old (w .facts-v) c n k nv tn i (seen-taken v s i (x .seen-u))) ∙ x .seen-u, old-rows (flip-twin x))
+          let (i, x) = twin-there (flip-pair w) j (sym (seen-grown b d r j o) ∙ h) in
+          (i, seen-grown a c s i (old a c i (seen-taken v s i (x .seen-u))) ∙ x .seen-u, old-rows (flip-twin x))

@@ -1,20 +1,21 @@
 -- A birth: the next number, and what is read of the others, on one table and on two that are the same to S.
-use Prim.Native.Nat.{ℕ, suc, _-_, pred, _≤_}
+use Prim.Native.Nat.{ℕ, suc, _-_, pred, _<_, _≤_}
 use native.Mathlib.Decide.{ℕ-discrete}
 use native.Mathlib.Omega.{arith}
 use mathlib.Core.Bool.{Bool, not, So, true, false, false≢true}
-use mathlib.Core.Logic.{_⊎_, inl, inr}
+use mathlib.Core.Logic.{_⊎_, inl, inr, ⊎-elim}
 use mathlib.Core.Path.{_≡_, refl, sym, _∙_, ap, ap₂, fun-ext, subst}
 use borrow.Author.Tests.{eq-eqb, eqb-true, ne-eqb, le-leb}
 use lib.Dec.{eqb, leb}
 use Rattle.rules.proofs.Keeps.Birth.{with-born, next-fresh}
-use Rattle.rules.proofs.Laws.Below.{below-level}
+use Rattle.rules.proofs.Laws.Below.{below-level, below-trans, deep-namespace}
 use Rattle.rules.proofs.Laws.Facts.{Facts, seen-taken, seen-below}
-use Rattle.rules.proofs.Laws.Slots.{init-own, below-same, below-up-by, up-by-level, up-by-end, init-taken, no-heirs, own-not-unborn}
+use Rattle.rules.proofs.Laws.Slots.{alive-taken, init-own, below-same, below-up-by, up-by-level, up-by-end, init-taken, no-heirs, own-not-unborn}
 use Rattle.rules.proofs.Laws.Tests.{no-so, isnt-so, left, right, both, any-elim, any-intro, isnt, bool-ext}
 use Rattle.rules.proofs.Laws.Tree.{below-refl}
 use Rattle.sameness.proofs.Readers.{seen-above}
-use Rattle.sameness.proofs.Stays.{Stays, name-stays}
+use Rattle.sameness.proofs.Anchor.{init-or-none, up-below}
+use Rattle.sameness.proofs.Remain.{Tree, name-stays}
 use Rattle.sameness.proofs.Twins.{Pair, Twins, flip-pair, flip-twins, twin-there, twin-rows, seen-twins, pid-twins, inits-twin, pid-in-seen, twins-level, twins-up-by}
 use Rattle.table.specs.Limits.{greatest-pid, process-slots, restart-pid, no-slot}
 use Rattle.rules.specs.Pids.{free-pid, next-pid}
@@ -69,8 +70,18 @@ bottom {v} f a m b h = go (ℕ-discrete (v .level a) (v .level m))
         let q : suc d ≡ v .level a - v .level m = omega arith in
         absurd (no-heirs v f m (up-by (v .up) d a) (v .level m) h (omega (arith, up-by-level v f d a (omega arith))) (sym (up-by-end v f d a) ∙ ap (λ x. up-by (v .up) x a) q ∙ below-up-by v f a m b))
 
--- a child of c is born at the slot k, which was empty, in the namespace n
-module _ {v : View} (f : Facts v) (c n k : ℕ) (new : taken v k ≡ false) (tn : So (namespace-taken v n)) where
+-- an empty slot k, and a namespace n
+pub record Room (v : View) (n k : ℕ) : Type 0 where
+  pub facts : Facts v
+  pub slot : k < process-slots
+  pub empty : taken v k ≡ false
+  pub stands : So (namespace-taken v n)
+
+-- a child of c is born there
+module _ {v : View} {n k : ℕ} (room : Room v n k) (c : ℕ) where
+  f : Facts v
+  f = room .facts
+
   abbrev v′ : View
   v′ = with-born v c n k
 
@@ -80,7 +91,7 @@ module _ {v : View} (f : Facts v) (c n k : ℕ) (new : taken v k ≡ false) (tn 
 
   -- one in the table is not the new one
   pub old : (i : ℕ) → So (taken v i) → i ≡ k → ⊥
-  old i h e = no-so new (subst (λ j. So (taken v j)) e h)
+  old i h e = no-so (room .empty) (subst (λ j. So (taken v j)) e h)
 
   -- the others are seen as before, with the same numbers
   pub seen-grown : (m i : ℕ) → (i ≡ k → ⊥) → seen v′ m i ≡ seen v m i
@@ -126,21 +137,21 @@ module _ {v : View} (f : Facts v) (c n k : ℕ) (new : taken v k ≡ false) (tn 
   pub life-new : So (unborn v n) → v′ .life n ≡ Alive (record { 0 = k })
   life-new h = ap₂ (λ (a b : Bool). if a then (if b then Alive (record { 0 = k }) else v .life n) else v .life n) (below-refl v n) h
 
-  -- above one that is not unborn none is
-  up-born : (m j : ℕ) → v .level m ≡ suc j → unborn v (v .up m) ≡ false
-  up-born m j e = isnt-so (λ h. no-heirs v f (v .up m) m j h e refl)
-
   -- ---- names
 
   abbrev born : ℕ → Bool
   born m = not (unborn v m)
 
-  stays-born : Stays v v′ born
-  stays-born = record { ups = λ m h. refl; levels = λ m h. refl; lives = λ m h. life-born m (isnt (unborn v m) h); up-kept = λ m j h e. ap not (up-born m j e) }
+  born-tree : Tree v v′ born
+  born-tree = record { ups = λ m h. refl; levels = λ m h. refl; up-kept = λ m j h e. ap not (isnt-so (λ q. no-heirs v f (v .up m) m j q e refl)) }
+
+  -- no init is the child
+  init-old : (m : ℕ) → init v m ≡ k → ⊥
+  init-old m e = ⊎-elim (λ a. old _ (init-taken v f m a) e) (λ q. omega (arith, q, e, room .slot)) (init-or-none v m)
 
   -- a namespace that was born keeps its name, an unborn one keeps it or is born
-  pub name-born : (s m : ℕ) → So (namespace-taken v m) → unborn v m ≡ false → name v′ s m ≡ name v s m
-  name-born s m ht h = name-stays f stays-born s (λ a k l. pid-in-grown s (init v a) (old _ (init-taken v f a l))) m (ap not h) ht
+  pub name-born : (s m : ℕ) → unborn v m ≡ false → name v′ s m ≡ name v s m
+  name-born s m h = name-stays f born-tree (λ a k. life-born a (isnt (unborn v a) k)) s (λ a k. pid-in-grown s (init v a) (init-old a)) m (ap not h)
 
   pub name-other : (s m : ℕ) → So (namespace-taken v m) → So (unborn v m) → (n ≡ m → ⊥) → name v′ s m ≡ unborn-name
   unfolding name name-by
@@ -154,7 +165,7 @@ module _ {v : View} (f : Facts v) (c n k : ℕ) (new : taken v k ≡ false) (tn 
   pub name-new : (s : ℕ) → So (unborn v n) → So (below v n s) → name v′ s n ≡ by-init (next-pid v s)
   unfolding name name-by
   name-new s h b =
-      rw (ne-eqb n no-slot (λ e. omega (arith, f .in-namespace n tn)), life-new h)
+      rw (ne-eqb n no-slot (λ e. omega (arith, f .in-namespace n (room .stands))), life-new h)
       (ap by-init (pid-in-seen v′ s k (child-seen s b) ∙ child-pid-in s b))
 
 -- ---- the numbers that two newborns get from S's level down are the same
@@ -186,6 +197,15 @@ pub record Unborns (v u : View) (s r n m : ℕ) : Type 0 where
 
 abbrev pub Cradles : View → View → ℕ → ℕ → ℕ → ℕ → Type 0
 Cradles v u s r n m = Twins v u s r n m ⊎ Unborns v u s r n m
+
+-- they lie below S, and stand
+pub cradle-below : {v u : View} {s r n m : ℕ} (w : Pair v u s r) → Cradles v u s r n m → So (below v n s) × So (below u m r)
+cradle-below w (inl k) = (k .below-v, k .below-u)
+cradle-below {v} {u} {n} {m} w (inr k) = (below-trans v (w .facts-v) n (v .up n) _ (up-below (w .facts-v) n _ (k .level-v)) (k .ups .below-v), below-trans u (w .facts-u) m (u .up m) _ (up-below (w .facts-u) m _ (k .level-u)) (k .ups .below-u))
+
+pub cradle-stands : {v u : View} {s r n m : ℕ} (w : Pair v u s r) → Cradles v u s r n m → So (namespace-taken v n) × So (namespace-taken u m)
+cradle-stands {v} {u} {n} {m} w (inl k) = (alive-taken v (w .facts-v) n (k .lives-v), alive-taken u (w .facts-u) m (k .lives-u))
+cradle-stands {v} {u} {n} {m} w (inr k) = (deep-namespace v n _ (k .level-v), deep-namespace u m _ (k .level-u))
 
 -- the numbers that two newborns get from S's level down are the same
 pub cradle-next : {v u : View} {s r : ℕ} (w : Pair v u s r) (n m l : ℕ) → Cradles v u s r n m → v .level s ≤ l → l ≤ v .level n → next-pid v (above-at v n l) ≡ next-pid u (above-at u m l)

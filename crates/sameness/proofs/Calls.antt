@@ -1,22 +1,18 @@
 -- The calls that leave who is where: getpid, getppid, handle, poll, by twin callers.
-use Prim.Native.Nat.{ℕ, _<_}
-use native.Mathlib.Decide.{ℕ-discrete}
-use native.Mathlib.Omega.{arith}
+use Prim.Native.Nat.{ℕ}
 use mathlib.Core.Bool.{Bool, true, false, not, So}
 use mathlib.Core.Logic.{inr}
-use mathlib.Core.Path.{_≡_, refl, sym, _∙_, ap, ap₂, subst}
+use mathlib.Core.Path.{_≡_, refl, sym, _∙_, ap, ap₂}
 use lib.Dec.{eqb}
 use lib.IntN.{ℤ}
-use lib.ListN.{length}
-use Rattle.rules.proofs.Keeps.Changed.{process-count}
-use Rattle.rules.proofs.Laws.Facts.{facts, seen-taken}
+use Rattle.rules.proofs.Laws.Facts.{facts}
 use Rattle.rules.proofs.Laws.Slots.{living-own-alive, alive-taken}
 use Rattle.rules.proofs.Laws.Steps.{runs-lives}
 use Rattle.sameness.proofs.Inside.{Kept, Ready, MadeSame, refused-same, stands-same, follow-self}
-use Rattle.sameness.proofs.Light.{Lights, same-light, Placed, put-light, put-same, put-other}
+use Rattle.sameness.proofs.Light.{Shown, shown, same-put}
 use Rattle.sameness.proofs.Readers.{parent-pid}
 use Rattle.sameness.proofs.Same.{Same, sheets-of-same}
-use Rattle.sameness.proofs.Twins.{Pair, Twin, Twins, twin-rows, twin-unique, flip-pair, flip-twin, owns, pid-twins}
+use Rattle.sameness.proofs.Twins.{Twins, twin-rows, owns, pid-twins}
 use Rattle.rules.specs.Answers.{answers, granted, refused}
 use Rattle.rules.specs.Calls.{getpid, getppid, handle, handle-off, handle-on, natural, poll, within}
 use Rattle.sameness.specs.Events.{at, sheet-of}
@@ -24,14 +20,13 @@ use Rattle.table.specs.Limits.{signals, sigkill, sigstop}
 use Rattle.table.specs.Slots.{process, put}
 use Rattle.rules.specs.Read.{alive, namespace-taken, view}
 use Rattle.rules.specs.Records.{with-signals}
-use Rattle.sameness.specs.Sheet.{Row, name, row, sheet}
+use Rattle.sameness.specs.Sheet.{row, sheet}
 use Rattle.table.specs.SignalSets.{lowest-signal, with-signal, without-signal}
 use Rattle.rules.specs.Sound.{SoundTable}
 use Rattle.rules.specs.Step.{make}
 use Rattle.table.specs.Tests.{_or_}
 use Rattle.table.specs.declared.Answer.the-variants.{Number}
 use Rattle.table.specs.declared.Call.the-variants.{Getpid, Getppid, Handle, Poll}
-use Rattle.table.specs.declared.Process.{Process}
 use Rattle.table.specs.declared.Refusal.the-variants.{Einval}
 use Rattle.table.specs.declared.Refusal.{Refusal}
 use Rattle.table.specs.declared.Table.{Table}
@@ -81,69 +76,18 @@ pub getppid-same : MadeSame Getppid
 unfolding MadeSame make getppid
 getppid-same t u s r i j w h g = both-tell w _ _ (parent-pid (w .pair) (w .twin) (owns-twins w))
 
--- ---- a process changed in its lights only, and its twin likewise
-
--- what two processes show of themselves
-pub record Shown (t u : Table) (s r : ℕ) (p q : Process) : Type 0 where
-  pub states : p .state ≡ q .state
-  pub handleds : p .handled ≡ q .handled
-  pub pendings : p .pending ≡ q .pending
-  pub marks : p .unshared ≡ q .unshared
-  pub childrens : name (view t) s (p .children .0) ≡ name (view u) r (q .children .0)
-
-pub shown : (t u : Table) (s r : ℕ) (w : Pair (view t) (view u) s r) (i j : ℕ) → Twin (view t) (view u) s r i j → Shown t u s r (process t i) (process u j)
-unfolding row
-shown t u s r w i j k =
-    let e = twin-rows w k in
-    record {
-      states = ap (λ (q : Row). q .state) e;
-      handleds = ap (λ (q : Row). q .handled) e;
-      pendings = ap (λ (q : Row). q .pending) e;
-      marks = ap (λ (q : Row). q .unshared) e;
-      childrens = ap (λ (q : Row). q .children) e;
-    }
-
-pub lights-of : {t u : Table} (t′ u′ : Table) {s r i j : ℕ} → Shown t u s r (process t′ i) (process u′ j) → Lights (view t) (view u) (view t′) (view u′) s r i j
-lights-of t′ u′ h = record { states = h .states; handleds = h .handleds; pendings = h .pendings; marks = h .marks; childrens = h .childrens }
-
-module _ (t u : Table) {s r c d : ℕ} (w : Pair (view t) (view u) s r) (k : Twin (view t) (view u) s r c d) (lt : c < length (t .processes)) (lu : d < length (u .processes)) {p q : Process} (a : Placed p (process t c)) (b : Placed q (process u d)) (h : Shown t u s r p q) where
-  pub shown-put : {i j : ℕ} → Twin (view t) (view u) s r i j → Shown t u s r (process (put t c p) i) (process (put u d q) j)
-  shown-put {i} {j} l = go (ℕ-discrete i c) (ℕ-discrete j d)
-    where
-      go : Dec (i ≡ c) → Dec (j ≡ d) → Shown t u s r (process (put t c p) i) (process (put u d q) j)
-      go (yes e) (yes f) =
-          subst (λ (y : ℕ). Shown t u s r (process (put t c p) y) (process (put u d q) j)) (sym e)
-          (subst (λ (y : ℕ). Shown t u s r (process (put t c p) c) (process (put u d q) y)) (sym f)
-          (subst (λ (y : Process). Shown t u s r y (process (put u d q) d)) (sym (put-same t c a lt)) (subst (λ (y : Process). Shown t u s r p y) (sym (put-same u d b lu)) h)))
-      go (yes e) (no f) = absurd (f (twin-unique w l k e))
-      go (no e) (yes f) = absurd (e (twin-unique (flip-pair w) (flip-twin l) (flip-twin k) f))
-      go (no e) (no f) =
-          subst (λ (y : Process). Shown t u s r y (process (put u d q) j)) (sym (put-other t c a i e)) (subst (λ (y : Process). Shown t u s r (process t i) y) (sym (put-other u d b j f)) (shown t u s r w i j l))
-
-  -- the tables stay the same to S
-  pub same-put : Same (view (put t c p)) (view (put u d q)) s r
-  same-put =
-      same-light w (put-light t c a) (put-light u d b)
-      (λ i j l. lights-of (put t c p) (put u d q) (shown-put l))
-
 -- ---- handle, poll
 
 module _ {t u : Table} {s r i j : ℕ} (w : Ready t u s r i j) where
-  pub lt-t : i < length (t .processes)
-  lt-t = omega (arith, process-count t (w .sound-t .shape), facts t (w .sound-t) .in-range i (seen-taken (view t) s i (w .twin .seen-v)))
-
-  pub lt-u : j < length (u .processes)
-  lt-u = omega (arith, process-count u (w .sound-u .shape), facts u (w .sound-u) .in-range j (seen-taken (view u) r j (w .twin .seen-u)))
-
   -- both change their signals alike
   signal-kept : (a b a′ b′ k l : ℕ) → a ≡ a′ → b ≡ b′ → k ≡ l → SoundTable (put t i (with-signals (process t i) a b)) → SoundTable (put u j (with-signals (process u j) a′ b′)) → Kept t u s r (answers (put t i (with-signals (process t i) a b)) k) (answers (put u j (with-signals (process u j) a′ b′)) l)
   unfolding namespace-taken
   signal-kept a b a′ b′ k l ea eb e h g =
       both-change w k l e h g (taken-s w) (taken-r w)
-      (same-put t u (w .pair) (w .twin) lt-t lt-u (record { owns = refl; parents = refl; pids = refl }) (record { owns = refl; parents = refl; pids = refl }) (record { states = z .states; handleds = ea; pendings = eb; marks = z .marks; childrens = z .childrens }))
+      (same-put t u (w .pair) (w .twin) (w .sound-t .shape) (w .sound-u .shape) (record { states = z .states; handleds = ea; pendings = eb; marks = z .marks; childrens = z .childrens }) (refl, refl, refl) (refl, refl, refl))
     where
       z : Shown t u s r (process t i) (process u j)
-      z = shown t u s r (w .pair) i j (w .twin)
+      z = shown t u (w .pair) (w .twin)
 
 -- handle, and poll
 pub handle-same : (z : ℤ) (on : Bool) → MadeSame (Handle z on)
@@ -151,7 +95,7 @@ unfolding MadeSame make handle handle-on handle-off answers granted
 handle-same z on t u s r i j w h g = go (not (within 1 signals z) or eqb (natural z) sigkill or eqb (natural z) sigstop) refl on refl
   where
     y : Shown t u s r (process t i) (process u j)
-    y = shown t u s r (w .pair) i j (w .twin)
+    y = shown t u (w .pair) (w .twin)
 
     go : (b : Bool) → not (within 1 signals z) or eqb (natural z) sigkill or eqb (natural z) sigstop ≡ b → (o : Bool) → on ≡ o → Kept t u s r (handle t i z on) (handle u j z on)
     go true e o q = rw (e, handle) (both-refuse w Einval)
@@ -167,7 +111,7 @@ unfolding MadeSame make poll answers granted
 poll-same t u s r i j w h g = go (eqb (lowest-signal (process t i .pending)) signals) refl
   where
     y : Shown t u s r (process t i) (process u j)
-    y = shown t u s r (w .pair) i j (w .twin)
+    y = shown t u (w .pair) (w .twin)
 
     lows : lowest-signal (process t i .pending) ≡ lowest-signal (process u j .pending)
     lows = ap lowest-signal (y .pendings)

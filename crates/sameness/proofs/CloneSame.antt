@@ -9,17 +9,17 @@ use Rattle.rules.proofs.Keeps.Birth.{birth-view}
 use Rattle.rules.proofs.Keeps.Premises.{free-slot-is}
 use Rattle.rules.proofs.Laws.Below.{up-level, below-trans}
 use Rattle.rules.proofs.Laws.Facts.{Facts, facts, Sane, sane, seen-taken, seen-below}
-use Rattle.rules.proofs.Laws.Slots.{alive-otherwise, root-only, alive-not-unborn}
+use Rattle.rules.proofs.Laws.Slots.{alive-taken, alive-otherwise, root-only, alive-not-unborn}
 use Rattle.rules.proofs.Laws.Steps.{runs-lives}
 use Rattle.rules.proofs.Laws.Tests.{isnt-so, or-true, bool-ext}
 use Rattle.sameness.proofs.Anchor.{anchor-self, root-alive, is-unborn-name, is-dead-name, name-taken}
 use Rattle.sameness.proofs.BirthSame.{birth-same}
-use Rattle.sameness.proofs.Born.{Cradles, next-twins}
-use Rattle.sameness.proofs.Calls.{both-refuse, owns-twins, taken-s, taken-r, the-rows}
+use Rattle.sameness.proofs.Born.{cradle-stands, Cradles, next-twins}
+use Rattle.sameness.proofs.Calls.{both-refuse, owns-twins, the-rows}
 use Rattle.sameness.proofs.Inside.{Kept, Ready, MadeSame, stands-same}
 use Rattle.sameness.proofs.Readers.{twin-eqb, children-taken, children-below, name-unborn, anchors-of}
 use Rattle.sameness.proofs.Same.{Same}
-use Rattle.sameness.proofs.Twins.{Twin, Twins}
+use Rattle.sameness.proofs.Twins.{Pair, Twin, Twins}
 use Rattle.rules.specs.Answers.{is-no-room, refused, number-of, refusal-number}
 use Rattle.rules.specs.Births.{birth}
 use Rattle.rules.specs.Calls.{born, clone}
@@ -46,6 +46,23 @@ one-up {v} f n h k = go (v .level n) refl
     go : (l : ℕ) → v .level n ≡ l → v .level n ≡ suc (v .level (v .up n))
     go zero e = absurd (false≢true (sym (alive-not-unborn (v .life 0) (root-alive f)) ∙ ap (unborn v) (sym (root-only v f n k e)) ∙ h))
     go (suc l) e = e ∙ ap suc (sym (up-level v f n l e))
+
+-- two births by twin callers, on their tables or with a fresh namespace each
+pub born-kept : {t u t₁ u₁ : Table} {s r c d n m : ℕ} (w : Ready t u s r c d) → Sane t₁ → Sane u₁ → Pair (view t₁) (view u₁) s r → Twin (view t₁) (view u₁) s r c d → Cradles (view t₁) (view u₁) s r n m
+    → ((i j : ℕ) → Twin (view t₁) (view u₁) s r i j → So (unborn (view t₁) n) → eqb (view t₁ .children i) n ≡ eqb (view u₁ .children j) m)
+    → (free-slot (view t₁) ≡ process-slots → ⊥) → (free-slot (view u₁) ≡ process-slots → ⊥) → SoundTable (birth t₁ c n) → SoundTable (birth u₁ d m) → Kept t u s r (born t c (birth t₁ c n)) (born u d (birth u₁ d m))
+unfolding namespace-taken
+born-kept {t} {u} {t₁} {u₁} {s} {r} {c} {d} {n} {m} w a b p k cradles holders rt ru h g =
+    let (lt, et) = free-slot-is (view t₁) rt in
+    let (lu, eu) = free-slot-is (view u₁) ru in
+    let (tn, tm) = cradle-stands p cradles in
+    let ev = birth-view t₁ (a .shape-of) (a .facts) c n tn lt in
+    let ew = birth-view u₁ (b .shape-of) (b .facts) d m tm lu in
+    inr (
+      ap Number (next-twins (w .pair) (owns-twins w)),
+      stands-same t u h g (ap (λ (x : View). eqb s 0 or not (eqb (x .level s) 0)) ev ∙ alive-taken _ (a .facts) s (p .alive-v)) (ap (λ (x : View). eqb r 0 or not (eqb (x .level r) 0)) ew ∙ alive-taken _ (b .facts) r (p .alive-u))
+          (subst₂ (λ (x y : View). Same x y s r) (sym ev) (sym ew) (birth-same p (record { facts = a .facts; slot = lt; empty = isnt-so et; stands = tn }) (record { facts = b .facts; slot = lu; empty = isnt-so eu; stands = tm }) k cradles holders)),
+    )
 
 by-dead : (v : View) (s n : ℕ) (l : Life) → is-dead-name (name-by v s n l) ≡ is-dead l
 unfolding name-by
@@ -126,27 +143,6 @@ module _ {t u : Table} {s r c d : ℕ} (w : Ready t u s r c d) where
       (λ q. eq-eqb _ _ (ap (view u .children) (eqb-true j d (sym e ∙ eq-eqb i c (ft .unborn-one _ hn h i c ti (eqb-true _ _ q) tc refl)))))
       (λ q. eq-eqb _ _ (ap (view t .children) (eqb-true i c (e ∙ eq-eqb j d (fu .unborn-one _ hm h′ j d tj (eqb-true _ _ q) td refl)))))
 
-  sane-t : Sane t
-  sane-t = sane t (w .sound-t)
-
-  sane-u : Sane u
-  sane-u = sane u (w .sound-u)
-
-  born-kept : dead (view t) (view t .children c) ≡ false → (free-slot (view t) ≡ process-slots → ⊥) → (free-slot (view u) ≡ process-slots → ⊥) → SoundTable (birth t c (view t .children c)) → SoundTable (birth u d (view u .children d)) → Kept t u s r (born t c (birth t c (view t .children c))) (born u d (birth u d (view u .children d)))
-  unfolding namespace-taken
-  born-kept nd rt ru h g =
-      let (lt, et) = free-slot-is (view t) rt in
-      let (lu, eu) = free-slot-is (view u) ru in
-      let ev = birth-view t (sane-t .shape-of) (sane-t .facts) c (view t .children c) hn lt in
-      let ew = birth-view u (sane-u .shape-of) (sane-u .facts) d (view u .children d) hm lu in
-      inr (
-        ap Number (next-twins (w .pair) (owns-twins w)),
-        stands-same t u h g
-            (ap (λ (x : View). eqb s 0 or not (eqb (x .level s) 0)) ev ∙ taken-s w)
-            (ap (λ (x : View). eqb r 0 or not (eqb (x .level r) 0)) ew ∙ taken-r w)
-            (subst₂ (λ (a b : View). Same a b s r) (sym ev) (sym ew) (birth-same (w .pair) (view t .children c) (view u .children d) (free-slot (view t)) (free-slot (view u)) (w .twin) (cradles nd) hn hm bn bm (isnt-so et) (isnt-so eu) lt lu holders)),
-      )
-
 -- no room on one of the tables
 pub no-room-left : (t u : Table) (s r : ℕ) (y : Outcome) → Kept t u s r (refused t Eagain) y
 unfolding refused is-no-room number-of refusal-number _or_
@@ -169,4 +165,5 @@ clone-same t u s r c d w h g = go (dead (view t) (view t .children c)) refl (eqb
     go false ea true eb b′ eb′ = rw (ea, eb, clone) (no-room-left t u s r (clone u d))
     go false ea false eb true eb′ = rw (sym same ∙ ea, eb′, clone) (no-room-right t u s r (clone t c))
     go false ea false eb false eb′ =
-        rw (ea, sym same ∙ ea, eb, eb′, clone) (born-kept w ea (eqb-false _ _ eb) (eqb-false _ _ eb′) (rw (ea, eb, clone) at h) (rw (sym same ∙ ea, eb′, clone) at g))
+        rw (ea, sym same ∙ ea, eb, eb′, clone)
+        (born-kept w (sane t (w .sound-t)) (sane u (w .sound-u)) (w .pair) (w .twin) (cradles w ea) (holders w) (eqb-false _ _ eb) (eqb-false _ _ eb′) (rw (ea, eb, clone) at h) (rw (sym same ∙ ea, eb′, clone) at g))

@@ -18,12 +18,12 @@ use Rattle.rules.proofs.Laws.Steps.{remainder, runs-lives}
 use Rattle.rules.proofs.Laws.Tests.{no-so, isnt-so, choose, right, both, cases, any-intro, isnt}
 use Rattle.rules.proofs.Laws.Tree.{below-refl}
 use Rattle.sameness.proofs.Freeing.{freed-leaves}
-use Rattle.sameness.proofs.InitEnd.{stays, not-seen-stays, fallen-shape}
+use Rattle.sameness.proofs.Fallen.{not-seen-stays, fallen-places}
 use Rattle.sameness.proofs.MemberEnd.{member-of}
 use Rattle.sameness.proofs.Outside.{MadeLeaves, as-it-was, outsider, untouched-made}
 use Rattle.sameness.proofs.Readers.{pid-in-unseen}
-use Rattle.sameness.proofs.Shape.{seen-shape, seen-gone}
-use Rattle.sameness.proofs.Still.{Still, same-still, stands-still, near, near-here, near-up, near-own, near-children}
+use Rattle.sameness.proofs.Remain.{seen-remain, seen-gone}
+use Rattle.sameness.proofs.Still.{Still, same-still, stands-still, near}
 use Rattle.rules.specs.Answers.{answers, granted, is-refused, refused}
 use Rattle.rules.specs.Calls.{exit, status}
 use Rattle.rules.specs.Ends.{end}
@@ -76,25 +76,16 @@ module _ {v : View} (f : Facts v) (x : ℕ) (e : End) (lives : So (alive v (v .o
       rw (apart i k)
       (choose (λ n. pid-in v s n ≡ pid-in v s (v .parent i)) (child-of v x i) (λ c. pid-in-unseen f s _ init-unseen ∙ sym (pid-in-unseen f s (v .parent i) (ap (seen v s) (eqb-true _ _ (right _ _ c)) ∙ o))) (λ c. refl))
 
-  member-still : Still v (member-of v x e) s (near v s)
+  member-still : Still v (member-of v x e) s
   unfolding seen taken below
   member-still =
       record {
-        here = near-here f s;
-        up-kept = near-up f s;
-        own-kept = near-own f s;
-        children-kept = near-children f s;
         ups = λ n h. refl;
         levels = λ n h. refl;
         lives = λ n h. refl;
         seens = λ i. refl;
-        owns = λ i k. refl;
+        looks = λ i k. rw (apart i k);
         pids = λ i l k. refl;
-        states = λ i k. rw (apart i k);
-        handleds = λ i k. rw (apart i k);
-        pendings = λ i k. rw (apart i k);
-        marks = λ i k. rw (apart i k);
-        childrens = λ i k. rw (apart i k);
         parents = parents-as;
         lasts = λ i k. refl;
       }
@@ -114,30 +105,21 @@ module _ {v : View} (f : Facts v) (x : ℕ) (e : End) (tx : So (taken v x)) (s :
   not-gone i k = isnt _ (not-seen-stays v x i (spared i k))
 
   seen-either : (i : ℕ) (b : Bool) → gone v (v .own x) i ≡ b → seen (subtree-gone v (v .own x) x e) s i ≡ seen v s i
-  seen-either i false q = seen-shape (fallen-shape x e) s i (ap not q)
-  seen-either i true q = seen-gone (fallen-shape x e) s i (ap not q) ∙ sym (isnt-so (λ k. no-so (not-gone i k) q))
+  seen-either i false q = seen-remain f (fallen-places v x e) s i (ap not q)
+  seen-either i true q = seen-gone f (fallen-places v x e) s i (ap not q) ∙ sym (isnt-so (λ k. no-so (not-gone i k) q))
 
   near-lives : (m : ℕ) → So (near v s m) → below v m (v .own x) ≡ false
   near-lives m h = isnt-so (λ k. ⊎-elim (λ b. disjoint m b k) (λ b. no-so n (below-trans v f s m (v .own x) b k)) (cases _ _ h))
 
-  init-still : Still v (subtree-gone v (v .own x) x e) s (near v s)
+  init-still : Still v (subtree-gone v (v .own x) x e) s
   init-still =
       record {
-        here = near-here f s;
-        up-kept = near-up f s;
-        own-kept = near-own f s;
-        children-kept = near-children f s;
         ups = λ m h. refl;
         levels = λ m h. refl;
         lives = λ m h. rw (near-lives m h);
         seens = λ i. seen-either i (gone v (v .own x) i) refl;
-        owns = λ i k. rw (not-gone i k);
+        looks = λ i k. rw (not-gone i k, spared i k);
         pids = λ i l k. rw (not-gone i k);
-        states = λ i k. rw (not-gone i k, spared i k);
-        handleds = λ i k. rw (not-gone i k, spared i k);
-        pendings = λ i k. rw (not-gone i k, spared i k);
-        marks = λ i k. rw (not-gone i k, spared i k);
-        childrens = λ i k. rw (not-gone i k, spared i k);
         parents = λ i k. rw (not-gone i k);
         lasts = λ i k. refl;
       }
@@ -145,11 +127,11 @@ module _ {v : View} (f : Facts v) (x : ℕ) (e : End) (tx : So (taken v x)) (s :
 -- ---- either
 
 -- an end leaves all that the sheet of S rests on
-pub end-still : {t : Table} (w : Sane t) (x : ℕ) (e : End) → So (living (view t) x) → {s : ℕ} → seen (view t) s x ≡ false → (So (is-init (view t) x) → below (view t) s (view t .own x) ≡ false) → Still (view t) (view (end t x e)) s (near (view t) s)
+pub end-still : {t : Table} (w : Sane t) (x : ℕ) (e : End) → So (living (view t) x) → {s : ℕ} → seen (view t) s x ≡ false → (So (is-init (view t) x) → below (view t) s (view t .own x) ≡ false) → Still (view t) (view (end t x e)) s
 end-still {t} w x e l {s} o n =
     let tx = lives-taken (view t) x l in
-    subst (λ u. Still (view t) u s (near (view t) s)) (sym (end-view t w x e tx))
-    (choose (λ u. Still (view t) u s (near (view t) s)) (is-init (view t) x) (λ q. init-still (w .facts) x e tx s o (n q)) (λ q. member-still (w .facts) x e (living-own-alive (view t) (w .facts) x l) tx s o))
+    subst (λ u. Still (view t) u s) (sym (end-view t w x e tx))
+    (choose (λ u. Still (view t) u s) (is-init (view t) x) (λ q. init-still (w .facts) x e tx s o (n q)) (λ q. member-still (w .facts) x e (living-own-alive (view t) (w .facts) x l) tx s o))
 
 -- an init's namespace lives no more
 pub end-dies : {t : Table} (w : Sane t) (x : ℕ) (e : End) → So (taken (view t) x) → So (is-init (view t) x) → alive (view (end t x e)) (view t .own x) ≡ false
@@ -212,5 +194,5 @@ exit-leaves z t s i h hs k a g = go (eqb i 0) refl g
             (λ b. lives-on t (freed t₁) s no-touch (view t .own i) (facts t h .in-namespace _ (own-taken (view t) (facts t h) i (lives-taken (view t) i li))) own-not b (living-own-alive (view t) (facts t h) i li)
             (isnt-so (λ y. false≢true (sym (end-dies (sane t h) i e (lives-taken (view t) i li) m) ∙ freed-back (end-sane t (sane t h) i e li (eqb-false _ _ q) (remainder z)) (view t .own i) y))))
 
-        still : Still (view t) (view t₁) s (near (view t) s)
+        still : Still (view t) (view t₁) s
         still = end-still (sane t h) i e li o not-above

@@ -3,7 +3,7 @@ use Prim.Native.Nat.{ℕ, _<_, _≤_}
 use native.Mathlib.Omega.{arith}
 use mathlib.Core.Bool.{So, Bool, false, true, not, false≢true}
 use mathlib.Core.Logic.{inr, inl, _⊎_}
-use mathlib.Core.Path.{fun-ext, sym, _≡_, ap, _∙_, refl, subst, subst₂}
+use mathlib.Core.Path.{sym, _≡_, ap, _∙_, refl, subst, subst₂}
 use borrow.Author.Tests.{eq-eqb}
 use lib.Dec.{eqb}
 use Rattle.rules.proofs.Keeps.End.{ended-view, end-view, end-sane}
@@ -12,12 +12,12 @@ use Rattle.rules.proofs.Laws.Below.{below-level}
 use Rattle.rules.proofs.Laws.Facts.{Facts, seen-below, lives-taken, Sane}
 use Rattle.rules.proofs.Laws.Slots.{living-own-alive, below-same}
 use Rattle.rules.proofs.Laws.Tests.{false-and, no-so, isnt-so, and-not, choose}
-use Rattle.sameness.proofs.InitEnd.{fallen-shape, both-stay, init-same, stays, init-stays}
+use Rattle.sameness.proofs.Fallen.{fallen-places, init-stays}
+use Rattle.sameness.proofs.InitEnd.{both-stay, init-same}
 use Rattle.sameness.proofs.MemberEnd.{member-remain, member-same, member-of}
 use Rattle.sameness.proofs.Readers.{living-twins, is-init-twins, above-pid}
-use Rattle.sameness.proofs.Remain.{Remain, everyone}
+use Rattle.sameness.proofs.Remain.{Places, everyone, below-stays, pid-remain, seen-remain, twin-remain}
 use Rattle.sameness.proofs.Same.{Same}
-use Rattle.sameness.proofs.Shape.{Shape, below-shape, pid-shape, twin-shape, seen-shape}
 use Rattle.sameness.proofs.Twins.{Pair, Twins, Twin, owns, twins-level}
 use Rattle.rules.specs.Ends.{end}
 use Rattle.table.specs.Slots.{is-alive, init-of}
@@ -77,33 +77,30 @@ ended-end v x e i h =
 
 -- ---- two tables
 
-module _ {v u v′ u′ : View} {s r f g : ℕ} (p : Pair v u s r) (from : Twins v u s r f g) {Q Q′ : ℕ → Bool} (a : Shape v v′ Q) (b : Shape u u′ Q′) (both-remain : (i j : ℕ) → Twin v u s r i j → Q i ≡ Q′ j) where
+module _ {v u v′ u′ : View} {s r f g : ℕ} (p : Pair v u s r) (from : Twins v u s r f g) {Q Q′ : ℕ → Bool} (a : Places v v′ everyone Q) (b : Places u u′ everyone Q′) (both-remain : (i j : ℕ) → Twin v u s r i j → Q i ≡ Q′ j) where
   not-living : (z : View) (i : ℕ) → taken z i ≡ false → living z i ≡ false
   unfolding living
   not-living z i h = false-and _ _ (no-so h)
 
-  from-after : v′ .life f ≡ v .life f → u′ .life g ≡ u .life g → So (Q (init v f)) → So (Q′ (init u g)) → Twins v′ u′ s r f g
+  pub from-after : v′ .life f ≡ v .life f → u′ .life g ≡ u .life g → So (Q (init v f)) → So (Q′ (init u g)) → Twins v′ u′ s r f g
   from-after lt lu qt qu =
       record {
         lives-v = ap is-alive lt ∙ from .lives-v;
         lives-u = ap is-alive lu ∙ from .lives-u;
-        below-v = below-shape a f s ∙ from .below-v;
-        below-u = below-shape b g r ∙ from .below-u;
+        below-v = below-stays (p .facts-v) (a .tree) f s refl ∙ from .below-v;
+        below-u = below-stays (p .facts-u) (b .tree) g r refl ∙ from .below-u;
         inits =
-            ap (λ l. pid-seen v′ s (init-of l)) lt ∙ pid-shape a s (init v f) qt ∙ from .inits
-            ∙ sym (ap (λ l. pid-seen u′ r (init-of l)) lu ∙ pid-shape b r (init u g) qu);
+            ap (λ l. pid-seen v′ s (init-of l)) lt ∙ pid-remain (p .facts-v) a s (init v f) refl qt ∙ from .inits
+            ∙ sym (ap (λ l. pid-seen u′ r (init-of l)) lu ∙ pid-remain (p .facts-u) b r (init u g) refl qu);
       }
 
-  targets-after : ((i : ℕ) → living v i ≡ false → living v′ i ≡ false) → ((j : ℕ) → living u j ≡ false → living u′ j ≡ false) → (i j : ℕ) → Target v u s r f i j → Target v′ u′ s r f i j
+  pub targets-after : ((i : ℕ) → living v i ≡ false → living v′ i ≡ false) → ((j : ℕ) → living u j ≡ false → living u′ j ≡ false) → (i j : ℕ) → Target v u s r f i j → Target v′ u′ s r f i j
   targets-after dt du i j (inr (h, k)) = inr (dt i h, du j k)
   targets-after dt du i j (inl (m, h)) = go (Q i) refl
     where
       go : (c : Bool) → Q i ≡ c → Target v′ u′ s r f i j
-      go true q = inl (twin-shape p a b both-remain m q, seen-shape a f i q ∙ h)
+      go true q = inl (twin-remain p a b refl refl both-remain m q, seen-remain (p .facts-v) a f i q ∙ h)
       go false q = inr (not-living v′ i (a .gone i q), not-living u′ j (b .gone j (sym (both-remain i j m) ∙ q)))
-
-remain-shape : {v v′ : View} → Remain v v′ everyone everyone → Shape v v′ everyone
-remain-shape w = record { owns = w .owns; pids = w .pids; gone = w .gone; ups = fun-ext (λ n. w .ups n refl); levels = fun-ext (λ n. w .levels n refl) }
 
 module _ {v u : View} {s r f g x y : ℕ} (e : End) (p : Pair v u s r) (from : Twins v u s r f g) (k : Twin v u s r x y) (sx : So (seen v f x)) (lx : So (living v x)) (fell-v : (i : ℕ) → living v i ≡ false → living (ended-view v x e) i ≡ false) (fell-u : (j : ℕ) → living u j ≡ false → living (ended-view u y e) j ≡ false) (both-init : is-init v x ≡ is-init u y) where
   own-lives : So (alive v (v .own x))
@@ -122,8 +119,8 @@ module _ {v u : View} {s r f g x y : ℕ} (e : End) (p : Pair v u s r) (from : T
         (
           member-same p e k own-lives,
           (
-            from-after p from (remain-shape a) (remain-shape b) (λ i j m. refl) refl refl refl refl,
-            targets-after p from (remain-shape a) (remain-shape b) (λ i j m. refl) (rw h at fell-v) (rw (sym both-init ∙ h) at fell-u),
+            from-after p from (a .places) (b .places) (λ i j m. refl) refl refl refl refl,
+            targets-after p from (a .places) (b .places) (λ i j m. refl) (rw h at fell-v) (rw (sym both-init ∙ h) at fell-u),
           ),
         ),
       )
@@ -150,8 +147,8 @@ module _ {v u : View} {s r f g x y : ℕ} (e : End) (p : Pair v u s r) (from : T
         let deep : v .level s < v .level (v .own x) = omega (arith, deeper, below-level v (p .facts-v) f s (from .below-v)) in
         let positive : 0 < v .level (v .own x) = omega (arith, deep) in
         let up = above-pid p tops deep in
-        let a = fallen-shape x e in
-        let b = fallen-shape y e in
+        let a = fallen-places v x e in
+        let b = fallen-places u y e in
         let c = both-stay p e k own-lives positive up in
         let same = twins-level p tops in
         let lu : u .level g < u .level (u .own y) = omega (arith, deeper, same, twins-level p from) in
@@ -160,7 +157,7 @@ module _ {v u : View} {s r f g x y : ℕ} (e : End) (p : Pair v u s r) (from : T
           (
             init-same p e k own-lives positive up,
             (
-              from-after p from a b c (spared (p .facts-v) x f deeper) (spared (p .facts-u) y g lu) (init-stays (p .facts-v) x f (from .lives-v) (out (p .facts-v) f _ deeper)) (init-stays (p .facts-u) y g (from .lives-u) (out (p .facts-u) g _ lu)),
+              from-after p from a b c (spared (p .facts-v) x f deeper) (spared (p .facts-u) y g lu) (init-stays (p .facts-v) x e f (out (p .facts-v) f _ deeper)) (init-stays (p .facts-u) y e g (out (p .facts-u) g _ lu)),
               targets-after p from a b c (rw h at fell-v) (rw (sym both-init ∙ h) at fell-u),
             ),
           ),

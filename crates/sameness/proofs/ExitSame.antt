@@ -12,7 +12,7 @@ use Rattle.rules.proofs.Keeps.End.{end-sane, end-tree, end-view}
 use Rattle.rules.proofs.Keeps.InitEnds.{subtree-gone}
 use Rattle.rules.proofs.Laws.Below.{below-level, up-level}
 use Rattle.rules.proofs.Laws.Facts.{Facts, Sane, sane, seen-taken, seen-below}
-use Rattle.rules.proofs.Laws.Slots.{alive-taken, init-pid, init-own, root-only, pid-unique, alive-up, init-seen}
+use Rattle.rules.proofs.Laws.Slots.{alive-taken, init-own, root-only, pid-unique, alive-up, init-seen}
 use Rattle.rules.proofs.Laws.Steps.{remainder, runs-lives}
 use Rattle.rules.proofs.Laws.Tests.{right, bool-ext}
 use Rattle.rules.proofs.Laws.Tree.{below-refl}
@@ -24,7 +24,7 @@ use Rattle.sameness.proofs.Inside.{Kept, Ready, MadeSame}
 use Rattle.sameness.proofs.MemberEnd.{member-of}
 use Rattle.sameness.proofs.Readers.{is-init-twins, pid-in-unseen}
 use Rattle.sameness.proofs.Same.{Same}
-use Rattle.sameness.proofs.Twins.{Pair, Twin, Twins, flip-pair, flip-twin, twins-unique}
+use Rattle.sameness.proofs.Twins.{top-twins, Pair, Twin, flip-pair, flip-twin, twins-unique}
 use Rattle.rules.specs.Answers.{answers, granted}
 use Rattle.rules.specs.Calls.{exit, status}
 use Rattle.rules.specs.Ends.{end}
@@ -40,11 +40,6 @@ use Rattle.table.specs.declared.End.{End}
 use Rattle.table.specs.declared.Refusal.the-variants.{Ebusy}
 use Rattle.table.specs.declared.State.the-variants.{Ended}
 use Rattle.table.specs.declared.Table.{Table}
-
--- S and S
-pub tops : {v u : View} {s r : ℕ} (w : Pair v u s r) → Twins v u s r s r
-tops {v} {u} {s} {r} w =
-    record { lives-v = w .alive-v; lives-u = w .alive-u; below-v = below-refl v s; below-u = below-refl u r; inits = init-pid v (w .facts-v) s (w .alive-v) ∙ sym (init-pid u (w .facts-u) r (w .alive-u)) }
 
 -- the root init calls inside S only if S is the root
 zero-there : {v u : View} {s r : ℕ} (w : Pair v u s r) {i j : ℕ} → Twin v u s r i j → i ≡ 0 → j ≡ 0
@@ -102,7 +97,7 @@ module _ {t u : Table} {s r c d : ℕ} (w : Ready t u s r c d) (e : End) (ok : S
         alive-s = w .pair .alive-v;
         alive-r = w .pair .alive-u;
         same = w .pair .same;
-        from = tops (w .pair);
+        from = top-twins (w .pair);
       }
 
   -- S lives on
@@ -145,7 +140,7 @@ module _ {t u : Table} {s r c d : ℕ} (w : Ready t u s r c d) (e : End) (ok : S
           id = sym (is-init-twins p (w .twin) (own-lives w)) ∙ ic
 
           od : view u .own d ≡ r
-          od = twins-unique p (owns-twins w) (tops p) oc
+          od = twins-unique p (owns-twins w) (top-twins p) oc
 
           positive-s : 0 < view t .level s
           positive-s = init-positive (p .facts-v) c s ic oc nc (taken-s w)

@@ -9,16 +9,15 @@ use Rattle.rules.proofs.Keeps.Freed.{restrict, kept-up, kept-children, kept-own
 use Rattle.rules.proofs.Laws.Below.{deep-namespace, not-root}
 use Rattle.rules.proofs.Laws.Facts.{Facts, facts, Sane, seen-taken, seen-below}
 use Rattle.rules.proofs.Laws.Lists.{In}
-use Rattle.rules.proofs.Laws.Slots.{children-of, init-own, alive-taken, init-taken}
+use Rattle.rules.proofs.Laws.Slots.{init-own, alive-taken, init-taken}
 use Rattle.rules.proofs.Laws.Tests.{isnt-so, no-so, cases}
-use Rattle.sameness.proofs.Anchor.{name-no-slot}
 use Rattle.sameness.proofs.Remain.{Remain, lit, row-remain, seen-remain, pid-in-remain, name-remain, everyone}
 use Rattle.sameness.proofs.Same.{Same, sheets-of-same, listed-seen}
 use Rattle.sameness.proofs.Twins.{Pair}
 use Rattle.sameness.specs.Events.{at, follow, gone, sheet-of}
 use Rattle.rules.specs.Freeing.{freed, kept}
 use Rattle.rules.specs.Read.{View, all-seen, is-init, namespace-taken, seen, taken, view, alive, init}
-use Rattle.sameness.specs.Sheet.{name, row, sheet}
+use Rattle.sameness.specs.Sheet.{row, sheet}
 use Rattle.rules.specs.Sound.{SoundTable}
 use Rattle.table.specs.Tests.{if_then_else_}
 use Rattle.table.specs.declared.Table.{Table}
@@ -31,29 +30,27 @@ module _ {v : View} (f : Facts v) where
   remain : Remain v w (kept v) everyone
   remain =
       record {
-        owns = λ i q. refl;
-        pids = λ i l q. refl;
-        gone = λ i q. absurd (false≢true (sym q));
-        ups = λ n k. rw k;
-        levels = λ n k. rw k;
+        places =
+            record {
+              tree = record { ups = λ n k. rw k; levels = λ n k. rw k; up-kept = λ n k h e. kept-up v f n (deep-namespace v n k e) (not-root v f n k e) h };
+              owns = λ i q. refl;
+              pids = λ i l q. refl;
+              gone = λ i q. absurd (false≢true (sym q));
+              own-kept = λ i q t. kept-own v f i t;
+            };
         lives = λ n k. rw k;
-        up-kept = λ n k h e. kept-up v f n (deep-namespace v n k e) (not-root v f n k e) h;
-        own-kept = λ i q t. kept-own v f i t;
-        init-kept = λ n k a. refl;
+        inits = λ n k. refl;
       }
 
   seen-freed : (s i : ℕ) → seen w s i ≡ seen v s i
-  seen-freed s i = seen-remain f remain s i refl
+  seen-freed s i = seen-remain f (remain .places) s i refl
 
   row-freed : (s i : ℕ) → So (kept v s) → So (taken v i) → row w s i ≡ row v s i
   unfolding row
   row-freed s i ks h =
       row-remain f remain s i ks refl h
-      ∙ (λ z. lit v s i (v .state i) (v .handled i) (v .pending i) (v .unshared i) (pid-in-remain f remain s (v .parent i) ks refl z) (children z) (last z))
+      ∙ (λ z. lit v s i (v .state i) (v .handled i) (v .pending i) (v .unshared i) (pid-in-remain f (remain .places) s (v .parent i) ks refl z) (name-remain f remain s (v .children i) ks (kept-children v f i h) z) (last z))
     where
-      children : name w s (v .children i) ≡ name v s (v .children i)
-      children = ⊎-elim (λ x. name-remain f remain s (v .children i) ks (kept-children v f i h) x) (λ e. name-no-slot w s _ e ∙ sym (name-no-slot v s _ e)) (children-of v f i h)
-
       last : (if is-init v i then w .last (v .own i) else 0) ≡ (if is-init v i then v .last (v .own i) else 0)
       last = rw (kept-own v f i h)
 

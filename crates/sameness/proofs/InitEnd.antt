@@ -1,75 +1,26 @@
 -- The end of two twin inits: the tables stay the same to S.
-use Prim.Native.Nat.{ℕ, suc, pred, _-_, _<_}
+use Prim.Native.Nat.{ℕ, _<_}
 use native.Mathlib.Omega.{arith}
 use mathlib.Core.Bool.{Bool, true, false, not, So}
-use mathlib.Core.Path.{_≡_, refl, sym, _∙_, ap, ap₂, subst, fun-ext}
-use borrow.Author.Tests.{ne-eqb}
-use lib.Dec.{eqb}
-use Rattle.rules.proofs.Keeps.InitEnds.{subtree-gone, gone}
+use mathlib.Core.Path.{_≡_, refl, sym, _∙_, ap, ap₂}
+use Rattle.rules.proofs.Keeps.InitEnds.{gone}
 use Rattle.rules.proofs.Laws.Below.{below-trans}
-use Rattle.rules.proofs.Laws.Facts.{Facts, seen-taken, seen-below}
-use Rattle.rules.proofs.Laws.Slots.{own-taken, init-own, child-seen}
-use Rattle.rules.proofs.Laws.Tests.{isnt-so, no-so, false-and, right, both, isnt, isnt-not, bool-ext}
+use Rattle.rules.proofs.Laws.Facts.{seen-taken, seen-below}
+use Rattle.rules.proofs.Laws.Slots.{own-taken}
+use Rattle.rules.proofs.Laws.Tests.{no-so, right, both, bool-ext}
 use Rattle.sameness.proofs.Anchor.{anchor, is-unborn-name, name-no-slot}
 use Rattle.sameness.proofs.Readers.{twin-eqb, ended-twins, children-taken, children-below, name-unborn, unborn-outside, anchors-of, below-named, level-named, parent-in-twins}
 use Rattle.sameness.proofs.Same.{Same, row-by}
-use Rattle.sameness.proofs.Shape.{Shape, same-shape, pid-in-shape, name-in, name-out}
+use Rattle.sameness.proofs.Fallen.{fallen, stays, here, fallen-places, parent-left, last-left, name-in, name-out}
+use Rattle.sameness.proofs.Remain.{same-rows, pids-remain}
 use Rattle.sameness.proofs.Twins.{Pair, Twin, Twins, twin-rows, seen-twins, own-levels, owns, twins-level}
-use Rattle.table.specs.Limits.{levels, no-slot, sigkill}
-use Rattle.table.specs.Slots.{init-of}
+use Rattle.table.specs.Limits.{no-slot, sigkill}
 use Rattle.rules.specs.Read.{View, alive, below, init, is-init, living, namespace-taken, pid-in, seen, taken, unborn}
 use Rattle.sameness.specs.Sheet.{Row, dead-at, name, row}
-use Rattle.table.specs.Tests.{_and_, if_then_else_, values}
+use Rattle.table.specs.Tests.{_and_, if_then_else_}
 use Rattle.table.specs.declared.End.the-variants.{Signaled}
 use Rattle.table.specs.declared.End.{End}
-use Rattle.table.specs.declared.Life.the-variants.{Dead}
 use Rattle.table.specs.declared.State.the-variants.{Running, Ended}
-
-pids-shape : {v v′ : View} {Q : ℕ → Bool} (w : Shape v v′ Q) (s i : ℕ) → So (Q i) → values (v′ .pid i) (levels - v′ .level s) (v′ .level s) ≡ values (v .pid i) (levels - v .level s) (v .level s)
-pids-shape w s i q =
-    ap₂ (λ (f : ℕ → ℕ) (level : ℕ → ℕ). values f (levels - level s) (level s)) (fun-ext (λ l. w .pids i l q)) (w .levels)
-
--- ---- one table
-
--- who stays: not in the subtree, or for a parent outside
-abbrev pub stays : View → ℕ → ℕ → Bool
-stays v x i = not (gone v (v .own x) i)
-
-pub not-seen-stays : (v : View) (x i : ℕ) → seen v (v .own x) i ≡ false → So (stays v x i)
-unfolding gone
-not-seen-stays v x i e = ap not (false-and _ _ (no-so e))
-
--- who stays is not gone
-here : (v : View) (x i : ℕ) → So (stays v x i) → gone v (v .own x) i ≡ false
-here v x i s = isnt (gone v (v .own x) i) s
-
--- the tree of namespaces stays, and who stays keeps his place
-pub fallen-shape : {v : View} (x : ℕ) (e : End) → Shape v (subtree-gone v (v .own x) x e) (stays v x)
-unfolding taken
-fallen-shape {v} x e =
-    record { owns = λ i s. rw (here v x i s); pids = λ i l s. rw (here v x i s); gone = λ i s. rw (isnt-not (gone v (v .own x) i) s); ups = refl; levels = refl }
-
-parent-left : (v : View) (x : ℕ) (e : End) (i : ℕ) → So (stays v x i) → subtree-gone v (v .own x) x e .parent i ≡ v .parent i
-parent-left v x e i q = rw (here v x i q)
-
-module _ {v : View} (f : Facts v) (x : ℕ) where
-  -- the init of a namespace outside stays
-  pub init-stays : (n : ℕ) → So (alive v n) → below v n (v .own x) ≡ false → So (stays v x (init v n))
-  unfolding seen
-  init-stays n a h = not-seen-stays v x (init v n) (isnt-so (λ k. no-so h (subst (λ y. So (below v y (v .own x))) (init-own v f n a) (right _ _ k))))
-
-  -- the parent of one that stays, stays
-  pub parent-stays : (i : ℕ) → So (taken v i) → So (stays v x i) → So (stays v x (v .parent i))
-  unfolding gone
-  parent-stays i h s = not-seen-stays v x (v .parent i) (isnt-so (λ k. no-so (here v x i s) (both _ _ (child-seen v f _ i h k) k)))
-
--- the last number that a row shows
-one-last : {v : View} (f : Facts v) (x : ℕ) (e : End) (i : ℕ) → So (taken v i) → So (stays v x i) → (if eqb (init (subtree-gone v (v .own x) x e) (subtree-gone v (v .own x) x e .own i)) i then v .last (subtree-gone v (v .own x) x e .own i) else 0) ≡ (if below v (v .own i) (v .own x) then 0 else (if eqb (init v (v .own i)) i then v .last (v .own i) else 0))
-one-last {v} f x e i h q = rw (here v x i q) (go (below v (v .own i) (v .own x)))
-  where
-    go : (b : Bool) → (if eqb (init-of (if b then Dead else v .life (v .own i))) i then v .last (v .own i) else 0) ≡ (if b then 0 else (if eqb (init v (v .own i)) i then v .last (v .own i) else 0))
-    go true = ap (λ (c : Bool). if c then v .last (v .own i) else 0) (ne-eqb no-slot i (λ z. omega (arith, f .in-range i h)))
-    go false = refl
 
 -- ---- two tables
 
@@ -78,16 +29,10 @@ module _ {v u : View} {s r : ℕ} (p : Pair v u s r) {x y : ℕ} (e : End) (k : 
   tops = owns p k lives
 
   abbrev v′ : View
-  v′ = subtree-gone v (v .own x) x e
+  v′ = fallen v x e
 
   abbrev u′ : View
-  u′ = subtree-gone u (u .own y) y e
-
-  deep-t : v .level (v .own x) ≡ suc (pred (v .level (v .own x)))
-  deep-t = omega arith
-
-  deep-u : u .level (u .own y) ≡ suc (pred (v .level (v .own x)))
-  deep-u = omega (arith, twins-level p tops)
+  u′ = fallen u y e
 
   sees : {i j : ℕ} → Twin v u s r i j → seen v (v .own x) i ≡ seen u (u .own y) j
   sees m = seen-twins p m tops
@@ -97,26 +42,15 @@ module _ {v u : View} {s r : ℕ} (p : Pair v u s r) {x y : ℕ} (e : End) (k : 
   unfolding gone
   both-stay i j m = ap₂ (λ (a b : Bool). not (a and b)) (sees m) (parent-in-twins p m tops)
 
-  -- a namespace of the dead subtree is named by the init above
-  dead-name : (n m : ℕ) → v .level n ≡ u .level m → So (namespace-taken v n) → So (namespace-taken u m) → So (below v n (v .own x)) → So (below u m (u .own y)) → name v′ s n ≡ name u′ r m
-  dead-name n m l hn hm bn bm =
-      name-in (p .facts-v) (fallen-shape x e) (v .own x) _ deep-t (λ n. refl) (init-stays (p .facts-v) x) s n (tops .lives-v) bn hn
-      ∙ ap₂ dead-at l above
-      ∙ sym (name-in (p .facts-u) (fallen-shape y e) (u .own y) _ deep-u (λ n. refl) (init-stays (p .facts-u) y) r m (tops .lives-u) bm hm)
-
-  -- another is named as before
-  live-name : (n m : ℕ) → name v s n ≡ name u r m → So (namespace-taken v n) → So (namespace-taken u m) → below v n (v .own x) ≡ false → below u m (u .own y) ≡ false → name v′ s n ≡ name u′ r m
-  live-name n m q hn hm bn bm =
-      name-out (p .facts-v) (fallen-shape x e) (v .own x) _ deep-t (λ n. refl) (init-stays (p .facts-v) x) s n bn hn
-      ∙ q
-      ∙ sym (name-out (p .facts-u) (fallen-shape y e) (u .own y) _ deep-u (λ n. refl) (init-stays (p .facts-u) y) r m bm hm)
-
-  either-name : (n m : ℕ) → name v s n ≡ name u r m → v .level n ≡ u .level m → So (namespace-taken v n) → So (namespace-taken u m) → below v n (v .own x) ≡ below u m (u .own y) → name v′ s n ≡ name u′ r m
-  either-name n m q l hn hm b = go (below v n (v .own x)) refl
+  -- a namespace of the dead subtree is named by the init above, another as before
+  either-name : (n m : ℕ) → name v s n ≡ name u r m → So (namespace-taken v n) → So (namespace-taken u m) → below v n (v .own x) ≡ below u m (u .own y) → (So (below v n (v .own x)) → v .level n ≡ u .level m) → name v′ s n ≡ name u′ r m
+  either-name n m q hn hm b l = go (below v n (v .own x)) refl
     where
       go : (c : Bool) → below v n (v .own x) ≡ c → name v′ s n ≡ name u′ r m
-      go true h = dead-name n m l hn hm h (sym b ∙ h)
-      go false h = live-name n m q hn hm h (sym b ∙ h)
+      go true h =
+          name-in (p .facts-v) x e deep (tops .lives-v) s n h hn ∙ ap₂ dead-at (l h) above
+          ∙ sym (name-in (p .facts-u) y e (omega (arith, twins-level p tops)) (tops .lives-u) r m (sym b ∙ h) hm)
+      go false h = name-out (p .facts-v) x e s n h ∙ q ∙ sym (name-out (p .facts-u) y e r m (sym b ∙ h))
 
   module _ (i j : ℕ) (m : Twin v u s r i j) (q : So (stays v x i)) where
     ti : So (taken v i)
@@ -135,22 +69,16 @@ module _ {v u : View} {s r : ℕ} (p : Pair v u s r) {x y : ℕ} (e : End) (k : 
     own-names : name v′ s (v′ .own i) ≡ name u′ r (u′ .own j)
     unfolding row
     own-names =
-        ap (name v′ s) (fallen-shape x e .owns i q)
-        ∙ either-name (v .own i) (u .own j) (ap (λ (o : Row). o .own) (twin-rows p m)) (own-levels p m) (own-taken v (p .facts-v) i ti) (own-taken u (p .facts-u) j tj) own-below
-        ∙ sym (ap (name u′ r) (fallen-shape y e .owns j qj))
+        rw (here v x i q, here u y j qj)
+        (either-name (v .own i) (u .own j) (ap (λ (o : Row). o .own) (twin-rows p m)) (own-taken v (p .facts-v) i ti) (own-taken u (p .facts-u) j tj) own-below (λ b. own-levels p m))
 
     parent-pids : pid-in v′ s (v′ .parent i) ≡ pid-in u′ r (u′ .parent j)
     unfolding row
-    parent-pids =
-        ap (pid-in v′ s) (parent-left v x e i q)
-        ∙ pid-in-shape (fallen-shape x e) s (v .parent i) (parent-stays (p .facts-v) x i ti q)
-        ∙ ap (λ (o : Row). o .parent) (twin-rows p m)
-        ∙ sym (pid-in-shape (fallen-shape y e) r (u .parent j) (parent-stays (p .facts-u) y j tj qj))
-        ∙ sym (ap (pid-in u′ r) (parent-left u y e j qj))
+    parent-pids = parent-left (p .facts-v) x e s i ti q ∙ ap (λ (o : Row). o .parent) (twin-rows p m) ∙ sym (parent-left (p .facts-u) y e r j tj qj)
 
     lasts : (if is-init v′ i then v′ .last (v′ .own i) else 0) ≡ (if is-init u′ j then u′ .last (u′ .own j) else 0)
     unfolding row is-init
-    lasts = one-last (p .facts-v) x e i ti q ∙ (λ z. if own-below z then 0 else twin-rows p m z .last) ∙ sym (one-last (p .facts-u) y e j tj qj)
+    lasts = last-left (p .facts-v) x e i ti q ∙ (λ z. if own-below z then 0 else twin-rows p m z .last) ∙ sym (last-left (p .facts-u) y e j tj qj)
 
     -- of two that live on
     living-names : So (living v i) → So (living u j) → seen v (v .own x) i ≡ false → name v′ s (v .children i) ≡ name u′ r (u .children j)
@@ -178,9 +106,11 @@ module _ {v u : View} {s r : ℕ} (p : Pair v u s r) {x y : ℕ} (e : End) (k : 
 
         go : (b : Bool) → unborn v (v .children i) ≡ b → name v′ s (v .children i) ≡ name u′ r (u .children j)
         go true z =
-            live-name _ _ names hi hj (unborn-outside (p .facts-v) _ i li z (tops .lives-v) o) (unborn-outside (p .facts-u) _ j lj (sym same-unborn ∙ z) (tops .lives-u) (sym (sees m) ∙ o))
+            let a = unborn-outside (p .facts-v) _ i li z (tops .lives-v) o in
+            let b = unborn-outside (p .facts-u) _ j lj (sym same-unborn ∙ z) (tops .lives-u) (sym (sees m) ∙ o) in
+            either-name _ _ names hi hj (a ∙ sym b) (λ h. absurd (no-so a h))
         go false z =
-            either-name _ _ names (level-named p _ _ names hi hj z (sym same-unborn ∙ z) (anchored z)) hi hj (below-named p _ _ (anchored z) tops)
+            either-name _ _ names hi hj (below-named p _ _ (anchored z) tops) (λ h. level-named p _ _ names hi hj z (sym same-unborn ∙ z) (anchored z))
 
     ends-same : v .ended i ≡ u .ended j
     ends-same = ended-twins p m
@@ -207,7 +137,7 @@ module _ {v u : View} {s r : ℕ} (p : Pair v u s r) {x y : ℕ} (e : End) (k : 
         let rows = twin-rows p m in
         let slot = twin-eqb p m k in
         row-by v′ u′ s r i j
-        (pids-shape (fallen-shape x e) s i q ∙ ap (λ (o : Row). o .pids) rows ∙ sym (pids-shape (fallen-shape y e) r j qj))
+        (pids-remain (p .facts-v) (fallen-places v x e) s i refl q ∙ ap (λ (o : Row). o .pids) rows ∙ sym (pids-remain (p .facts-u) (fallen-places u y e) r j refl qj))
         (λ z. if conditions z then Running else (if sees m z then (if slot z then Ended e else (if ends-same z then rows z .state else Ended (Signaled sigkill))) else rows z .state))
         (λ z. if conditions z then 0 else (if sees m z then 0 else rows z .handled))
         (λ z. if conditions z then 0 else (if sees m z then 0 else rows z .pending))
@@ -216,4 +146,4 @@ module _ {v u : View} {s r : ℕ} (p : Pair v u s r) {x y : ℕ} (e : End) (k : 
 
   -- each row that stays is the same on both
   pub init-same : Same v′ u′ s r
-  init-same = same-shape p (fallen-shape x e) (fallen-shape y e) both-stay fallen-rows
+  init-same = same-rows p (fallen-places v x e) (fallen-places u y e) refl refl both-stay fallen-rows

@@ -5,26 +5,25 @@ use native.Mathlib.Omega.{arith}
 use mathlib.Core.Bool.{Bool, true, false, not, So, false≢true}
 use mathlib.Core.List.{List, _∷_, map, []}
 use mathlib.Core.Logic.{inl, inr}
-use mathlib.Core.Path.{_≡_, refl, sym, _∙_, ap, ap₂, subst, subst₂}
+use mathlib.Core.Path.{_≡_, refl, sym, _∙_, ap, ap₂, subst}
 use borrow.Author.Tests.{eq-eqb, ne-eqb, eqb-true, le-leb, lt-ltb}
 use lib.Dec.{eqb}
 use lib.IntN.{ℤ, pos, negsuc}
 use lib.ListN.{length}
-use Rattle.rules.proofs.Keeps.Changed.{process-count}
 use Rattle.rules.proofs.Keeps.Changes.{act-sane}
 use Rattle.rules.proofs.Keeps.Deliver.{Good, action-good}
 use Rattle.rules.proofs.Keeps.Premises.{natural-low}
 use Rattle.rules.proofs.Laws.Below.{below-taken, below-level}
-use Rattle.rules.proofs.Laws.Facts.{Facts, Sane, lives-taken, sane}
+use Rattle.rules.proofs.Laws.Facts.{Facts, Sane, sane}
 use Rattle.rules.proofs.Laws.Find.{targets-seen}
 use Rattle.rules.proofs.Laws.Lists.{In, in-map, map-in, ascending-sorted, Sorted, map-sorted, sorted-unique, heads-equal, tails-equal, not-empty}
 use Rattle.rules.proofs.Laws.Slots.{pid-unique, alive-taken, living-own-alive, root-only, own-taken}
 use Rattle.rules.proofs.Laws.Tests.{left, right, both, or-true, bool-ext}
-use Rattle.sameness.proofs.Calls.{owns-twins, Shown, shown, same-put, both-refuse}
-use Rattle.sameness.proofs.EndSame.{end-same, pair-of, Midway, Onward, Target}
+use Rattle.sameness.proofs.Calls.{owns-twins, both-refuse}
+use Rattle.sameness.proofs.EndSame.{end-same, pair-of, Midway, Onward, Target, from-after, targets-after}
 use Rattle.sameness.proofs.Freeing.{freed-alike}
 use Rattle.sameness.proofs.Inside.{Ready, Kept, MadeSame}
-use Rattle.sameness.proofs.Light.{relight, Placed, put-light, put-other}
+use Rattle.sameness.proofs.Light.{Placed, Shown, shown, same-put, put-other, put-remain}
 use Rattle.sameness.proofs.Readers.{seen-above, twin-eqb, is-init-twins, living-twins}
 use Rattle.sameness.proofs.Same.{seen-listed, listed-seen}
 use Rattle.sameness.proofs.Setns.{Named, named-twins}
@@ -158,58 +157,35 @@ action-twins {t} {u} {s} {r} {f} {g} w {x} {y} n k = go (living (view t) x) refl
     go : (b : Bool) → living (view t) x ≡ b → action-on (view t) f x n ≡ action-on (view u) g y n
     go false e = action-none (view t) f x n e ∙ sym (action-none (view u) g y n (sym (living-twins p k) ∙ e))
     go true e =
-        rw (living-twins p k, is-init-twins p k (living-own-alive (view t) (w .sane-t .facts) x e), twins-eqb p (owns p k (living-own-alive (view t) (w .sane-t .facts) x e)) (w .from), shown t u s r p x y k .handleds, action-on)
+        rw (living-twins p k, is-init-twins p k (living-own-alive (view t) (w .sane-t .facts) x e), twins-eqb p (owns p k (living-own-alive (view t) (w .sane-t .facts) x e)) (w .from), shown t u p k .handleds, action-on)
         refl
 
--- ---- a change of lights keeps who is where
+-- ---- a change that keeps places
 
-relit-twin : {v u : View} (x y : View) {s r i j : ℕ} → Twin v u s r i j → Twin (relight v x) (relight u y) s r i j
-unfolding seen taken below pid-seen
-relit-twin x y k = record { seen-v = k .seen-v; seen-u = k .seen-u; pids = k .pids }
-
-relit-twins : {v u : View} (x y : View) {s r n m : ℕ} → Twins v u s r n m → Twins (relight v x) (relight u y) s r n m
-unfolding below pid-seen
-relit-twins x y k = record { lives-v = k .lives-v; lives-u = k .lives-u; below-v = k .below-v; below-u = k .below-u; inits = k .inits }
-
-relit-seen : (v x : View) (s i : ℕ) → So (seen v s i) → So (seen (relight v x) s i)
-unfolding seen taken below
-relit-seen v x s i h = h
-
-module _ {v u v′ u′ : View} {s r : ℕ} (pv : v′ ≡ relight v v′) (pu : u′ ≡ relight u u′) where
-  pub light-twin : {i j : ℕ} → Twin v u s r i j → Twin v′ u′ s r i j
-  light-twin {i} {j} k = subst₂ (λ (y z : View). Twin y z s r i j) (sym pv) (sym pu) (relit-twin v′ u′ k)
-
-  pub light-twins : {n m : ℕ} → Twins v u s r n m → Twins v′ u′ s r n m
-  light-twins {n} {m} k = subst₂ (λ (y z : View). Twins y z s r n m) (sym pv) (sym pu) (relit-twins v′ u′ k)
-
-pub not-living-put : (t : Table) (c : ℕ) {p : Process} (k : Placed p (process t c)) → So (living (view t) c) → (x : ℕ) → living (view t) x ≡ false → living (view (put t c p)) x ≡ false
+pub not-living-put : (t : Table) (c : ℕ) (p : Process) → So (living (view t) c) → (x : ℕ) → living (view t) x ≡ false → living (view (put t c p)) x ≡ false
 unfolding living taken
-not-living-put t c k h x e =
-    ap (λ (y : Process). not (eqb (pid-at y 0) 0) and not (is-ended (y .state))) (put-other t c k x (λ q. false≢true (sym (ap (living (view t)) (sym q) ∙ e) ∙ h))) ∙ e
+not-living-put t c p h x e =
+    ap (λ (y : Process). not (eqb (pid-at y 0) 0) and not (is-ended (y .state))) (put-other t c p x (λ q. false≢true (sym (ap (living (view t)) (sym q) ∙ e) ∙ h))) ∙ e
 
 module _ {t u : Table} {s r f g : ℕ} (w : Midway t u s r f g) {x y : ℕ} (k : Twin (view t) (view u) s r x y) (lx : So (living (view t) x)) where
   ly : So (living (view u) y)
   ly = sym (living-twins (pair-of w) k) ∙ lx
 
-  -- a change of two twins in their lights
-  pub light-onward : {p q : Process} → Placed p (process t x) → Placed q (process u y) → Shown t u s r p q → Sane (put t x p) → Sane (put u y q) → Onward t u s r f g (put t x p) (put u y q)
-  light-onward {p} a b h ft fu = (
-    record {
-      sane-t = ft;
-      sane-u = fu;
-      alive-s = w .alive-s;
-      alive-r = w .alive-r;
-      same = same-put t u z k (omega (arith, process-count t (w .sane-t .shape-of), w .sane-t .facts .in-range x (lives-taken (view t) x lx))) (omega (arith, process-count u (w .sane-u .shape-of), w .sane-u .facts .in-range y (lives-taken (view u) y ly))) a b h;
-      from = light-twins (put-light t x a) (put-light u y b) (w .from);
-    },
-    λ i j. elim [
-      | inl e ↦ inl (light-twin (put-light t x a) (put-light u y b) (e .0), subst (λ (v : View). So (seen v f i)) (sym (put-light t x a)) (relit-seen (view t) (view (put t x p)) f i (e .1)))
-      | inr e ↦ inr (not-living-put t x a lx i (e .0), not-living-put u y b ly j (e .1))
-    ],
-  )
-    where
-      z : Pair (view t) (view u) s r
-      z = pair-of w
+  -- of two twins
+  pub light-onward : {p q : Process} → Shown t u s r p q → Placed p (process t x) → Placed q (process u y) → Sane (put t x p) → Sane (put u y q) → Onward t u s r f g (put t x p) (put u y q)
+  light-onward {p} {q} h a b ft fu =
+      let pt = put-remain t x p a .places in
+      let pu = put-remain u y q b .places in (
+        record {
+          sane-t = ft;
+          sane-u = fu;
+          alive-s = w .alive-s;
+          alive-r = w .alive-r;
+          same = same-put t u (pair-of w) k (w .sane-t .shape-of) (w .sane-u .shape-of) h a b;
+          from = from-after (pair-of w) (w .from) pt pu (λ i j m. refl) refl refl refl refl;
+        },
+        targets-after (pair-of w) (w .from) pt pu (λ i j m. refl) (not-living-put t x p lx) (not-living-put u y q ly),
+      )
 
 -- ---- delivery
 
@@ -235,13 +211,13 @@ finish-own v f x n e h q = false≢true (sym no-finish ∙ ap is-finish e)
     no-finish : is-finish (action-on v f x n) ≡ false
     no-finish = rw (h, eq-eqb (v .own x) f q, action-on) (go (eqb n 0 or not (living v x)) (eqb n 18) (eqb n 9 or eqb n 19) (has (v .handled x) n))
 
-pub resumed-placed : {p : Process} → Placed (resumed p) p
+pub resumed-placed : (p : Process) → Placed (resumed p) p
 unfolding resumed with-pending
-resumed-placed {p} = go (has (p .handled) 18)
+resumed-placed p = go (has (p .handled) 18)
   where
     go : (b : Bool) → Placed (if b then with-pending (with-state p Running) 18 else with-state p Running) p
-    go true = record { owns = refl; parents = refl; pids = refl }
-    go false = record { owns = refl; parents = refl; pids = refl }
+    go true = (refl, refl, refl)
+    go false = (refl, refl, refl)
 
 resumed-shown : {t u : Table} {s r : ℕ} {p q : Process} → Shown t u s r p q → Shown t u s r (resumed p) (resumed q)
 unfolding resumed with-pending
@@ -269,7 +245,7 @@ root-safe {v} h f x k z =
 
 module _ {t u : Table} {s r f g : ℕ} (w : Midway t u s r f g) {x y : ℕ} (n : ℕ) (low : n < signals) (k : Twin (view t) (view u) s r x y) (hx : So (seen (view t) f x)) (lx : So (living (view t) x)) where
   z : Shown t u s r (process t x) (process u y)
-  z = shown t u s r (pair-of w) x y k
+  z = shown t u (pair-of w) k
 
   good : (e : Action) → action-on (view t) f x n ≡ e → Good (view t) x n e
   good e q = subst (Good (view t) x n) q (action-good (view t) x n f (w .sane-t .facts) (root-safe (w .sane-t .facts) f x hx))
@@ -283,14 +259,12 @@ module _ {t u : Table} {s r f g : ℕ} (w : Midway t u s r f g) {x y : ℕ} (n :
   stop-onward : Sane (act t x n Stop) → Sane (act u y n Stop) → Onward t u s r f g (act t x n Stop) (act u y n Stop)
   unfolding act
   stop-onward st su =
-      light-onward w k lx (record { owns = refl; parents = refl; pids = refl }) (record { owns = refl; parents = refl; pids = refl })
-      (record { states = refl; handleds = z .handleds; pendings = z .pendings; marks = z .marks; childrens = z .childrens }) st su
+      light-onward w k lx (record { states = refl; handleds = z .handleds; pendings = z .pendings; marks = z .marks; childrens = z .childrens }) (refl, refl, refl) (refl, refl, refl) st su
 
   pend-onward : Sane (act t x n Pend) → Sane (act u y n Pend) → Onward t u s r f g (act t x n Pend) (act u y n Pend)
   unfolding act with-pending
   pend-onward st su =
-      light-onward w k lx (record { owns = refl; parents = refl; pids = refl }) (record { owns = refl; parents = refl; pids = refl })
-      (record { states = z .states; handleds = z .handleds; pendings = ap (λ q. with-signal q n) (z .pendings); marks = z .marks; childrens = z .childrens }) st su
+      light-onward w k lx (record { states = z .states; handleds = z .handleds; pendings = ap (λ q. with-signal q n) (z .pendings); marks = z .marks; childrens = z .childrens }) (refl, refl, refl) (refl, refl, refl) st su
 
   finish-onward : action-on (view t) f x n ≡ Finish → Onward t u s r f g (end t x (Signaled n)) (end u y (Signaled n))
   finish-onward e = end-same (Signaled n) w k hx lx (both _ _ (le-leb 1 n (finish-pos (view t) f x n e)) (lt-ltb n signals low)) (finish-own (view t) f x n e)
@@ -298,7 +272,7 @@ module _ {t u : Table} {s r f g : ℕ} (w : Midway t u s r f g) {x y : ℕ} (n :
   resume-action : Onward t u s r f g (act t x n Resume) (act u y n Resume)
   unfolding act
   resume-action =
-      light-onward w k lx (resumed-placed) (resumed-placed) (resumed-shown z)
+      light-onward w k lx (resumed-shown z) (resumed-placed (process t x)) (resumed-placed (process u y))
       (acted-t Resume lx) (acted-u Resume (ly w k lx))
 
   good-u : Good (view t) x n Pend → Good (view u) y n Pend

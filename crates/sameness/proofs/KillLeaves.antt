@@ -21,7 +21,7 @@ use Rattle.sameness.proofs.Kill.{not-living-put, resumed-placed, action
 use Rattle.sameness.proofs.Light.{Placed}
 use Rattle.sameness.proofs.Outside.{MadeLeaves, as-it-was, untouched-made}
 use Rattle.sameness.proofs.Same.{Same, same-trans}
-use Rattle.sameness.proofs.Still.{Still, same-still, stands-still, below-still, near, near-here, put-still}
+use Rattle.sameness.proofs.Still.{Still, same-still, stands-still, above-still, put-still}
 use Rattle.rules.specs.Answers.{answers, granted, is-refused, refused}
 use Rattle.rules.specs.Calls.{kill, names-group, natural, targets, within}
 use Rattle.rules.specs.Delivery.{act, action-on, deliver, deliver-all, with-pending}
@@ -67,14 +67,14 @@ start w h =
       ended = λ i k. k;
     }
 
-onward : {t₀ t t′ : Table} {s : ℕ} → Going t₀ t s → Sane t′ → Still (view t) (view t′) s (near (view t) s) → ((n : ℕ) → So (alive (view t′) n) → So (alive (view t) n)) → ((i : ℕ) → living (view t) i ≡ false → living (view t′) i ≡ false) → Going t₀ t′ s
+onward : {t₀ t t′ : Table} {s : ℕ} → Going t₀ t s → Sane t′ → Still (view t) (view t′) s → ((n : ℕ) → So (alive (view t′) n) → So (alive (view t) n)) → ((i : ℕ) → living (view t) i ≡ false → living (view t′) i ≡ false) → Going t₀ t′ s
 onward {s} g w d b z =
     record {
       sane-now = w;
       same = same-trans (same-still (g .sane-now .facts) d) (g .same);
       stands = stands-still (g .sane-now .facts) d (g .stands);
       seens = λ i. d .seens i ∙ g .seens i;
-      aboves = λ n. below-still (g .sane-now .facts) d s n (near-here (g .sane-now .facts) s) ∙ g .aboves n;
+      aboves = λ n. above-still (g .sane-now .facts) d n ∙ g .aboves n;
       backs = λ n k. g .backs n (b n k);
       ended = λ i k. z i (g .ended i k);
     }
@@ -98,8 +98,8 @@ module _ {t₀ t : Table} {s : ℕ} (x n : ℕ) (g : Going t₀ t s) (o : seen (
   f : Facts (view t)
   f = g .sane-now .facts
 
-  light : {p : Process} → Placed p (process t x) → Sane (put t x p) → Going t₀ (put t x p) s
-  light k w = onward g w (put-still t f x k o) (λ j h. h) (not-living-put t x k l)
+  light : (p : Process) → Placed p (process t x) → Sane (put t x p) → Going t₀ (put t x p) s
+  light p k w = onward g w (put-still t f x p k s o) (λ j h. h) (not-living-put t x p l)
 
   finished : Sane (end t x (Signaled n)) → Above t₀ s (end t x (Signaled n)) → Going t₀ (end t x (Signaled n)) s
   finished w h =
@@ -117,10 +117,10 @@ module _ {t₀ t : Table} {s : ℕ} (x n : ℕ) (g : Going t₀ t s) (o : seen (
   applied : (e : Action) → Sane (act t x n e) → Above t₀ s (act t x n e) → Going t₀ (act t x n e) s
   unfolding act with-pending
   applied Nothing w h = g
-  applied Resume w h = light (resumed-placed) w
-  applied Stop w h = light (record { owns = refl; parents = refl; pids = refl }) w
+  applied Resume w h = light _ (resumed-placed (process t x)) w
+  applied Stop w h = light (with-state (process t x) Stopped) (refl, refl, refl) w
   applied Finish w h = finished w h
-  applied Pend w h = light (record { owns = refl; parents = refl; pids = refl }) w
+  applied Pend w h = light (with-pending (process t x) n) (refl, refl, refl) w
 
 module _ (from n : ℕ) (low : n < signals) where
   -- what lives after deliveries lived before

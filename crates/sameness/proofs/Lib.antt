@@ -6,10 +6,8 @@ pub mod Anchor
 pub mod Twins
 pub mod Readers
 -- changes that leave what the sheet rests on
-pub mod Stays
 pub mod Remain
 pub mod Light
-pub mod Shape
 pub mod Still
 pub mod Freeing
 -- each call, by two callers with the same number in S and by an outsider
@@ -19,6 +17,7 @@ pub mod Calls
 pub mod Setns
 pub mod Wait
 pub mod MemberEnd
+pub mod Fallen
 pub mod InitEnd
 pub mod EndSame
 pub mod ExitSame
@@ -28,6 +27,7 @@ pub mod KillLeaves
 pub mod Born
 pub mod BirthSame
 pub mod CloneSame
+pub mod NewNamespace
 pub mod NewNamespaceSame
 pub mod BirthLeaves
 -- the two lists, and what people will quote of them

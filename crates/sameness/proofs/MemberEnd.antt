@@ -1,21 +1,19 @@
 -- The end of two twins that are no inits: the tables stay the same to S.
 use Prim.Native.Nat.{ℕ}
 use mathlib.Core.Bool.{So, false≢true, false}
-use mathlib.Core.Logic.{⊎-elim, _⊎_, inr}
 use mathlib.Core.Path.{_≡_, sym, _∙_, refl, ap}
 use lib.Dec.{eqb}
 use Rattle.rules.proofs.Keeps.Changed.{pick}
 use Rattle.rules.proofs.Keeps.MemberEnds.{member-gone}
-use Rattle.rules.proofs.Laws.Facts.{Facts, seen-taken}
-use Rattle.rules.proofs.Laws.Slots.{init-seen, children-of}
-use Rattle.rules.proofs.Laws.Tests.{choose}
+use Rattle.rules.proofs.Laws.Facts.{Facts}
+use Rattle.rules.proofs.Laws.Slots.{init-seen}
 use Rattle.sameness.proofs.Anchor.{name-no-slot}
 use Rattle.sameness.proofs.Readers.{twin-eqb, child-twins}
 use Rattle.sameness.proofs.Remain.{Remain, Lit, same-remain, pid-in-remain, name-remain, everyone}
 use Rattle.sameness.proofs.Same.{Same}
 use Rattle.sameness.proofs.Twins.{Pair, Twin, owns, pid-in-seen, twin-rows}
 use Rattle.table.specs.Limits.{no-slot}
-use Rattle.rules.specs.Read.{View, taken, pid-in, init, alive, child-of, namespace-taken}
+use Rattle.rules.specs.Read.{View, taken, pid-in, init, alive, child-of}
 use Rattle.sameness.specs.Sheet.{name, row}
 use Rattle.table.specs.Tests.{if_then_else_}
 use Rattle.table.specs.declared.End.{End}
@@ -29,7 +27,12 @@ member-of v x e = member-gone v x (init v (v .own x)) e
 pub member-remain : {v : View} (x : ℕ) (e : End) → Remain v (member-of v x e) everyone everyone
 unfolding taken
 member-remain x e =
-    record { owns = λ i q. refl; pids = λ i l q. refl; gone = λ i q. absurd (false≢true (sym q)); ups = λ n h. refl; levels = λ n h. refl; lives = λ n h. refl; up-kept = λ n k h q. refl; own-kept = λ i q h. refl; init-kept = λ n h a. refl }
+    record {
+      places =
+          record { tree = record { ups = λ n h. refl; levels = λ n h. refl; up-kept = λ n k h q. refl }; owns = λ i q. refl; pids = λ i l q. refl; gone = λ i q. absurd (false≢true (sym q)); own-kept = λ i q h. refl };
+      lives = λ n h. refl;
+      inits = λ n h. refl;
+    }
 
 module _ {v : View} (f : Facts v) (x : ℕ) (e : End) (s i : ℕ) where
   abbrev after : View
@@ -37,14 +40,11 @@ module _ {v : View} (f : Facts v) (x : ℕ) (e : End) (s i : ℕ) where
 
   parent-after : pid-in after s (after .parent i) ≡ (if eqb i x then pid-in v s (v .parent i) else (if child-of v x i then pid-in v s (init v (v .own x)) else pid-in v s (v .parent i)))
   parent-after =
-      pid-in-remain f (member-remain x e) s (after .parent i) refl refl
+      pid-in-remain f (member-remain x e .places) s (after .parent i) refl refl
       ∙ pick (pid-in v s) (eqb i x) _ _ ∙ ap (λ (n : ℕ). if eqb i x then pid-in v s (v .parent i) else n) (pick (pid-in v s) (child-of v x i) _ _)
 
-  children-after : So (taken v i) → name after s (after .children i) ≡ (if eqb i x then name v s no-slot else name v s (v .children i))
-  children-after h =
-      ⊎-elim (λ k. name-remain f (member-remain x e) s _ refl refl k) (λ z. name-no-slot after s _ z ∙ sym (name-no-slot v s _ z))
-      (choose (λ n. So (namespace-taken v n) ⊎ (n ≡ no-slot)) (eqb i x) (λ a. inr refl) (λ a. children-of v f i h))
-      ∙ pick (name v s) (eqb i x) no-slot (v .children i)
+  children-after : name after s (after .children i) ≡ (if eqb i x then name v s no-slot else name v s (v .children i))
+  children-after = name-remain f (member-remain x e) s (after .children i) refl refl ∙ pick (name v s) (eqb i x) no-slot (v .children i)
 
 module _ {v u : View} {s r : ℕ} (p : Pair v u s r) {x y : ℕ} (e : End) (k : Twin v u s r x y) (lives : So (alive v (v .own x))) where
   -- the inits that take the children
@@ -66,10 +66,7 @@ module _ {v u : View} {s r : ℕ} (p : Pair v u s r) {x y : ℕ} (e : End) (k : 
         pendings = λ z. if slot z then 0 else rows z .pending;
         marks = λ z. if slot z then false else rows z .unshared;
         parents = parent-after (p .facts-v) x e s i ∙ (λ z. if slot z then rows z .parent else (if child z then reapers z else rows z .parent)) ∙ sym (parent-after (p .facts-u) y e r j);
-        childrens =
-            children-after (p .facts-v) x e s i (seen-taken v s i (m .seen-v))
-            ∙ (λ z. if slot z then none z else rows z .children)
-            ∙ sym (children-after (p .facts-u) y e r j (seen-taken u r j (m .seen-u)));
+        childrens = children-after (p .facts-v) x e s i ∙ (λ z. if slot z then none z else rows z .children) ∙ sym (children-after (p .facts-u) y e r j);
         lasts = λ z. rows z .last;
       }
 

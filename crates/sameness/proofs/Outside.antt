@@ -9,7 +9,7 @@ use Rattle.rules.proofs.Laws.Steps.{step-made}
 use Rattle.rules.proofs.Laws.Tests.{left, isnt, right}
 use Rattle.sameness.proofs.Inside.{follow-self}
 use Rattle.sameness.proofs.Same.{Same, sheets-of-same}
-use Rattle.sameness.proofs.Still.{same-still, near, put-still}
+use Rattle.sameness.proofs.Still.{same-still, put-still}
 use Rattle.rules.specs.Answers.{answers, granted, refused, is-refused}
 use Rattle.rules.specs.Calls.{getpid, getppid, handle, handle-off, handle-on, natural, poll, within}
 use Rattle.sameness.specs.Events.{at, follow, is-inside, outside, sheet-of}
@@ -64,7 +64,7 @@ stands-leaves {t} {t′} h h′ k k′ w = rw k′ (sheets-of-same (facts t′ h
 
 signals-leave : {t : Table} (s i a b : ℕ) → SoundTable t → SoundTable (put t i (with-signals (process t i) a b)) → So (namespace-taken (view t) s) → seen (view t) s i ≡ false → sheet-of (put t i (with-signals (process t i) a b)) (follow t (put t i (with-signals (process t i) a b)) (at s)) ≡ sheet (view t) s
 unfolding namespace-taken
-signals-leave {t} s i a b h g hs o = stands-leaves h g hs hs (same-still (facts t h) (put-still t (facts t h) i (record { owns = refl; parents = refl; pids = refl }) o))
+signals-leave {t} s i a b h g hs o = stands-leaves h g hs hs (same-still (facts t h) (put-still t (facts t h) i (with-signals (process t i) a b) (refl, refl, refl) s o))
 
 pub getpid-leaves : MadeLeaves Getpid
 unfolding MadeLeaves make getpid answers granted

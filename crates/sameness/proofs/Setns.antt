@@ -12,12 +12,13 @@ use Rattle.rules.proofs.Laws.Facts.{facts}
 use Rattle.rules.proofs.Laws.Find.{named-seen}
 use Rattle.rules.proofs.Laws.Steps.{runs-lives}
 use Rattle.rules.proofs.Laws.Tests.{or-false-left}
-use Rattle.sameness.proofs.Calls.{shown, both-refuse, owns-twins, lt-t, lt-u, same-put}
+use Rattle.sameness.proofs.Calls.{both-refuse, owns-twins}
+use Rattle.sameness.proofs.Light.{shown, same-put}
 use Rattle.sameness.proofs.Freeing.{freed-alike, freed-leaves}
 use Rattle.sameness.proofs.Inside.{Kept, Ready, MadeSame}
 use Rattle.sameness.proofs.Outside.{MadeLeaves, as-it-was, outsider}
 use Rattle.sameness.proofs.Readers.{find-twins, ended-twins}
-use Rattle.sameness.proofs.Still.{same-still, near, put-still}
+use Rattle.sameness.proofs.Still.{same-still, put-still}
 use Rattle.sameness.proofs.Twins.{Twin, twin-rows}
 use Rattle.rules.specs.Answers.{answers, granted, refused}
 use Rattle.rules.specs.Calls.{named, set-children, setns}
@@ -49,7 +50,7 @@ module _ {t u : Table} {s r i j : ℕ} (w : Ready t u s r i j) where
   set-children-kept : {x y : ℕ} → Twin (view t) (view u) s r x y → So (seen (view t) (view t .own i) x) → So (seen (view u) (view u .own j) y) → Kept t u s r (answers (set-children t i (view t .own x) (process t i .unshared)) 0) (answers (set-children u j (view u .own y) (process u j .unshared)) 0)
   unfolding set-children row answers granted
   set-children-kept {x} {y} k sx sy =
-      let z = shown t u s r (w .pair) i j (w .twin) in
+      let z = shown t u (w .pair) (w .twin) in
       let a = setns-sane t (w .sound-t) i x (process t i .unshared) (runs-lives t i (w .runs-t)) sx in
       let b = setns-sane u (w .sound-u) j y (process u j .unshared) (runs-lives u j (w .runs-u)) sy in
       inr (
@@ -61,8 +62,9 @@ module _ {t u : Table} {s r i j : ℕ} (w : Ready t u s r i j) where
               alive-v = w .pair .alive-v;
               alive-u = w .pair .alive-u;
               same =
-                  same-put t u (w .pair) (w .twin) (lt-t w) (lt-u w) (record { owns = refl; parents = refl; pids = refl }) (record { owns = refl; parents = refl; pids = refl })
-                  (record { states = z .states; handleds = z .handleds; pendings = z .pendings; marks = z .marks; childrens = ap (λ (q : Row). q .own) (twin-rows (w .pair) k) });
+                  same-put t u (w .pair) (w .twin) (w .sound-t .shape) (w .sound-u .shape)
+                  (record { states = z .states; handleds = z .handleds; pendings = z .pendings; marks = z .marks; childrens = ap (λ (q : Row). q .own) (twin-rows (w .pair) k) })
+                  (refl, refl, refl) (refl, refl, refl);
             }),
       )
 
@@ -96,4 +98,4 @@ setns-leaves z t s i h hs k a g = go (eqb (named (view t) i z) process-slots or 
     go false e =
         rw (e, setns)
         (freed-leaves h (setns-sane t h i _ (process t i .unshared) (runs-lives t i k) (named-seen (view t) i z (eqb-false _ _ (or-false-left _ _ e)))) hs hs
-        (same-still (facts t h) (put-still t (facts t h) i (record { owns = refl; parents = refl; pids = refl }) (outsider t s i (Setns z) a))))
+        (same-still (facts t h) (put-still t (facts t h) i (with-children (process t i) (view t .own (named (view t) i z)) (process t i .unshared)) (refl, refl, refl) s (outsider t s i (Setns z) a))))

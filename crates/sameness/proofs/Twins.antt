@@ -2,13 +2,14 @@
 use Prim.Native.Nat.{ℕ, zero, suc, pred, _+_, _-_, _<_, _≤_}
 use native.Mathlib.Decide.{decLt}
 use native.Mathlib.Omega.{arith}
-use mathlib.Core.Bool.{Bool, So}
+use mathlib.Core.Bool.{So}
 use mathlib.Core.Path.{_≡_, sym, _∙_, ap, subst, subst₂}
 use lib.ListN.{getD}
 use Rattle.rules.proofs.Laws.Below.{level-deepest, below-level, up-level, not-root, below-trans}
 use Rattle.rules.proofs.Laws.Facts.{Facts, seen-taken, seen-below, lives-taken}
-use Rattle.rules.proofs.Laws.Slots.{pid-unique, own-taken, own-not-unborn, pid-pos, pid-zero, below-parent, below-up-by, up-by-below, alive-taken, alive-up, init-seen, init-own, init-parent, init-taken, parent-living}
+use Rattle.rules.proofs.Laws.Slots.{init-pid, pid-unique, own-taken, own-not-unborn, pid-pos, pid-zero, below-parent, below-up-by, up-by-below, alive-taken, alive-up, init-seen, init-own, init-parent, init-taken, parent-living}
 use Rattle.rules.proofs.Laws.Tests.{bool-ext, right, both}
+use Rattle.rules.proofs.Laws.Tree.{below-refl}
 use Rattle.sameness.proofs.Anchor.{anchor, anchor-self, anchor-alive, anchor-below, anchor-least, is-by-init, name-pid, name-alive, name-anchor}
 use Rattle.sameness.proofs.Same.{Same, getD-values, level-lt, row-pid}
 use Rattle.table.specs.Limits.{levels}
@@ -153,6 +154,11 @@ module _ {v u : View} {s r : ℕ} (w : Pair v u s r) where
   pub inits-twin : {n m : ℕ} → Twins v u s r n m → Twin v u s r (init v n) (init u m)
   inits-twin {n} {m} k = record { seen-v = init-seen v (w .facts-v) n s (k .lives-v) (k .below-v); seen-u = init-seen u (w .facts-u) m r (k .lives-u) (k .below-u); pids = k .inits }
 
+  -- S and S
+  pub top-twins : Twins v u s r s r
+  top-twins =
+      record { lives-v = w .alive-v; lives-u = w .alive-u; below-v = below-refl v s; below-u = below-refl u r; inits = init-pid v (w .facts-v) s (w .alive-v) ∙ sym (init-pid u (w .facts-u) r (w .alive-u)) }
+
   pub twins-level : {n m : ℕ} → Twins v u s r n m → v .level n ≡ u .level m
   twins-level {n} {m} k = ap (v .level) (sym (init-own v (w .facts-v) n (k .lives-v))) ∙ own-levels (inits-twin k) ∙ ap (u .level) (init-own u (w .facts-u) m (k .lives-u))
 
@@ -217,23 +223,3 @@ module _ {v u : View} {s r : ℕ} (w : Pair v u s r) where
   unfolding pid-seen
   pid-twins {j} {n} k l =
       twin-pid w (v .level n) k (below-level v (w .facts-v) n s (l .below-v)) (level-lt (w .facts-v) n (alive-taken v (w .facts-v) n (l .lives-v))) ∙ ap (u .pid j) (twins-level w l)
-
--- Two tables stay the same to S where the processes of Q are seen as before, no others are, and their rows are the same.
-pub same-rows : {v u : View} (v′ u′ : View) {s r : ℕ} → Pair v u s r → (Q Q′ : ℕ → Bool) → v′ .level s ≡ v .level s → u′ .level r ≡ u .level r
-    → ((i : ℕ) → So (Q i) → seen v′ s i ≡ seen v s i) → ((i : ℕ) → So (seen v′ s i) → So (Q i)) → ((j : ℕ) → So (Q′ j) → seen u′ r j ≡ seen u r j) → ((j : ℕ) → So (seen u′ r j) → So (Q′ j))
-    → ((i j : ℕ) → Twin v u s r i j → Q i ≡ Q′ j) → ((i j : ℕ) → Twin v u s r i j → So (Q i) → row v′ s i ≡ row u′ r j) → Same v′ u′ s r
-same-rows v′ u′ w Q Q′ lv lu av bv au bu both h =
-    record {
-      levels = lv ∙ w .same .levels ∙ sym lu;
-      there =
-          λ i k.
-          let q = bv i k in
-          let (j, p) = twin-there w i (sym (av i q) ∙ k) in
-          (j, au j (sym (both i j p) ∙ q) ∙ p .seen-u, h i j p q);
-      back =
-          λ j k.
-          let q = bu j k in
-          let (i, p) = twin-there (flip-pair w) j (sym (au j q) ∙ k) in
-          let p′ = flip-twin p in
-          (i, av i (both i j p′ ∙ q) ∙ p .seen-u, h i j p′ (both i j p′ ∙ q));
-    }

@@ -13,11 +13,12 @@ use Rattle.rules.proofs.Keeps.Freed.{freed-view}
 use Rattle.rules.proofs.Keeps.Puts.{reaped-sane, reaped-view}
 use Rattle.rules.proofs.Keeps.Reap.{without}
 use Rattle.rules.proofs.Laws.Facts.{Facts, seen-taken, facts, sane}
-use Rattle.rules.proofs.Laws.Slots.{children-of, init-living, parent-living, child-seen}
+use Rattle.rules.proofs.Laws.Slots.{init-living, parent-living, child-seen}
 use Rattle.rules.proofs.Laws.Tests.{no-so, zero-or, right, isnt, and-false, true-and, true-or, false-or-true, false-or-false, true-and-false, isnt-not, left, both, any-elim, any-intro, isnt-so, bool-ext}
 use Rattle.rules.proofs.Laws.Tree.{below-refl}
-use Rattle.sameness.proofs.Anchor.{name-no-slot}
-use Rattle.sameness.proofs.Calls.{shown, both-refuse, both-tell, owns-twins}
+use Rattle.sameness.proofs.Anchor.{init-or-none}
+use Rattle.sameness.proofs.Calls.{both-refuse, both-tell, owns-twins}
+use Rattle.sameness.proofs.Light.{shown}
 use Rattle.sameness.proofs.Freeing.{freed-alike, freed-leaves}
 use Rattle.sameness.proofs.Inside.{Kept, Ready, MadeSame}
 use Rattle.sameness.proofs.Kill.{twin-of-pid}
@@ -25,7 +26,7 @@ use Rattle.sameness.proofs.Outside.{MadeLeaves, as-it-was, untouched-ma
 use Rattle.sameness.proofs.Readers.{twin-eqb, child-twins, seen-above, ended-twins}
 use Rattle.sameness.proofs.Remain.{Remain, Lit, same-remain, pid-in-remain, name-remain, everyone, seen-remain, seen-gone}
 use Rattle.sameness.proofs.Same.{Same}
-use Rattle.sameness.proofs.Still.{Still, same-still, near, near-here, near-up, near-own, near-children}
+use Rattle.sameness.proofs.Still.{Still, same-still}
 use Rattle.sameness.proofs.Twins.{Pair, Twin, twin-rows, Twins, flip-pair, flip-twin, twin-there, pid-twins}
 use Rattle.rules.specs.Answers.{granted, answers, is-refused, refused}
 use Rattle.rules.specs.Calls.{first-ended, pid-to, reap, wait}
@@ -34,7 +35,7 @@ use Rattle.rules.specs.Freeing.{freed}
 use Rattle.table.specs.Fresh.{empty-process}
 use Rattle.table.specs.Limits.{process-slots}
 use Rattle.table.specs.Slots.{is-ended, no-process, to-pid, put}
-use Rattle.rules.specs.Read.{living, pid-in, taken, View, child-of, seen, view, namespace-taken}
+use Rattle.rules.specs.Read.{init, living, pid-in, taken, View, child-of, seen, view, namespace-taken}
 use Rattle.sameness.specs.Sheet.{Row, name, row, sheet}
 use Rattle.rules.specs.Sound.{SoundTable}
 use Rattle.rules.specs.Step.{make}
@@ -97,27 +98,26 @@ module _ {v : View} (f : Facts v) (x : ℕ) (tx : So (taken v x)) (ex : So (v .e
   unfolding taken
   reap-remain =
       record {
-        owns = λ i q. rw (isnt (eqb i x) q);
-        pids = λ i l q. rw (isnt (eqb i x) q);
-        gone = λ i q. rw (isnt-not (eqb i x) q);
-        ups = λ n k. refl;
-        levels = λ n k. refl;
+        places =
+            record {
+              tree = record { ups = λ n k. refl; levels = λ n k. refl; up-kept = λ n k a b. refl };
+              owns = λ i q. rw (isnt (eqb i x) q);
+              pids = λ i l q. rw (isnt (eqb i x) q);
+              gone = λ i q. rw (isnt-not (eqb i x) q);
+              own-kept = λ i q a. refl;
+            };
         lives = λ n k. refl;
-        up-kept = λ n k a b. refl;
-        own-kept = λ i q a. refl;
-        init-kept = λ n k a. living-other _ (init-living v f n a);
+        inits = λ n k. ⊎-elim (λ a. living-other _ (init-living v f n a)) (λ e. ap not (ne-eqb (init v n) x (λ q. omega (arith, e, q, f .in-range x tx)))) (init-or-none v n);
       }
 
   parent-other : (i : ℕ) → So (taken v i) → So (others x (v .parent i))
   parent-other i k = zero-or i (λ z. ap not (ne-eqb (v .parent i) x (λ e. omega (arith, ap (v .parent) z, f .root-parent, f .in-range x tx)))) (λ z. living-other _ (parent-living v f i k z))
 
   reap-parent : (s i : ℕ) → So (taken v i) → So (others x i) → pid-in (without v x) s (without v x .parent i) ≡ pid-in v s (v .parent i)
-  reap-parent s i k q = rw (isnt (eqb i x) q) (pid-in-remain f reap-remain s (v .parent i) refl (parent-other i k))
+  reap-parent s i k q = rw (isnt (eqb i x) q) (pid-in-remain f (reap-remain .places) s (v .parent i) refl (parent-other i k))
 
-  reap-children : (s i : ℕ) → So (taken v i) → So (others x i) → name (without v x) s (without v x .children i) ≡ name v s (v .children i)
-  reap-children s i k q =
-      rw (isnt (eqb i x) q)
-      (⊎-elim (λ y. name-remain f reap-remain s (v .children i) refl refl y) (λ e. name-no-slot (without v x) s _ e ∙ sym (name-no-slot v s _ e)) (children-of v f i k))
+  reap-children : (s i : ℕ) → So (others x i) → name (without v x) s (without v x .children i) ≡ name v s (v .children i)
+  reap-children s i q = rw (isnt (eqb i x) q) (name-remain f reap-remain s (v .children i) refl refl)
 
 -- ---- two tables
 
@@ -145,7 +145,7 @@ module _ {v u : View} {s r : ℕ} (w : Pair v u s r) {x y : ℕ} (k : Twin v u s
         pendings = λ z. if slot z then 0 else rows z .pending;
         marks = λ z. if slot z then false else rows z .unshared;
         parents = reap-parent (w .facts-v) x tx ex s i ti q ∙ ap (λ (o : Row). o .parent) rows ∙ sym (reap-parent (w .facts-u) y ty ey r j tj q′);
-        childrens = reap-children (w .facts-v) x tx ex s i ti q ∙ ap (λ (o : Row). o .children) rows ∙ sym (reap-children (w .facts-u) y ty ey r j tj q′);
+        childrens = reap-children (w .facts-v) x tx ex s i q ∙ ap (λ (o : Row). o .children) rows ∙ sym (reap-children (w .facts-u) y ty ey r j q′);
         lasts = ap (λ (o : Row). o .last) rows;
       }
 
@@ -266,7 +266,7 @@ wait-same t u s r c d w h g = go (any process-slots (child-of (view t) c)) refl
     some-child e (inl (a, b)) =
         rw (e, sym (any-same w) ∙ e, no-state (w .sound-t) x a, no-state (w .sound-u) y b, wait) (both-tell w 0 0 refl)
     some-child e (inr (k, ex, ey)) =
-        let q = shown t u s r (w .pair) x y k .states in
+        let q = shown t u (w .pair) k .states in
         rw (e, sym (any-same w) ∙ e, ← q, wait)
         (reap-kept w k ex ey (view t .state x) ex)
 
@@ -277,24 +277,15 @@ wait-same t u s r c d w h g = go (any process-slots (child-of (view t) c)) refl
 -- ---- wait by an outsider that removes nobody of S
 
 -- one removed that is not of S
-reap-still : {v : View} (f : Facts v) (x : ℕ) (tx : So (taken v x)) (ex : So (v .ended x)) {s : ℕ} → seen v s x ≡ false → Still v (without v x) s (near v s)
+reap-still : {v : View} (f : Facts v) (x : ℕ) (tx : So (taken v x)) (ex : So (v .ended x)) {s : ℕ} → seen v s x ≡ false → Still v (without v x) s
 reap-still {v} f x tx ex {s} o =
     record {
-      here = near-here f s;
-      up-kept = near-up f s;
-      own-kept = near-own f s;
-      children-kept = near-children f s;
       ups = λ n h. refl;
       levels = λ n h. refl;
       lives = λ n h. refl;
       seens = λ i. either i (others x i) refl;
-      owns = λ i k. rw (apart i k);
+      looks = λ i k. rw (apart i k);
       pids = λ i l k. rw (apart i k);
-      states = λ i k. rw (apart i k);
-      handleds = λ i k. rw (apart i k);
-      pendings = λ i k. rw (apart i k);
-      marks = λ i k. rw (apart i k);
-      childrens = λ i k. rw (apart i k);
       parents = λ i k. rw (apart i k);
       lasts = λ i k. refl;
     }
@@ -306,8 +297,8 @@ reap-still {v} f x tx ex {s} o =
     R = reap-remain f x tx ex
 
     either : (i : ℕ) (b : Bool) → others x i ≡ b → seen (without v x) s i ≡ seen v s i
-    either i true e = seen-remain f R s i e
-    either i false e = seen-gone f R s i e ∙ sym (isnt-so (λ k. no-so (apart i k) (isnt-not (eqb i x) e)))
+    either i true e = seen-remain f (R .places) s i e
+    either i false e = seen-gone f (R .places) s i e ∙ sym (isnt-so (λ k. no-so (apart i k) (isnt-not (eqb i x) e)))
 
 -- who has ended and is found is there
 first-taken : {t : Table} → SoundTable t → (c : ℕ) → So (view t .ended (first-ended (view t) c)) → So (taken (view t) (first-ended (view t) c))
@@ -350,7 +341,7 @@ wait-leaves t s i h hs k a g = go (any process-slots (child-of (view t) i)) refl
         removed : taken (view (freed (put t x empty-process))) x ≡ false
         removed =
             ap (λ (u : View). taken u x) (freed-view _ (reaped-sane t (sane t h) x ex .shape-of))
-            ∙ ap (λ (u : View). taken u x) (reaped-view t (sane t h) x ex) ∙ reap-remain (facts t h) x tx ex .gone x (ap not (eq-eqb x x refl))
+            ∙ ap (λ (u : View). taken u x) (reaped-view t (sane t h) x ex) ∙ reap-remain (facts t h) x tx ex .places .gone x (ap not (eq-eqb x x refl))
 
         unseen : seen (view t) s x ≡ false
         unseen = isnt-so (λ m. no-so no-touch (any-intro _ _ x (facts t h .in-range x tx) (both _ _ m (ap not removed))))
