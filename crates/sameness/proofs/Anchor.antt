@@ -40,6 +40,12 @@ is-dead-name (dead-at l k) = true
 is-dead-name unborn-name = false
 is-dead-name no-name = false
 
+abbrev pub name-level : Name → ℕ
+name-level (by-init k) = 0
+name-level (dead-at l k) = l
+name-level unborn-name = 0
+name-level no-name = 0
+
 abbrev pub name-pid : Name → ℕ
 name-pid (by-init k) = k
 name-pid (dead-at l k) = k
@@ -124,6 +130,18 @@ module _ {v : View} (f : Facts v) where
   by-alive s n (Alive i) = refl
   by-alive s n Dead = refl
 
+  by-unborn : (s n : ℕ) (l : Life) → is-unborn-name (name-by v s n l) ≡ is-unborn l
+  unfolding name-by
+  by-unborn s n Unborn = refl
+  by-unborn s n (Alive i) = refl
+  by-unborn s n Dead = refl
+
+  by-level : (s n : ℕ) (l : Life) → is-alive l ≡ false → is-unborn l ≡ false → name-level (name-by v s n l) ≡ v .level n
+  unfolding name-by
+  by-level s n Unborn a b = absurd (false≢true (sym b))
+  by-level s n (Alive i) a b = absurd (false≢true (sym a))
+  by-level s n Dead a b = refl
+
   by-pid : (s n : ℕ) (l : Life) → v .life n ≡ l → is-unborn l ≡ false → name-pid (name-by v s n l) ≡ pid-in v s (init v (anchor v n))
   unfolding name-by
   by-pid s n Unborn e h = absurd (false≢true (sym h))
@@ -132,6 +150,12 @@ module _ {v : View} (f : Facts v) where
 
   pub name-alive : (s n : ℕ) → So (namespace-taken v n) → is-by-init (name v s n) ≡ alive v n
   name-alive s n h = ap is-by-init (name-taken s n h) ∙ by-alive s n (v .life n)
+
+  pub name-unborn : (s n : ℕ) → So (namespace-taken v n) → is-unborn-name (name v s n) ≡ unborn v n
+  name-unborn s n h = ap is-unborn-name (name-taken s n h) ∙ by-unborn s n (v .life n)
+
+  pub name-level-dead : (s n : ℕ) → So (namespace-taken v n) → alive v n ≡ false → unborn v n ≡ false → name-level (name v s n) ≡ v .level n
+  name-level-dead s n h a b = ap name-level (name-taken s n h) ∙ by-level s n (v .life n) a b
 
   pub name-anchor : (s n : ℕ) → So (namespace-taken v n) → unborn v n ≡ false → name-pid (name v s n) ≡ pid-in v s (init v (anchor v n))
   name-anchor s n h k = ap name-pid (name-taken s n h) ∙ by-pid s n (v .life n) refl k

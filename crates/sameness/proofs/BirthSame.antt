@@ -14,11 +14,11 @@ use Rattle.rules.proofs.Laws.Facts.{Facts, seen-taken, lives-taken}
 use Rattle.rules.proofs.Laws.Slots.{own-not-unborn, alive-taken, alive-not-unborn, init-taken, children-of, init-seen, parent-living, below-parent, below-same}
 use Rattle.rules.proofs.Laws.Tests.{zero-or, no-so, bool-ext}
 use Rattle.rules.proofs.Laws.Tree.{below-refl}
-use Rattle.sameness.proofs.Anchor.{is-unborn-name, name-taken, up-below, name-no-slot}
+use Rattle.sameness.proofs.Anchor.{name-unborn, is-unborn-name, name-taken, up-below, name-no-slot}
 use Rattle.sameness.proofs.Born.{Room, cradle-below, seen-grown, pid-in-grown, life-born, life-new, name-born, name-other, name-new, old, child-seen, Cradles, cradle-next, next-unborn, next-twins, last-twins}
-use Rattle.sameness.proofs.Readers.{is-init-twins, name-unborn}
+use Rattle.sameness.proofs.Readers.{is-init-twins}
 use Rattle.sameness.proofs.Same.{Same, row-by}
-use Rattle.sameness.proofs.Twins.{top-twins, Pair, Twin, Twins, flip-pair, flip-twin, pid-in-seen, twin-rows, twin-there, twins-level, owns, own-alive, below-twins}
+use Rattle.sameness.proofs.Twins.{top-twins, Pair, Twin, Twins, flip-pair, flip-twin, pid-in-seen, twin-rows, twin-there, twins-level, owns, alive-named, own-names, below-twins}
 use Rattle.table.specs.Limits.{levels, no-slot}
 use Rattle.rules.specs.Pids.{next-pid}
 use Rattle.table.specs.Slots.{init-of, is-alive}
@@ -191,7 +191,7 @@ module _ {v u : View} {s r : ℕ} (w : Pair v u s r) {c d : ℕ} {n m k l : ℕ}
         go true h =
             let o = owns w x h in
             λ y. if is-init-twins w x h y then (if below-cradle o y then next-twins w o y else last-twins w o y) else 0
-        go false h = rw (not-init (w .facts-v) i ti h, not-init (w .facts-u) j tj (sym (own-alive w x) ∙ h)) refl
+        go false h = rw (not-init (w .facts-v) i ti h, not-init (w .facts-u) j tj (sym (alive-named w (own-names w x)) ∙ h)) refl
 
     old-rows : row v′ s i ≡ row u′ r j
     unfolding row

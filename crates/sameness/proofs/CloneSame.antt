@@ -7,27 +7,28 @@ use borrow.Author.Tests.{eqb-true, eqb-false, eq-eqb}
 use lib.Dec.{eqb}
 use Rattle.rules.proofs.Keeps.Birth.{birth-view}
 use Rattle.rules.proofs.Keeps.Premises.{free-slot-is}
-use Rattle.rules.proofs.Laws.Below.{up-level, below-trans}
-use Rattle.rules.proofs.Laws.Facts.{Facts, facts, Sane, sane, seen-taken, seen-below}
+use Rattle.rules.proofs.Laws.Below.{up-level}
+use Rattle.rules.proofs.Laws.Facts.{Facts, facts, Sane, sane}
 use Rattle.rules.proofs.Laws.Slots.{alive-taken, alive-otherwise, root-only, alive-not-unborn}
 use Rattle.rules.proofs.Laws.Steps.{runs-lives}
 use Rattle.rules.proofs.Laws.Tests.{isnt-so, or-true, bool-ext}
-use Rattle.sameness.proofs.Anchor.{anchor-self, root-alive, is-unborn-name, is-dead-name, name-taken}
+use Rattle.sameness.proofs.Anchor.{root-alive, is-dead-name, name-taken}
 use Rattle.sameness.proofs.BirthSame.{birth-same}
+use Rattle.sameness.proofs.Cases.{by-test}
 use Rattle.sameness.proofs.Born.{cradle-stands, Cradles, next-twins}
 use Rattle.sameness.proofs.Calls.{both-refuse, owns-twins, the-rows}
 use Rattle.sameness.proofs.Inside.{Kept, Ready, MadeSame, stands-same}
-use Rattle.sameness.proofs.Readers.{twin-eqb, children-taken, children-below, name-unborn, anchors-of}
+use Rattle.sameness.proofs.Readers.{children-names, children-unborn, twin-eqb, children-taken}
 use Rattle.sameness.proofs.Same.{Same}
-use Rattle.sameness.proofs.Twins.{Pair, Twin, Twins}
+use Rattle.sameness.proofs.Twins.{Pair, Twin, Twins, taken-v, taken-u, twins-named}
 use Rattle.rules.specs.Answers.{is-no-room, refused, number-of, refusal-number}
 use Rattle.rules.specs.Births.{birth}
 use Rattle.rules.specs.Calls.{born, clone}
 use Rattle.table.specs.Limits.{process-slots}
 use Rattle.rules.specs.Pids.{free-slot}
 use Rattle.table.specs.Slots.{is-dead}
-use Rattle.rules.specs.Read.{View, below, dead, living, namespace-taken, taken, unborn, view}
-use Rattle.sameness.specs.Sheet.{Row, name, name-by, row}
+use Rattle.rules.specs.Read.{View, dead, namespace-taken, unborn, view}
+use Rattle.sameness.specs.Sheet.{Row, name-by, row}
 use Rattle.rules.specs.Sound.{SoundTable}
 use Rattle.rules.specs.Step.{make}
 use Rattle.table.specs.Tests.{_or_}
@@ -77,71 +78,43 @@ module _ {t u : Table} {s r c d : ℕ} (w : Ready t u s r c d) where
   fu : Facts (view u)
   fu = facts u (w .sound-u)
 
-  lc : So (living (view t) c)
-  lc = runs-lives t c (w .runs-t)
-
-  ld : So (living (view u) d)
-  ld = runs-lives u d (w .runs-u)
-
   hn : So (namespace-taken (view t) (view t .children c))
-  hn = children-taken ft c lc
+  hn = children-taken ft c (runs-lives t c (w .runs-t))
 
   hm : So (namespace-taken (view u) (view u .children d))
-  hm = children-taken fu d ld
-
-  bn : So (below (view t) (view t .children c) s)
-  bn = below-trans (view t) ft _ _ s (children-below ft c lc) (seen-below (view t) s c (w .twin .seen-v))
-
-  bm : So (below (view u) (view u .children d) r)
-  bm = below-trans (view u) fu _ _ r (children-below fu d ld) (seen-below (view u) r d (w .twin .seen-u))
-
-  names : name (view t) s (view t .children c) ≡ name (view u) r (view u .children d)
-  unfolding row
-  names = ap (λ (q : Row). q .children) (the-rows w)
+  hm = children-taken fu d (runs-lives u d (w .runs-u))
 
   deads : dead (view t) (view t .children c) ≡ dead (view u) (view u .children d)
+  unfolding row
   deads =
-      sym (ap is-dead-name (name-taken ft s _ hn) ∙ by-dead (view t) s _ _) ∙ ap is-dead-name names ∙ ap is-dead-name (name-taken fu r _ hm) ∙ by-dead (view u) r _ _
+      sym (ap is-dead-name (name-taken ft s _ hn) ∙ by-dead (view t) s _ _) ∙ ap (λ (q : Row). is-dead-name (q .children)) (the-rows w) ∙ ap is-dead-name (name-taken fu r _ hm) ∙ by-dead (view u) r _ _
 
   unborns : unborn (view t) (view t .children c) ≡ unborn (view u) (view u .children d)
-  unborns = sym (name-unborn ft s _ hn) ∙ ap is-unborn-name names ∙ name-unborn fu r _ hm
-
-  tc : So (taken (view t) c)
-  tc = seen-taken (view t) s c (w .twin .seen-v)
-
-  td : So (taken (view u) d)
-  td = seen-taken (view u) r d (w .twin .seen-u)
+  unborns = children-unborn (w .pair) (w .twin) (runs-lives t c (w .runs-t))
 
   cradles : dead (view t) (view t .children c) ≡ false → Cradles (view t) (view u) s r (view t .children c) (view u .children d)
-  cradles nd = go (unborn (view t) (view t .children c)) refl
-    where
-      go : (b : Bool) → unborn (view t) (view t .children c) ≡ b → Cradles (view t) (view u) s r (view t .children c) (view u .children d)
-      go true h =
-          let h′ = sym unborns ∙ h in
-          inr
-          (record {
-            unborn-v = h;
-            unborn-u = h′;
-            lasts = ft .unborn-last _ hn h ∙ sym (fu .unborn-last _ hm h′);
-            ups = subst₂ (λ a b. Twins (view t) (view u) s r a b) (ft .unborn-own _ hn h c tc refl) (fu .unborn-own _ hm h′ d td refl) (owns-twins w);
-            level-v = one-up ft _ h hn;
-            level-u = one-up fu _ h′ hm;
-          })
-      go false h =
-          let h′ = sym unborns ∙ h in
-          inl
-          (subst₂ (λ a b. Twins (view t) (view u) s r a b) (anchor-self ft _ (alive-otherwise (view t .life (view t .children c)) nd h)) (anchor-self fu _ (alive-otherwise (view u .life (view u .children d)) (sym deads ∙ nd) h′))
-          (anchors-of (w .pair) _ _ names hn hm bn bm h h′))
+  cradles nd =
+      by-test (unborn (view t) (view t .children c))
+      (λ h.
+      let h′ = sym unborns ∙ h in
+      inr
+      (record {
+        unborn-v = h;
+        unborn-u = h′;
+        lasts = ft .unborn-last _ hn h ∙ sym (fu .unborn-last _ hm h′);
+        ups = subst₂ (Twins (view t) (view u) s r) (ft .unborn-own _ hn h c (taken-v (w .twin)) refl) (fu .unborn-own _ hm h′ d (taken-u (w .twin)) refl) (owns-twins w);
+        level-v = one-up ft _ h hn;
+        level-u = one-up fu _ h′ hm;
+      }))
+      (λ h. inl (twins-named (w .pair) (children-names (w .pair) (w .twin) (runs-lives t c (w .runs-t)) h) (alive-otherwise (view t .life (view t .children c)) nd h)))
 
   holders : (i j : ℕ) → Twin (view t) (view u) s r i j → So (unborn (view t) (view t .children c)) → eqb (view t .children i) (view t .children c) ≡ eqb (view u .children j) (view u .children d)
   holders i j x h =
       let h′ = sym unborns ∙ h in
-      let ti = seen-taken (view t) s i (x .seen-v) in
-      let tj = seen-taken (view u) r j (x .seen-u) in
       let e = twin-eqb (w .pair) x (w .twin) in
       bool-ext _ _
-      (λ q. eq-eqb _ _ (ap (view u .children) (eqb-true j d (sym e ∙ eq-eqb i c (ft .unborn-one _ hn h i c ti (eqb-true _ _ q) tc refl)))))
-      (λ q. eq-eqb _ _ (ap (view t .children) (eqb-true i c (e ∙ eq-eqb j d (fu .unborn-one _ hm h′ j d tj (eqb-true _ _ q) td refl)))))
+      (λ q. eq-eqb _ _ (ap (view u .children) (eqb-true j d (sym e ∙ eq-eqb i c (ft .unborn-one _ hn h i c (taken-v x) (eqb-true _ _ q) (taken-v (w .twin)) refl)))))
+      (λ q. eq-eqb _ _ (ap (view t .children) (eqb-true i c (e ∙ eq-eqb j d (fu .unborn-one _ hm h′ j d (taken-u x) (eqb-true _ _ q) (taken-u (w .twin)) refl)))))
 
 -- no room on one of the tables
 pub no-room-left : (t u : Table) (s r : ℕ) (y : Outcome) → Kept t u s r (refused t Eagain) y

@@ -21,7 +21,7 @@ use Rattle.sameness.proofs.Freeing.{freed-leaves}
 use Rattle.sameness.proofs.Fallen.{not-seen-stays, fallen-places}
 use Rattle.sameness.proofs.MemberEnd.{member-of}
 use Rattle.sameness.proofs.Outside.{MadeLeaves, as-it-was, outsider, untouched-made}
-use Rattle.sameness.proofs.Readers.{pid-in-unseen}
+use Rattle.sameness.proofs.Twins.{pid-in-unseen}
 use Rattle.sameness.proofs.Remain.{seen-remain, seen-gone}
 use Rattle.sameness.proofs.Still.{Still, same-still, stands-still, near}
 use Rattle.rules.specs.Answers.{answers, granted, is-refused, refused}

@@ -22,9 +22,9 @@ use Rattle.sameness.proofs.Freeing.{freed-alike, freed-sheets}
 use Rattle.sameness.proofs.InitEnd.{init-same}
 use Rattle.sameness.proofs.Inside.{Kept, Ready, MadeSame}
 use Rattle.sameness.proofs.MemberEnd.{member-of}
-use Rattle.sameness.proofs.Readers.{is-init-twins, pid-in-unseen}
+use Rattle.sameness.proofs.Readers.{is-init-twins}
 use Rattle.sameness.proofs.Same.{Same}
-use Rattle.sameness.proofs.Twins.{top-twins, Pair, Twin, flip-pair, flip-twin, twins-unique}
+use Rattle.sameness.proofs.Twins.{pid-in-unseen, top-twins, Pair, Twin, flip-pair, flip-twin, twins-unique}
 use Rattle.rules.specs.Answers.{answers, granted}
 use Rattle.rules.specs.Calls.{exit, status}
 use Rattle.rules.specs.Ends.{end}

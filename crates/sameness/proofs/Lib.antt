@@ -1,6 +1,7 @@
 -- Demand 3. Two tables are the same to S: reading them, changing them, each call, and the two lists.
 
 -- what corresponds on two tables
+pub mod Cases
 pub mod Same
 pub mod Anchor
 pub mod Twins
