@@ -18,7 +18,7 @@ use Rattle.sameness.proofs.Anchor.{name-unborn, is-unborn-name, name-ta
 use Rattle.sameness.proofs.Born.{Room, cradle-below, seen-grown, pid-in-grown, life-born, life-new, name-born, name-other, name-new, old, child-seen, Cradles, cradle-next, next-unborn, next-twins, last-twins}
 use Rattle.sameness.proofs.Readers.{is-init-twins}
 use Rattle.sameness.proofs.Same.{Same, row-by}
-use Rattle.sameness.proofs.Twins.{top-twins, Pair, Twin, Twins, flip-pair, flip-twin, pid-in-seen, twin-rows, twin-there, twins-level, owns, alive-named, own-names, below-twins}
+use Rattle.sameness.proofs.Twins.{top-twins, Pair, Twin, Twins, flip-pair, flip-twin, pid-in-seen, twin-rows, twin-there, twins-level, owns, alive-named, own-names, below-twins, taken-v, taken-u}
 use Rattle.table.specs.Limits.{levels, no-slot}
 use Rattle.rules.specs.Pids.{next-pid}
 use Rattle.table.specs.Slots.{init-of, is-alive}
@@ -146,10 +146,10 @@ module _ {v u : View} {s r : ℕ} (w : Pair v u s r) {c d : ℕ} {n m k l : ℕ}
 
   module _ {i j : ℕ} (x : Twin v u s r i j) where
     ti : So (taken v i)
-    ti = seen-taken v s i (x .seen-v)
+    ti = taken-v x
 
     tj : So (taken u j)
-    tj = seen-taken u r j (x .seen-u)
+    tj = taken-u x
 
     oi : i ≡ k → ⊥
     oi = old a c i ti
@@ -229,7 +229,7 @@ module _ {v u : View} {s r : ℕ} (w : Pair v u s r) {c d : ℕ} {n m k l : ℕ}
       let ek = eq-eqb k k refl in
       let el = eq-eqb l l refl in
       row-by v′ u′ s r k l new-pids (rw (ek, el)) (rw (ek, el)) (rw (ek, el)) (rw (ek, el))
-      (rw (ek, el) (pid-in-grown a c s c (old a c c (seen-taken v s c (tc .seen-v))) ∙ pid-in-seen v s c (tc .seen-v) ∙ tc .pids ∙ sym (pid-in-grown b d r d (old b d d (seen-taken u r d (tc .seen-u))) ∙ pid-in-seen u r d (tc .seen-u))))
+      (rw (ek, el) (pid-in-grown a c s c (old a c c (taken-v tc)) ∙ pid-in-seen v s c (tc .seen-v) ∙ tc .pids ∙ sym (pid-in-grown b d r d (old b d d (taken-u tc)) ∙ pid-in-seen u r d (tc .seen-u))))
       (rw (ek, el) cradle-name) (rw (ek, el) cradle-name) new-last
 
   -- each row stands as it stood, and the children's rows are the same
@@ -245,10 +245,10 @@ module _ {v u : View} {s r : ℕ} (w : Pair v u s r) {c d : ℕ} {n m k l : ℕ}
       there-case i h (yes e) = (l, child-seen b d r bm, ap (row v′ s) e ∙ new-rows)
       there-case i h (no o) =
           let (j, x) = twin-there w i (sym (seen-grown a c s i o) ∙ h) in
-          (j, seen-grown b d r j (old b d j (seen-taken u r j (x .seen-u))) ∙ x .seen-u, old-rows x)
+          (j, seen-grown b d r j (old b d j (taken-u x)) ∙ x .seen-u, old-rows x)
 
       back-case : (j : ℕ) → So (seen u′ r j) → Dec (j ≡ l) → (i : ℕ) × So (seen v′ s i) × (row v′ s i ≡ row u′ r j)
       back-case j h (yes e) = (k, child-seen a c s bn, new-rows ∙ sym (ap (row u′ r) e))
       back-case j h (no o) =
           let (i, x) = twin-there (flip-pair w) j (sym (seen-grown b d r j o) ∙ h) in
-          (i, seen-grown a c s i (old a c i (seen-taken v s i (x .seen-u))) ∙ x .seen-u, old-rows (flip-twin x))
+          (i, seen-grown a c s i (old a c i (taken-u x)) ∙ x .seen-u, old-rows (flip-twin x))

@@ -16,7 +16,7 @@ use Rattle.rules.proofs.Laws.Tree.{below-refl}
 use Rattle.sameness.proofs.Readers.{seen-above}
 use Rattle.sameness.proofs.Anchor.{init-or-none, up-below}
 use Rattle.sameness.proofs.Remain.{Tree, name-stays}
-use Rattle.sameness.proofs.Twins.{Pair, Twins, flip-pair, flip-twins, twin-there, twin-rows, seen-twins, pid-twins, inits-twin, pid-in-seen, twins-level, twins-up-by}
+use Rattle.sameness.proofs.Twins.{Pair, Twins, flip-pair, flip-twins, twin-there, twin-rows, seen-twins, pid-twins, inits-twin, pid-in-seen, twins-level, twins-up-by, taken-u}
 use Rattle.table.specs.Limits.{greatest-pid, process-slots, restart-pid, no-slot}
 use Rattle.rules.specs.Pids.{free-pid, next-pid}
 use Rattle.table.specs.Slots.{is-unborn}
@@ -32,7 +32,7 @@ held-there : {v u : View} {s r : ℕ} (w : Pair v u s r) {n m : ℕ} (k : ℕ) �
 held-there {u} {s} {r} w {n} k l h =
     let (i, b, g) = any-elim _ _ h in
     let (j, p) = twin-there w i (seen-above (w .facts-v) n s i (l .below-v) (left _ _ g)) in
-    any-intro _ _ j (w .facts-u .in-range j (seen-taken u r j (p .seen-u)))
+    any-intro _ _ j (w .facts-u .in-range j (taken-u p))
     (both _ _ (sym (seen-twins w p l) ∙ left _ _ g) (eq-eqb _ _ (sym (pid-twins w p l) ∙ eqb-true _ _ (right _ _ g))))
 
 module _ {v u : View} {s r : ℕ} (w : Pair v u s r) {n m : ℕ} (l : Twins v u s r n m) where

@@ -24,7 +24,7 @@ use Rattle.sameness.proofs.Inside.{Kept, Ready, MadeSame}
 use Rattle.sameness.proofs.MemberEnd.{member-of}
 use Rattle.sameness.proofs.Readers.{is-init-twins}
 use Rattle.sameness.proofs.Same.{Same}
-use Rattle.sameness.proofs.Twins.{pid-in-unseen, top-twins, Pair, Twin, flip-pair, flip-twin, twins-unique}
+use Rattle.sameness.proofs.Twins.{pid-in-unseen, top-twins, Pair, Twin, flip-pair, flip-twin, twins-unique, taken-v, taken-u}
 use Rattle.rules.specs.Answers.{answers, granted}
 use Rattle.rules.specs.Calls.{exit, status}
 use Rattle.rules.specs.Ends.{end}
@@ -116,10 +116,10 @@ module _ {t u : Table} {s r c d : ℕ} (w : Ready t u s r c d) (e : End) (ok : S
       p = w .pair
 
       tc : So (taken (view t) c)
-      tc = seen-taken (view t) s c (w .twin .seen-v)
+      tc = taken-v (w .twin)
 
       td : So (taken (view u) d)
-      td = seen-taken (view u) r d (w .twin .seen-u)
+      td = taken-u (w .twin)
 
       ft : Sane (end t c e)
       ft = end-sane t (held .sane-t) c e (runs-lives t c (w .runs-t)) nc ok

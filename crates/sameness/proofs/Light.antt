@@ -12,7 +12,7 @@ use Rattle.rules.proofs.Keeps.Changed.{process-count}
 use Rattle.rules.proofs.Laws.Facts.{Facts, seen-taken}
 use Rattle.sameness.proofs.Remain.{Remain, everyone, name-remain, pid-in-remain, same-remain}
 use Rattle.sameness.proofs.Same.{Same}
-use Rattle.sameness.proofs.Twins.{Pair, Twin, flip-pair, flip-twin, twin-rows, twin-unique}
+use Rattle.sameness.proofs.Twins.{Pair, Twin, flip-pair, flip-twin, twin-rows, twin-unique, taken-v, taken-u}
 use Rattle.table.specs.Slots.{no-pid, no-process, pid-at, process, put}
 use Rattle.rules.specs.Read.{pid-in, taken, view}
 use Rattle.rules.specs.Sound.{shaped}
@@ -88,7 +88,7 @@ module _ (t u : Table) {s r c d : ℕ} (w : Pair (view t) (view u) s r) (k : Twi
   shown-put {i} {j} l = go (ℕ-discrete i c) (ℕ-discrete j d)
     where
       go : Dec (i ≡ c) → Dec (j ≡ d) → Shown t u s r (process (put t c p) i) (process (put u d q) j)
-      go (yes e) (yes f) = subst₂ (Shown t u s r) (sym (ap (process (put t c p)) e ∙ put-same t c p (w .facts-v) gt (seen-taken _ s c (k .seen-v)))) (sym (ap (process (put u d q)) f ∙ put-same u d q (w .facts-u) gu (seen-taken _ r d (k .seen-u)))) h
+      go (yes e) (yes f) = subst₂ (Shown t u s r) (sym (ap (process (put t c p)) e ∙ put-same t c p (w .facts-v) gt (taken-v k))) (sym (ap (process (put u d q)) f ∙ put-same u d q (w .facts-u) gu (taken-u k))) h
       go (yes e) (no f) = absurd (f (twin-unique w l k e))
       go (no e) (yes f) = absurd (e (twin-unique (flip-pair w) (flip-twin l) (flip-twin k) f))
       go (no e) (no f) = subst₂ (Shown t u s r) (sym (put-other t c p i e)) (sym (put-other u d q j f)) (shown t u w l)

@@ -18,7 +18,7 @@ use Rattle.sameness.proofs.Light.{shown, same-put}
 use Rattle.sameness.proofs.NewNamespace.{the-namespace, new-name, new-taken, new-still, new-unborn, not-held, same-free}
 use Rattle.sameness.proofs.Same.{same-trans}
 use Rattle.sameness.proofs.Still.{Still, near-here, same-still}
-use Rattle.sameness.proofs.Twins.{Pair, Twin, Twins, twins-level, owns, flip-same}
+use Rattle.sameness.proofs.Twins.{Pair, Twin, Twins, twins-level, owns, flip-same, taken-v, taken-u}
 use Rattle.rules.specs.Answers.{answers, granted}
 use Rattle.rules.specs.Births.{birth}
 use Rattle.rules.specs.Calls.{born, clone-new, new-namespace, own-level, set-children, unshare}
@@ -120,7 +120,7 @@ module _ {t u : Table} {s r c d : ℕ} (w : Ready t u s r c d) (ot : own-level (
 
   cloned-kept : (free-slot (view t) ≡ process-slots → ⊥) → (free-slot (view u) ≡ process-slots → ⊥) → SoundTable (birth tn c (free-namespace-slot (view t))) → SoundTable (birth un d (free-namespace-slot (view u))) → Kept t u s r (born t c (birth tn c (free-namespace-slot (view t)))) (born u d (birth un d (free-namespace-slot (view u))))
   cloned-kept pt pu h g =
-      born-kept w gt gu new-pair new-twin new-cradles (λ i j m z. not-held ft c rt i (seen-taken (view tn) s i (m .seen-v)) ∙ sym (not-held fu d ru j (seen-taken (view un) r j (m .seen-u))))
+      born-kept w gt gu new-pair new-twin new-cradles (λ i j m z. not-held ft c rt i (taken-v m) ∙ sym (not-held fu d ru j (taken-u m)))
       (λ e. pt (sym (same-free t c) ∙ e)) (λ e. pu (sym (same-free u d) ∙ e)) h g
 
 -- ---- the two calls

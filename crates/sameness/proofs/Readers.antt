@@ -58,11 +58,11 @@ module _ {v u : View} {s r : ℕ} (w : Pair v u s r) where
           inr (subst (λ q. Twin v u s r (find v n k) q) e p, c, z)
       go (inl (a, b, c)) (inr (x, y)) =
           let (j, p) = twin-there w (find v n k) (seen-above (w .facts-v) n s _ (l .below-v) a) in
-          absurd (y j (w .facts-u .in-range j (seen-taken u r j (p .seen-u))) (sym (seen-twins w p l) ∙ a) (sym (pid-twins w p l) ∙ b))
+          absurd (y j (w .facts-u .in-range j (taken-u p)) (sym (seen-twins w p l) ∙ a) (sym (pid-twins w p l) ∙ b))
       go (inr (a, b)) (inl (x, y, z)) =
           let (i, p) = twin-there (flip-pair w) (find u m k) (seen-above (w .facts-u) m r _ (l .below-u) x) in
           let q = flip-twin p in
-          absurd (b i (w .facts-v .in-range i (seen-taken v s i (q .seen-v))) (seen-twins w q l ∙ x) (pid-twins w q l ∙ y))
+          absurd (b i (w .facts-v .in-range i (taken-v q)) (seen-twins w q l ∙ x) (pid-twins w q l ∙ y))
       go (inr (a, b)) (inr (x, y)) = inl (a, x)
 
   -- whether a process is the init of its namespace, where that lives

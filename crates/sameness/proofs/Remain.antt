@@ -9,7 +9,7 @@ use Rattle.rules.proofs.Laws.Facts.{Facts, seen-taken}
 use Rattle.rules.proofs.Laws.Tests.{and-false, choose}
 use Rattle.sameness.proofs.Anchor.{anchor}
 use Rattle.sameness.proofs.Same.{Same}
-use Rattle.sameness.proofs.Twins.{Pair, Twin, flip-pair, flip-twin, twin-rows, twin-there}
+use Rattle.sameness.proofs.Twins.{Pair, Twin, flip-pair, flip-twin, twin-rows, twin-there, taken-v, taken-u}
 use Rattle.table.specs.Limits.{levels, no-slot}
 use Rattle.table.specs.Slots.{init-of, is-alive}
 use Rattle.rules.specs.Read.{View, below, climb, init, is-init, namespace-taken, pid-in, pid-seen, seen, taken}
@@ -203,6 +203,6 @@ same-remain {v} {u} {s} {r} w a b hs hr alike h =
     (λ i j k q.
     let e = twin-rows w k in
     let l = h i j k q in
-    row-remain (w .facts-v) a s i hs q (seen-taken v s i (k .seen-v))
+    row-remain (w .facts-v) a s i hs q (taken-v k)
     ∙ (λ z. record { pids = e z .pids; state = l .states z; handled = l .handleds z; pending = l .pendings z; unshared = l .marks z; parent = l .parents z; own = e z .own; children = l .childrens z; last = l .lasts z })
-    ∙ sym (row-remain (w .facts-u) b r j hr (sym (alike i j k) ∙ q) (seen-taken u r j (k .seen-u))))
+    ∙ sym (row-remain (w .facts-u) b r j hr (sym (alike i j k) ∙ q) (taken-u k)))

@@ -27,7 +27,7 @@ use Rattle.sameness.proofs.Readers.{twin-eqb, child-twins, seen-above, 
 use Rattle.sameness.proofs.Remain.{Remain, Lit, same-remain, pid-in-remain, name-remain, everyone, seen-remain, seen-gone}
 use Rattle.sameness.proofs.Same.{Same}
 use Rattle.sameness.proofs.Still.{Still, same-still}
-use Rattle.sameness.proofs.Twins.{Pair, Twin, twin-rows, Twins, flip-pair, flip-twin, twin-there, pid-twins}
+use Rattle.sameness.proofs.Twins.{Pair, Twin, twin-rows, Twins, flip-pair, flip-twin, twin-there, pid-twins, taken-v, taken-u}
 use Rattle.rules.specs.Answers.{granted, answers, is-refused, refused}
 use Rattle.rules.specs.Calls.{first-ended, pid-to, reap, wait}
 use Rattle.sameness.specs.Events.{at, follow, gone, is-inside, sheet-of}
@@ -123,10 +123,10 @@ module _ {v : View} (f : Facts v) (x : ℕ) (tx : So (taken v x)) (ex : So (v .e
 
 module _ {v u : View} {s r : ℕ} (w : Pair v u s r) {x y : ℕ} (k : Twin v u s r x y) (ex : So (v .ended x)) (ey : So (u .ended y)) where
   tx : So (taken v x)
-  tx = seen-taken v s x (k .seen-v)
+  tx = taken-v k
 
   ty : So (taken u y)
-  ty = seen-taken u r y (k .seen-u)
+  ty = taken-u k
 
   both-stay : (i j : ℕ) → Twin v u s r i j → others x i ≡ others y j
   both-stay i j m = ap not (twin-eqb w m k)
@@ -135,8 +135,8 @@ module _ {v u : View} {s r : ℕ} (w : Pair v u s r) {x y : ℕ} (k : Twin v u s
   unfolding row
   reap-lit i j m q =
       let q′ = sym (both-stay i j m) ∙ q in
-      let ti = seen-taken v s i (m .seen-v) in
-      let tj = seen-taken u r j (m .seen-u) in
+      let ti = taken-v m in
+      let tj = taken-u m in
       let rows = twin-rows w m in
       let slot = twin-eqb w m k in
       record {
@@ -167,7 +167,7 @@ ended-kid v c i = child-of v c i and v .ended i
 
 module _ {t u : Table} {s r c d : ℕ} (w : Ready t u s r c d) where
   tc : So (taken (view t) c)
-  tc = seen-taken (view t) s c (w .twin .seen-v)
+  tc = taken-v (w .twin)
 
   -- a child here is a child there
   kid-there : (i : ℕ) → So (child-of (view t) c i) → (j : ℕ) × Twin (view t) (view u) s r i j
@@ -180,12 +180,12 @@ module _ {t u : Table} {s r c d : ℕ} (w : Ready t u s r c d) where
   any-there h =
       let (i, l, k) = any-elim _ _ h in
       let (j, m) = kid-there i k in
-      any-intro _ _ j (facts u (w .sound-u) .in-range j (seen-taken (view u) r j (m .seen-u))) (sym (kid-same m) ∙ k)
+      any-intro _ _ j (facts u (w .sound-u) .in-range j (taken-u m)) (sym (kid-same m) ∙ k)
 
   ended-there : (i : ℕ) → So (ended-kid (view t) c i) → (j : ℕ) × Twin (view t) (view u) s r i j × So (ended-kid (view u) d j) × (j < process-slots)
   ended-there i h =
       let (j, m) = kid-there i (left _ _ h) in
-      (j, m, both _ _ (sym (kid-same m) ∙ left _ _ h) (sym (ended-twins (w .pair) m) ∙ right _ _ h), facts u (w .sound-u) .in-range j (seen-taken (view u) r j (m .seen-u)))
+      (j, m, both _ _ (sym (kid-same m) ∙ left _ _ h) (sym (ended-twins (w .pair) m) ∙ right _ _ h), facts u (w .sound-u) .in-range j (taken-u m))
 
 flip-ready : {t u : Table} {s r c d : ℕ} → Ready t u s r c d → Ready u t r s d c
 flip-ready w =
