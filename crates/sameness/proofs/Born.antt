@@ -13,6 +13,7 @@ use Rattle.rules.proofs.Laws.Facts.{Facts, seen-taken, seen-below}
 use Rattle.rules.proofs.Laws.Slots.{alive-taken, init-own, below-same, below-up-by, up-by-level, up-by-end, init-taken, no-heirs, own-not-unborn}
 use Rattle.rules.proofs.Laws.Tests.{no-so, isnt-so, left, right, both, any-elim, any-intro, isnt, bool-ext}
 use Rattle.rules.proofs.Laws.Tree.{below-refl}
+use Rattle.sameness.proofs.Cases.{by-equal}
 use Rattle.sameness.proofs.Readers.{seen-above}
 use Rattle.sameness.proofs.Anchor.{init-or-none, up-below}
 use Rattle.sameness.proofs.Remain.{Tree, name-stays}
@@ -60,15 +61,13 @@ module _ {v u : View} {s r : ℕ} (w : Pair v u s r) {n m : ℕ} (l : Twins v u 
 
 -- nothing lies below an unborn namespace but itself
 pub bottom : {v : View} (f : Facts v) (a m : ℕ) → So (below v a m) → So (unborn v m) → a ≡ m
-bottom {v} f a m b h = go (ℕ-discrete (v .level a) (v .level m))
-  where
-    go : Dec (v .level a ≡ v .level m) → a ≡ m
-    go (yes e) = below-same v f a m b e
-    go (no e) =
-        let d = pred (v .level a - v .level m) in
-        let l = below-level v f a m b in
-        let q : suc d ≡ v .level a - v .level m = omega arith in
-        absurd (no-heirs v f m (up-by (v .up) d a) (v .level m) h (omega (arith, up-by-level v f d a (omega arith))) (sym (up-by-end v f d a) ∙ ap (λ x. up-by (v .up) x a) q ∙ below-up-by v f a m b))
+bottom {v} f a m b h =
+    by-equal (v .level a) (v .level m) (λ e. below-same v f a m b e)
+    (λ e.
+    let d = pred (v .level a - v .level m) in
+    let l = below-level v f a m b in
+    let q : suc d ≡ v .level a - v .level m = omega arith in
+    absurd (no-heirs v f m (up-by (v .up) d a) (v .level m) h (omega (arith, up-by-level v f d a (omega arith))) (sym (up-by-end v f d a) ∙ ap (λ x. up-by (v .up) x a) q ∙ below-up-by v f a m b)))
 
 -- an empty slot k, and a namespace n
 pub record Room (v : View) (n k : ℕ) : Type 0 where
@@ -213,19 +212,18 @@ unfolding above-at up-by
 cradle-next {v} {u} {s} {r} w n m l (inl k) a b =
     next-twins w
     (subst (λ x. Twins v u s r (up-by (v .up) (v .level n - l) n) (up-by (u .up) (x - l) m)) (twins-level w k) (twins-up-by w (v .level n - l) k (omega arith)))
-cradle-next {v} {u} w n m l (inr k) a b = go (ℕ-discrete l (v .level n))
+cradle-next {v} {u} w n m l (inr k) a b =
+    by-equal l (v .level n)
+    (λ e.
+    let x : v .level n - l ≡ 0 = omega arith in
+    let y : u .level m - l ≡ 0 = omega (arith, levels) in
+    ap (λ z. next-pid v (up-by (v .up) z n)) x ∙ next-unborn (w .facts-v) (w .facts-u) n m (k .unborn-v) (k .unborn-u) (k .lasts) ∙ sym (ap (λ z. next-pid u (up-by (u .up) z m)) y))
+    (λ e.
+    let x : v .level n - l ≡ suc (v .level (v .up n) - l) = omega (arith, k .level-v) in
+    let y : u .level m - l ≡ suc (v .level (v .up n) - l) = omega (arith, levels, k .level-v) in
+    ap (λ z. next-pid v (up-by (v .up) z n)) x
+    ∙ next-twins w (twins-up-by w (v .level (v .up n) - l) (k .ups) (omega arith))
+    ∙ sym (ap (λ z. next-pid u (up-by (u .up) z m)) y))
   where
     levels : v .level n ≡ u .level m
     levels = omega (arith, k .level-v, k .level-u, twins-level w (k .ups))
-
-    go : Dec (l ≡ v .level n) → next-pid v (up-by (v .up) (v .level n - l) n) ≡ next-pid u (up-by (u .up) (u .level m - l) m)
-    go (yes e) =
-        let x : v .level n - l ≡ 0 = omega arith in
-        let y : u .level m - l ≡ 0 = omega (arith, levels) in
-        ap (λ z. next-pid v (up-by (v .up) z n)) x ∙ next-unborn (w .facts-v) (w .facts-u) n m (k .unborn-v) (k .unborn-u) (k .lasts) ∙ sym (ap (λ z. next-pid u (up-by (u .up) z m)) y)
-    go (no e) =
-        let x : v .level n - l ≡ suc (v .level (v .up n) - l) = omega (arith, k .level-v) in
-        let y : u .level m - l ≡ suc (v .level (v .up n) - l) = omega (arith, levels, k .level-v) in
-        ap (λ z. next-pid v (up-by (v .up) z n)) x
-        ∙ next-twins w (twins-up-by w (v .level (v .up n) - l) (k .ups) (omega arith))
-        ∙ sym (ap (λ z. next-pid u (up-by (u .up) z m)) y)

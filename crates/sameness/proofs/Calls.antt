@@ -8,6 +8,7 @@ use lib.IntN.{ℤ}
 use Rattle.rules.proofs.Laws.Facts.{facts}
 use Rattle.rules.proofs.Laws.Slots.{living-own-alive, alive-taken}
 use Rattle.rules.proofs.Laws.Steps.{runs-lives}
+use Rattle.sameness.proofs.Cases.{by-test}
 use Rattle.sameness.proofs.Inside.{Kept, Ready, MadeSame, refused-same, stands-same, follow-self}
 use Rattle.sameness.proofs.Light.{Shown, shown, same-put}
 use Rattle.sameness.proofs.Readers.{parent-pid}
@@ -92,32 +93,26 @@ module _ {t u : Table} {s r i j : ℕ} (w : Ready t u s r i j) where
 -- handle, and poll
 pub handle-same : (z : ℤ) (on : Bool) → MadeSame (Handle z on)
 unfolding MadeSame make handle handle-on handle-off answers granted
-handle-same z on t u s r i j w h g = go (not (within 1 signals z) or eqb (natural z) sigkill or eqb (natural z) sigstop) refl on refl
+handle-same z on t u s r i j w h g =
+    by-test (not (within 1 signals z) or eqb (natural z) sigkill or eqb (natural z) sigstop) (λ e. rw (e, handle) (both-refuse w Einval))
+    (λ e. by-test on
+    (λ q. rw (e, q, handle)
+    (signal-kept w _ _ _ _ 0 0 (ap (λ x. with-signal x (natural z)) (y .handleds)) (y .pendings) refl (rw (e, q, handle) at h) (rw (e, q, handle) at g)))
+    (λ q. rw (e, q, handle)
+    (signal-kept w _ _ _ _ 0 0 (ap (λ x. without-signal x (natural z)) (y .handleds)) (ap (λ x. without-signal x (natural z)) (y .pendings)) refl (rw (e, q, handle) at h) (rw (e, q, handle) at g))))
   where
     y : Shown t u s r (process t i) (process u j)
     y = shown t u (w .pair) (w .twin)
 
-    go : (b : Bool) → not (within 1 signals z) or eqb (natural z) sigkill or eqb (natural z) sigstop ≡ b → (o : Bool) → on ≡ o → Kept t u s r (handle t i z on) (handle u j z on)
-    go true e o q = rw (e, handle) (both-refuse w Einval)
-    go false e true q =
-        rw (e, q, handle)
-        (signal-kept w _ _ _ _ 0 0 (ap (λ x. with-signal x (natural z)) (y .handleds)) (y .pendings) refl (rw (e, q, handle) at h) (rw (e, q, handle) at g))
-    go false e false q =
-        rw (e, q, handle)
-        (signal-kept w _ _ _ _ 0 0 (ap (λ x. without-signal x (natural z)) (y .handleds)) (ap (λ x. without-signal x (natural z)) (y .pendings)) refl (rw (e, q, handle) at h) (rw (e, q, handle) at g))
-
 pub poll-same : MadeSame Poll
 unfolding MadeSame make poll answers granted
-poll-same t u s r i j w h g = go (eqb (lowest-signal (process t i .pending)) signals) refl
+poll-same t u s r i j w h g =
+    by-test (eqb (lowest-signal (process t i .pending)) signals) (λ e. rw (e, sym (ap (λ x. eqb x signals) lows) ∙ e, poll) (both-tell w 0 0 refl))
+    (λ e. rw (e, sym (ap (λ x. eqb x signals) lows) ∙ e, poll)
+    (signal-kept w _ _ _ _ _ _ (y .handleds) (ap₂ without-signal (y .pendings) lows) lows (rw (e, poll) at h) (rw (sym (ap (λ x. eqb x signals) lows) ∙ e, poll) at g)))
   where
     y : Shown t u s r (process t i) (process u j)
     y = shown t u (w .pair) (w .twin)
 
     lows : lowest-signal (process t i .pending) ≡ lowest-signal (process u j .pending)
     lows = ap lowest-signal (y .pendings)
-
-    go : (b : Bool) → eqb (lowest-signal (process t i .pending)) signals ≡ b → Kept t u s r (poll t i) (poll u j)
-    go true e = rw (e, sym (ap (λ x. eqb x signals) lows) ∙ e, poll) (both-tell w 0 0 refl)
-    go false e =
-        rw (e, sym (ap (λ x. eqb x signals) lows) ∙ e, poll)
-        (signal-kept w _ _ _ _ _ _ (y .handleds) (ap₂ without-signal (y .pendings) lows) lows (rw (e, poll) at h) (rw (sym (ap (λ x. eqb x signals) lows) ∙ e, poll) at g))

@@ -128,15 +128,14 @@ no-room-right t u s r x = inl (or-true (is-no-room (x .reply .answer)))
 -- plain clone
 pub clone-same : MadeSame Clone
 unfolding MadeSame make clone
-clone-same t u s r c d w h g = go (dead (view t) (view t .children c)) refl (eqb (free-slot (view t)) process-slots) refl (eqb (free-slot (view u)) process-slots) refl
+clone-same t u s r c d w h g =
+    by-test (dead (view t) (view t .children c)) (λ ea. rw (ea, sym same ∙ ea, clone) (both-refuse w Enomem))
+    (λ ea. by-test (eqb (free-slot (view t)) process-slots)
+    (λ eb. rw (ea, eb, clone) (no-room-left t u s r (clone u d)))
+    (λ eb. by-test (eqb (free-slot (view u)) process-slots)
+    (λ eb′. rw (sym same ∙ ea, eb′, clone) (no-room-right t u s r (clone t c)))
+    (λ eb′. rw (ea, sym same ∙ ea, eb, eb′, clone)
+    (born-kept w (sane t (w .sound-t)) (sane u (w .sound-u)) (w .pair) (w .twin) (cradles w ea) (holders w) (eqb-false _ _ eb) (eqb-false _ _ eb′) (rw (ea, eb, clone) at h) (rw (sym same ∙ ea, eb′, clone) at g)))))
   where
     same : dead (view t) (view t .children c) ≡ dead (view u) (view u .children d)
     same = deads w
-
-    go : (a : Bool) → dead (view t) (view t .children c) ≡ a → (b : Bool) → eqb (free-slot (view t)) process-slots ≡ b → (b′ : Bool) → eqb (free-slot (view u)) process-slots ≡ b′ → Kept t u s r (clone t c) (clone u d)
-    go true ea b eb b′ eb′ = rw (ea, sym same ∙ ea, clone) (both-refuse w Enomem)
-    go false ea true eb b′ eb′ = rw (ea, eb, clone) (no-room-left t u s r (clone u d))
-    go false ea false eb true eb′ = rw (sym same ∙ ea, eb′, clone) (no-room-right t u s r (clone t c))
-    go false ea false eb false eb′ =
-        rw (ea, sym same ∙ ea, eb, eb′, clone)
-        (born-kept w (sane t (w .sound-t)) (sane u (w .sound-u)) (w .pair) (w .twin) (cradles w ea) (holders w) (eqb-false _ _ eb) (eqb-false _ _ eb′) (rw (ea, eb, clone) at h) (rw (sym same ∙ ea, eb′, clone) at g))

@@ -13,6 +13,7 @@ use Rattle.rules.proofs.Laws.Lists.{heads-equal, tails-equal, not-empty}
 use Rattle.rules.proofs.Laws.Slots.{alive-taken, living-own-alive, alive-above, pid-unique}
 use Rattle.rules.proofs.Laws.Steps.{step-made, step-refused, runs-lives}
 use Rattle.rules.proofs.Laws.Tests.{left, right}
+use Rattle.sameness.proofs.Cases.{by-test}
 use Rattle.sameness.proofs.BirthLeaves.{clone-leaves, clone-new-leaves, unshare-leaves}
 use Rattle.sameness.proofs.Calls.{getpid-same, getppid-same, handle-same, poll-same}
 use Rattle.sameness.proofs.CloneSame.{clone-same}
@@ -76,11 +77,9 @@ all-outside Poll = poll-leaves
 -- an outside call that makes no touch leaves the sheet
 pub outside-leaves : OutsideLeaves
 unfolding OutsideLeaves MadeLeaves happens table-after refused
-outside-leaves t s i c h hs a = go (runs (view t) i) refl
-  where
-    go : (b : Bool) → runs (view t) i ≡ b → sheet-of (step t i c .table) (follow t (step t i c .table) (at s)) ≡ sheet (view t) s
-    go true k = rw (step-made t i c h k) (all-outside c t s i h hs k a (make-sound t i c h k))
-    go false k = rw (step-refused t i c h k) (as-it-was t s hs)
+outside-leaves t s i c h hs a =
+    by-test (runs (view t) i) (λ k. rw (step-made t i c h k) (all-outside c t s i h hs k a (make-sound t i c h k)))
+    (λ k. rw (step-refused t i c h k) (as-it-was t s hs))
 
 -- ---- the facts about single calls
 
@@ -107,7 +106,20 @@ runs-same {t} {u} s r i j h g a b e =
 
 inside-same : InsideSame
 unfolding MadeSame
-inside-same t u s r i j c h g hs hr e a b n = go (runs (view t) i) refl
+inside-same t u s r i j c h g hs hr e a b n =
+    by-test (runs (view t) i)
+    (λ k. rw (step-made t i c h k, step-made u j c g (sym both-run ∙ k))
+    (all-inside c t u s r i j
+    (record {
+      sound-t = h;
+      sound-u = g;
+      pair = record { facts-v = facts t h; facts-u = facts u g; alive-v = runs-alive s i h a k; alive-u = runs-alive r j g b (sym both-run ∙ k); same = w };
+      twin = record { seen-v = a; seen-u = b; pids = n };
+      runs-t = k;
+      runs-u = sym both-run ∙ k;
+    })
+    (make-sound t i c h k) (make-sound u j c g (sym both-run ∙ k))))
+    (λ k. rw (step-refused t i c h k, step-refused u j c g (sym both-run ∙ k)) (refused-same t u s r NotRunning hs hr e))
   where
     w : Same (view t) (view u) s r
     w = same-of-sheets (facts t h) (facts u g) e
@@ -119,21 +131,6 @@ inside-same t u s r i j c h g hs hr e a b n = go (runs (view t) i) refl
 
     both-run : runs (view t) i ≡ runs (view u) j
     both-run = runs-same s r i j h g a b rows
-
-    go : (z : Bool) → runs (view t) i ≡ z → Kept t u s r (step t i c) (step u j c)
-    go true k =
-        rw (step-made t i c h k, step-made u j c g (sym both-run ∙ k))
-        (all-inside c t u s r i j
-        (record {
-          sound-t = h;
-          sound-u = g;
-          pair = record { facts-v = facts t h; facts-u = facts u g; alive-v = runs-alive s i h a k; alive-u = runs-alive r j g b (sym both-run ∙ k); same = w };
-          twin = record { seen-v = a; seen-u = b; pids = n };
-          runs-t = k;
-          runs-u = sym both-run ∙ k;
-        })
-        (make-sound t i c h k) (make-sound u j c g (sym both-run ∙ k)))
-    go false k = rw (step-refused t i c h k, step-refused u j c g (sym both-run ∙ k)) (refused-same t u s r NotRunning hs hr e)
 
 -- ---- the relation that every call keeps
 

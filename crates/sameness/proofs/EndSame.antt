@@ -12,6 +12,7 @@ use Rattle.rules.proofs.Laws.Below.{below-level}
 use Rattle.rules.proofs.Laws.Facts.{Facts, seen-below, lives-taken, Sane}
 use Rattle.rules.proofs.Laws.Slots.{living-own-alive, below-same}
 use Rattle.rules.proofs.Laws.Tests.{false-and, no-so, isnt-so, and-not, choose}
+use Rattle.sameness.proofs.Cases.{by-test}
 use Rattle.sameness.proofs.Fallen.{fallen-places, init-stays}
 use Rattle.sameness.proofs.InitEnd.{both-stay, init-same}
 use Rattle.sameness.proofs.MemberEnd.{member-remain, member-same, member-of}
@@ -96,11 +97,9 @@ module _ {v u v′ u′ : View} {s r f g : ℕ} (p : Pair v u s r) (from : Twins
 
   pub targets-after : ((i : ℕ) → living v i ≡ false → living v′ i ≡ false) → ((j : ℕ) → living u j ≡ false → living u′ j ≡ false) → (i j : ℕ) → Target v u s r f i j → Target v′ u′ s r f i j
   targets-after dt du i j (inr (h, k)) = inr (dt i h, du j k)
-  targets-after dt du i j (inl (m, h)) = go (Q i) refl
-    where
-      go : (c : Bool) → Q i ≡ c → Target v′ u′ s r f i j
-      go true q = inl (twin-remain p a b refl refl both-remain m q, seen-remain (p .facts-v) a f i q ∙ h)
-      go false q = inr (not-living v′ i (a .gone i q), not-living u′ j (b .gone j (sym (both-remain i j m) ∙ q)))
+  targets-after dt du i j (inl (m, h)) =
+      by-test (Q i) (λ q. inl (twin-remain p a b refl refl both-remain m q, seen-remain (p .facts-v) a f i q ∙ h))
+      (λ q. inr (not-living v′ i (a .gone i q), not-living u′ j (b .gone j (sym (both-remain i j m) ∙ q))))
 
 module _ {v u : View} {s r f g x y : ℕ} (e : End) (p : Pair v u s r) (from : Twins v u s r f g) (k : Twin v u s r x y) (sx : So (seen v f x)) (lx : So (living v x)) (fell-v : (i : ℕ) → living v i ≡ false → living (ended-view v x e) i ≡ false) (fell-u : (j : ℕ) → living u j ≡ false → living (ended-view u y e) j ≡ false) (both-init : is-init v x ≡ is-init u y) where
   own-lives : So (alive v (v .own x))

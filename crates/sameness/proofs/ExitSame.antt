@@ -16,6 +16,7 @@ use Rattle.rules.proofs.Laws.Slots.{alive-taken, init-own, root-only, pid-uniqu
 use Rattle.rules.proofs.Laws.Steps.{remainder, runs-lives}
 use Rattle.rules.proofs.Laws.Tests.{right, bool-ext}
 use Rattle.rules.proofs.Laws.Tree.{below-refl}
+use Rattle.sameness.proofs.Cases.{by-test}
 use Rattle.sameness.proofs.Calls.{both-refuse, owns-twins, own-lives, taken-s, taken-r}
 use Rattle.sameness.proofs.EndSame.{end-same, pair-of, Midway}
 use Rattle.sameness.proofs.Freeing.{freed-alike, freed-sheets}
@@ -154,7 +155,9 @@ module _ {t u : Table} {s r c d : ℕ} (w : Ready t u s r c d) (e : End) (ok : S
 -- exit by twin callers
 pub exit-same : (z : ℤ) → MadeSame (Exit z)
 unfolding MadeSame make exit answers granted
-exit-same z t u s r c d w h g = go (eqb c 0) refl
+exit-same z t u s r c d w h g =
+    by-test (eqb c 0) (λ n. rw (n, sym zeros ∙ n, exit) (both-refuse w Ebusy))
+    (λ n. rw (n, sym zeros ∙ n, exit) (ends n (ℕ-discrete (view t .own c) s) (is-init (view t) c) refl (rw (n, exit) at h) (rw (sym zeros ∙ n, exit) at g)))
   where
     zeros : eqb c 0 ≡ eqb d 0
     zeros =
@@ -168,7 +171,3 @@ exit-same z t u s r c d w h g = go (eqb c 0) refl
     ends n (yes o) true i a b = dies w e (remainder z) i o (eqb-false c 0 n) (eqb-false d 0 (sym zeros ∙ n)) a b
     ends n (yes o) false i a b = lives-on w e (remainder z) (λ j q. false≢true (sym i ∙ j)) a b
     ends n (no o) i j a b = lives-on w e (remainder z) (λ j q. o q) a b
-
-    go : (b : Bool) → eqb c 0 ≡ b → Kept t u s r (exit t c z) (exit u d z)
-    go true n = rw (n, sym zeros ∙ n, exit) (both-refuse w Ebusy)
-    go false n = rw (n, sym zeros ∙ n, exit) (ends n (ℕ-discrete (view t .own c) s) (is-init (view t) c) refl (rw (n, exit) at h) (rw (sym zeros ∙ n, exit) at g))

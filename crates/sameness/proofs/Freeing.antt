@@ -11,6 +11,7 @@ use Rattle.rules.proofs.Laws.Facts.{Facts, facts, Sane, seen-taken, seen-below}
 use Rattle.rules.proofs.Laws.Lists.{In}
 use Rattle.rules.proofs.Laws.Slots.{init-own, alive-taken, init-taken}
 use Rattle.rules.proofs.Laws.Tests.{isnt-so, no-so, cases}
+use Rattle.sameness.proofs.Cases.{by-test}
 use Rattle.sameness.proofs.Remain.{Remain, lit, row-remain, seen-remain, pid-in-remain, name-remain, everyone}
 use Rattle.sameness.proofs.Same.{Same, sheets-of-same, listed-seen}
 use Rattle.sameness.proofs.Twins.{Pair}
@@ -91,19 +92,17 @@ empty-sheet v s l h e = λ z. record { level = e z; rows = ap (map (row v s)) (g
 -- where S is then, and its sheet
 pub sheet-freed : (t₀ : Table) {t : Table} → Sane t → (s : ℕ) → So (namespace-taken (view t) s) → (kept (view t) s ≡ false → view t .level s ≡ view t₀ .level s) → sheet-of (freed t) (follow t₀ (freed t) (at s)) ≡ sheet (view t) s
 unfolding follow sheet-of
-sheet-freed t₀ {t} x s h e = go (kept (view t) s) refl
+sheet-freed t₀ {t} x s h e =
+    by-test (kept (view t) s)
+    (λ k. rw (ap (λ (u : View). namespace-taken u s) ev ∙ stands-freed f s k h)
+    (ap (λ (u : View). sheet u s) ev ∙ sheets-of-same (subst Facts ev (facts (freed t) (freed-keeps t (x .shape-of) f))) f (stands-freed f s k h) h (same-freed f s k)))
+    (λ k. rw (ap (λ (u : View). namespace-taken u s) ev ∙ gone-freed f s k) (sym (empty-sheet (view t) s _ (nobody-freed f s k) (e k))))
   where
     f : Facts (view t)
     f = x .facts
 
     ev : view (freed t) ≡ restrict (kept (view t)) (view t)
     ev = freed-view t (x .shape-of)
-
-    go : (b : Bool) → kept (view t) s ≡ b → sheet-of (freed t) (if namespace-taken (view (freed t)) s then at s else gone (view t₀ .level s)) ≡ sheet (view t) s
-    go true k =
-        rw (ap (λ (u : View). namespace-taken u s) ev ∙ stands-freed f s k h)
-        (ap (λ (u : View). sheet u s) ev ∙ sheets-of-same (subst Facts ev (facts (freed t) (freed-keeps t (x .shape-of) f))) f (stands-freed f s k h) h (same-freed f s k))
-    go false k = rw (ap (λ (u : View). namespace-taken u s) ev ∙ gone-freed f s k) (sym (empty-sheet (view t) s _ (nobody-freed f s k) (e k)))
 
 -- two tables in the middle of a call that are the same to S: so they are once freed
 pub freed-sheets : (t u : Table) {t₁ u₁ : Table} → Sane t₁ → Sane u₁ → {s r : ℕ} → So (namespace-taken (view t₁) s) → So (namespace-taken (view u₁) r) → (kept (view t₁) s ≡ false → view t₁ .level s ≡ view t .level s) → (kept (view u₁) r ≡ false → view u₁ .level r ≡ view u .level r) → Same (view t₁) (view u₁) s r → sheet-of (freed t₁) (follow t (freed t₁) (at s)) ≡ sheet-of (freed u₁) (follow u (freed u₁) (at r))

@@ -19,6 +19,7 @@ use Rattle.rules.proofs.Laws.Find.{targets-seen}
 use Rattle.rules.proofs.Laws.Lists.{In, in-map, map-in, ascending-sorted, Sorted, map-sorted, sorted-unique, heads-equal, tails-equal, not-empty}
 use Rattle.rules.proofs.Laws.Slots.{pid-unique, alive-taken, living-own-alive, root-only, own-taken}
 use Rattle.rules.proofs.Laws.Tests.{left, right, both, or-true, bool-ext}
+use Rattle.sameness.proofs.Cases.{by-test, by-equal}
 use Rattle.sameness.proofs.Calls.{owns-twins, both-refuse}
 use Rattle.sameness.proofs.EndSame.{end-same, pair-of, Midway, Onward, Target, from-after, targets-after}
 use Rattle.sameness.proofs.Freeing.{freed-alike}
@@ -149,16 +150,14 @@ action-none v f x n e = go (eqb n 0)
 -- a signal does the same to two twins
 pub action-twins : {t u : Table} {s r f g : ℕ} → Midway t u s r f g → {x y : ℕ} (n : ℕ) → Twin (view t) (view u) s r x y → action-on (view t) f x n ≡ action-on (view u) g y n
 unfolding action-on
-action-twins {t} {u} {s} {r} {f} {g} w {x} {y} n k = go (living (view t) x) refl
+action-twins {t} {u} {s} {r} {f} {g} w {x} {y} n k =
+    by-test (living (view t) x)
+    (λ e. rw (living-twins p k, is-init-twins p k (living-own-alive (view t) (w .sane-t .facts) x e), twins-eqb p (owns p k (living-own-alive (view t) (w .sane-t .facts) x e)) (w .from), shown t u p k .handleds, action-on)
+    refl)
+    (λ e. action-none (view t) f x n e ∙ sym (action-none (view u) g y n (sym (living-twins p k) ∙ e)))
   where
     p : Pair (view t) (view u) s r
     p = pair-of w
-
-    go : (b : Bool) → living (view t) x ≡ b → action-on (view t) f x n ≡ action-on (view u) g y n
-    go false e = action-none (view t) f x n e ∙ sym (action-none (view u) g y n (sym (living-twins p k) ∙ e))
-    go true e =
-        rw (living-twins p k, is-init-twins p k (living-own-alive (view t) (w .sane-t .facts) x e), twins-eqb p (owns p k (living-own-alive (view t) (w .sane-t .facts) x e)) (w .from), shown t u p k .handleds, action-on)
-        refl
 
 -- ---- a change that keeps places
 
@@ -230,11 +229,9 @@ resumed-shown {t} {u} {s} {r} {p} {q} z = subst (λ b. Shown t u s r (resumed p)
 -- signal 0 ends nobody
 finish-pos : (v : View) (f x n : ℕ) → action-on v f x n ≡ Finish → 1 ≤ n
 unfolding action-on _or_
-finish-pos v f x n e = go (ℕ-discrete n 0)
-  where
-    go : Dec (n ≡ 0) → 1 ≤ n
-    go (yes z) = absurd (false≢true (ap is-finish (sym (ap (action-on v f x) z) ∙ e)))
-    go (no o) = omega arith
+finish-pos v f x n e =
+    by-equal n 0 (λ z. absurd (false≢true (ap is-finish (sym (ap (action-on v f x) z) ∙ e))))
+    (λ o. omega arith)
 
 -- the root init is seen from the root only
 root-safe : {v : View} (h : Facts v) (f x : ℕ) → So (seen v f x) → x ≡ 0 → f ≡ 0
@@ -290,12 +287,9 @@ module _ (n : ℕ) (low : n < signals) where
   deliver-onward : {t u : Table} {s r f g : ℕ} → Midway t u s r f g → (x y : ℕ) → Target (view t) (view u) s r f x y → Onward t u s r f g (deliver t f x n) (deliver u g y n)
   unfolding deliver act
   deliver-onward {t} {u} {f} {g} w x y (inr e) = rw (action-none (view t) f x n (e .0), action-none (view u) g y n (e .1)) (w, λ a b h. h)
-  deliver-onward {t} {u} {s} {r} {f} {g} w x y (inl (k, h)) = go (living (view t) x) refl
-    where
-      go : (b : Bool) → living (view t) x ≡ b → Onward t u s r f g (deliver t f x n) (deliver u g y n)
-      go true l = rw (← action-twins w n k) (action-onward w n low k h l (action-on (view t) f x n) refl)
-      go false l =
-          rw (action-none (view t) f x n l, action-none (view u) g y n (sym (living-twins (pair-of w) k) ∙ l)) (w, λ a b h. h)
+  deliver-onward {t} {u} {s} {r} {f} {g} w x y (inl (k, h)) =
+      by-test (living (view t) x) (λ l. rw (← action-twins w n k) (action-onward w n low k h l (action-on (view t) f x n) refl))
+      (λ l. rw (action-none (view t) f x n l, action-none (view u) g y n (sym (living-twins (pair-of w) k) ∙ l)) (w, λ a b h. h))
 
   along-map : (R S : ℕ → ℕ → Type 0) (xs ys : List ℕ) → ((a b : ℕ) → R a b → S a b) → Along R xs ys → Along S xs ys
   along-map R S [] [] h k = k
@@ -334,16 +328,17 @@ module _ {t u : Table} {s r i j : ℕ} (w : Ready t u s r i j) where
 -- kill by twin callers
 pub kill-same : (z n : ℤ) → MadeSame (Kill z n)
 unfolding MadeSame make kill answers granted
-kill-same z n t u s r i j w h g = go (within 0 signals n) refl (names-group z) refl (eqb (length (targets (view t) i z)) 0) refl
+kill-same z n t u s r i j w h g =
+    by-test (within 0 signals n)
+    (λ ea. by-test (names-group z)
+    (λ eb. rw (ea, eb, kill) (both-refuse w Enosys))
+    (λ eb. by-test (eqb (length (targets (view t) i z)) 0)
+    (λ ec. rw (ea, eb, ec, sym (ap (λ x. eqb x 0) lengths) ∙ ec, kill) (both-refuse w Esrch))
+    (λ ec.
+    let d = kill-after w z (natural n) (natural-low n ea) in
+    rw (ea, eb, ec, sym (ap (λ x. eqb x 0) lengths) ∙ ec, kill)
+    (inr (refl, freed-alike t u (d .sane-t) (d .sane-u) (pair-of d))))))
+    (λ ea. rw (ea, kill) (both-refuse w Einval))
   where
     lengths : length (targets (view t) i z) ≡ length (targets (view u) j z)
     lengths = along-length (Twin (view t) (view u) s r) (targets (view t) i z) (targets (view u) j z) (targets-twins w z)
-
-    go : (a : Bool) → within 0 signals n ≡ a → (b : Bool) → names-group z ≡ b → (c : Bool) → eqb (length (targets (view t) i z)) 0 ≡ c → Kept t u s r (kill t i z n) (kill u j z n)
-    go false ea b eb c ec = rw (ea, kill) (both-refuse w Einval)
-    go true ea true eb c ec = rw (ea, eb, kill) (both-refuse w Enosys)
-    go true ea false eb true ec = rw (ea, eb, ec, sym (ap (λ x. eqb x 0) lengths) ∙ ec, kill) (both-refuse w Esrch)
-    go true ea false eb false ec =
-        let d = kill-after w z (natural n) (natural-low n ea) in
-        rw (ea, eb, ec, sym (ap (λ x. eqb x 0) lengths) ∙ ec, kill)
-        (inr (refl, freed-alike t u (d .sane-t) (d .sane-u) (pair-of d)))

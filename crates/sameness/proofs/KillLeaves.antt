@@ -14,6 +14,7 @@ use Rattle.rules.proofs.Laws.Facts.{Facts, facts, Sane, sane, lives-taken}
 use Rattle.rules.proofs.Laws.Lists.{some-of-false}
 use Rattle.rules.proofs.Laws.Slots.{own-taken, living-own-alive}
 use Rattle.rules.proofs.Laws.Tests.{isnt-so, both, or-false-left, or-false-right}
+use Rattle.sameness.proofs.Cases.{by-test}
 use Rattle.sameness.proofs.EndLeaves.{end-still, end-dies, end-back, freed-back, lives-on, not-own}
 use Rattle.sameness.proofs.EndSame.{ended-end}
 use Rattle.sameness.proofs.Freeing.{freed-leaves}
@@ -140,17 +141,15 @@ module _ (from n : ℕ) (low : n < signals) where
   -- a target outside S, or one that has ended
   deliver-going : {t₀ t : Table} {s : ℕ} (x : ℕ) → (x ≡ 0 → from ≡ 0) → Going t₀ t s → seen (view t₀) s x and living (view t₀) x ≡ false → Above t₀ s (deliver t from x n) → Going t₀ (deliver t from x n) s
   unfolding deliver
-  deliver-going {t₀} {t} {s} x safe g o h = go (living (view t) x) refl
+  deliver-going {t₀} {t} {s} x safe g o h =
+      by-test (living (view t) x)
+      (λ l. applied x n g (isnt-so (λ k. false≢true (sym o ∙ both _ _ (sym (g .seens x) ∙ k) (lived l (living (view t₀) x) refl)))) l (action-on (view t) from x n)
+      (deliver-sane t (g .sane-now) x n low from safe) h)
+      (λ l. subst (λ u. Going t₀ u s) (sym (deliver-nothing t from x n l)) g)
     where
       lived : So (living (view t) x) → (b : Bool) → living (view t₀) x ≡ b → So (living (view t₀) x)
       lived l true q = q
       lived l false q = absurd (false≢true (sym (g .ended x q) ∙ l))
-
-      go : (b : Bool) → living (view t) x ≡ b → Going t₀ (deliver t from x n) s
-      go true l =
-          applied x n g (isnt-so (λ k. false≢true (sym o ∙ both _ _ (sym (g .seens x) ∙ k) (lived l (living (view t₀) x) refl)))) l (action-on (view t) from x n)
-          (deliver-sane t (g .sane-now) x n low from safe) h
-      go false l = subst (λ u. Going t₀ u s) (sym (deliver-nothing t from x n l)) g
 
   all-going : (xs : List ℕ) {t₀ t : Table} {s : ℕ} → Safe from xs → Going t₀ t s → some-of (λ i. is-inside t₀ (at s) i and living (view t₀) i) xs ≡ false → Above t₀ s (deliver-all t from xs n) → Going t₀ (deliver-all t from xs n) s
   unfolding deliver-all is-inside
@@ -174,7 +173,15 @@ sent false b e h = h
 -- kill by an outsider
 pub kill-leaves : (z n : ℤ) → MadeLeaves (Kill z n)
 unfolding MadeLeaves make kill answers granted refused is-refused touched signals-into
-kill-leaves z n t s i h hs k a g = go (within 0 signals n) refl (names-group z) refl (eqb (length (targets (view t) i z)) 0) refl g
+kill-leaves z n t s i h hs k a g =
+    by-test (within 0 signals n)
+    (λ ea. by-test (names-group z)
+    (λ eb. rw (ea, eb, kill) (as-it-was t s hs))
+    (λ eb. by-test (eqb (length (targets (view t) i z)) 0)
+    (λ ec. rw (ea, eb, ec, kill) (as-it-was t s hs))
+    (λ ec. rw (ea, eb, ec, kill)
+    (done (natural-low n ea) (untouched-made s i (Kill z n) h k a (answers (freed t₁) 0) (rw (ea, eb, ec, kill) refl) refl) (rw (ea, eb, ec, kill) at g) (eqb (natural n) 0) refl))))
+    (λ ea. rw (ea, kill) (as-it-was t s hs))
   where
     xs : List ℕ
     xs = targets (view t) i z
@@ -194,11 +201,3 @@ kill-leaves z n t s i h hs k a g = go (within 0 signals n) refl (names-group z) 
         w =
             all-going (view t .own i) (natural n) low xs (targets-safe (view t) (facts t h) i z) (start (sane t h) hs) (sent (eqb (natural n) 0) (some-of (λ j. is-inside t (at s) j and living (view t) j) xs) e (or-false-left _ _ o))
             (λ m l c b d y. lives-on t (freed t₁) s (or-false-right _ _ o) m l c b d (isnt-so (λ v. false≢true (sym y ∙ freed-back (deliver-all-sane t (sane t h) (view t .own i) (natural n) low xs (targets-safe (view t) (facts t h) i z)) m v))))
-
-    go : (x : Bool) → within 0 signals n ≡ x → (y : Bool) → names-group z ≡ y → (b : Bool) → eqb (length (targets (view t) i z)) 0 ≡ b → SoundTable (kill t i z n .table) → sheet-of (kill t i z n .table) (follow t (kill t i z n .table) (at s)) ≡ sheet (view t) s
-    go false ea y eb b ec g = rw (ea, kill) (as-it-was t s hs)
-    go true ea true eb b ec g = rw (ea, eb, kill) (as-it-was t s hs)
-    go true ea false eb true ec g = rw (ea, eb, ec, kill) (as-it-was t s hs)
-    go true ea false eb false ec g =
-        rw (ea, eb, ec, kill)
-        (done (natural-low n ea) (untouched-made s i (Kill z n) h k a (answers (freed t₁) 0) (rw (ea, eb, ec, kill) refl) refl) (rw (ea, eb, ec, kill) at g) (eqb (natural n) 0) refl)

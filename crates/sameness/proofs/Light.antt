@@ -10,6 +10,7 @@ use lib.ListN.{getD, set}
 use lib.Seq.{getD-set-same, getD-set-other}
 use Rattle.rules.proofs.Keeps.Changed.{process-count}
 use Rattle.rules.proofs.Laws.Facts.{Facts, seen-taken}
+use Rattle.sameness.proofs.Cases.{by-equal}
 use Rattle.sameness.proofs.Remain.{Remain, everyone, name-remain, pid-in-remain, same-remain}
 use Rattle.sameness.proofs.Same.{Same}
 use Rattle.sameness.proofs.Twins.{Pair, Twin, flip-pair, flip-twin, twin-rows, twin-unique, taken-v, taken-u}
@@ -85,13 +86,14 @@ shown t u w k =
 
 module _ (t u : Table) {s r c d : ℕ} (w : Pair (view t) (view u) s r) (k : Twin (view t) (view u) s r c d) (gt : So (shaped t)) (gu : So (shaped u)) {p q : Process} (h : Shown t u s r p q) (a : Placed p (process t c)) (b : Placed q (process u d)) where
   shown-put : {i j : ℕ} → Twin (view t) (view u) s r i j → Shown t u s r (process (put t c p) i) (process (put u d q) j)
-  shown-put {i} {j} l = go (ℕ-discrete i c) (ℕ-discrete j d)
-    where
-      go : Dec (i ≡ c) → Dec (j ≡ d) → Shown t u s r (process (put t c p) i) (process (put u d q) j)
-      go (yes e) (yes f) = subst₂ (Shown t u s r) (sym (ap (process (put t c p)) e ∙ put-same t c p (w .facts-v) gt (taken-v k))) (sym (ap (process (put u d q)) f ∙ put-same u d q (w .facts-u) gu (taken-u k))) h
-      go (yes e) (no f) = absurd (f (twin-unique w l k e))
-      go (no e) (yes f) = absurd (e (twin-unique (flip-pair w) (flip-twin l) (flip-twin k) f))
-      go (no e) (no f) = subst₂ (Shown t u s r) (sym (put-other t c p i e)) (sym (put-other u d q j f)) (shown t u w l)
+  shown-put {i} {j} l =
+      by-equal i c
+      (λ e. by-equal j d
+      (λ f. subst₂ (Shown t u s r) (sym (ap (process (put t c p)) e ∙ put-same t c p (w .facts-v) gt (taken-v k))) (sym (ap (process (put u d q)) f ∙ put-same u d q (w .facts-u) gu (taken-u k))) h)
+      (λ f. absurd (f (twin-unique w l k e))))
+      (λ e. by-equal j d
+      (λ f. absurd (e (twin-unique (flip-pair w) (flip-twin l) (flip-twin k) f)))
+      (λ f. subst₂ (Shown t u s r) (sym (put-other t c p i e)) (sym (put-other u d q j f)) (shown t u w l)))
 
   -- the tables stay the same to S
   pub same-put : Same (view (put t c p)) (view (put u d q)) s r

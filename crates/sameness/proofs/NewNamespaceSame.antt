@@ -9,6 +9,7 @@ use Rattle.rules.proofs.Keeps.Changes.{namespace-sane, unshare-sane}
 use Rattle.rules.proofs.Laws.Facts.{Sane, sane, seen-taken, seen-below}
 use Rattle.rules.proofs.Laws.Steps.{runs-lives}
 use Rattle.rules.proofs.Laws.Tests.{or-false-left, or-false-right, or-left}
+use Rattle.sameness.proofs.Cases.{by-test}
 use Rattle.sameness.proofs.Born.{Cradles}
 use Rattle.sameness.proofs.Calls.{both-refuse, owns-twins, own-lives, taken-s, taken-r}
 use Rattle.sameness.proofs.CloneSame.{born-kept, no-room-left, no-room-right, one-up}
@@ -131,7 +132,16 @@ levels-alike w = twins-level (w .pair) (owns-twins w)
 -- unshare by twin callers
 pub unshare-same : MadeSame Unshare
 unfolding MadeSame make unshare answers granted
-unshare-same t u s r c d w h g = go (process t c .unshared) refl (eqb (own-level (view t) c) deepest) refl (eqb (free-namespace-slot (view t)) namespace-slots) refl (eqb (free-namespace-slot (view u)) namespace-slots) refl
+unshare-same t u s r c d w h g =
+    by-test (process t c .unshared) (λ em. rw (em, sym mark ∙ em, unshare) (both-refuse w Einval))
+    (λ em. by-test (eqb (own-level (view t) c) deepest)
+    (λ ea. rw (em, sym mark ∙ em, ea, sym deep ∙ ea, unshare) (both-refuse w Enospc))
+    (λ ea. by-test (eqb (free-namespace-slot (view t)) namespace-slots)
+    (λ eb. rw (em, ea, eb, unshare) (no-room-left t u s r (unshare u d)))
+    (λ eb. by-test (eqb (free-namespace-slot (view u)) namespace-slots)
+    (λ eb′. rw (sym mark ∙ em, sym deep ∙ ea, eb′, unshare) (no-room-right t u s r (unshare t c)))
+    (λ eb′. rw (em, sym mark ∙ em, ea, sym deep ∙ ea, eb, eb′, unshare)
+    (unshared-kept w (eqb-false _ _ ea) (eqb-false _ _ (sym deep ∙ ea)) (eqb-false _ _ eb) (eqb-false _ _ eb′))))))
   where
     mark : process t c .unshared ≡ process u d .unshared
     mark = shown t u (w .pair) (w .twin) .marks
@@ -139,27 +149,17 @@ unshare-same t u s r c d w h g = go (process t c .unshared) refl (eqb (own-level
     deep : eqb (own-level (view t) c) deepest ≡ eqb (own-level (view u) d) deepest
     deep = ap (λ n. eqb n deepest) (levels-alike w)
 
-    go : (m : Bool) → process t c .unshared ≡ m → (a : Bool) → eqb (own-level (view t) c) deepest ≡ a → (b : Bool) → eqb (free-namespace-slot (view t)) namespace-slots ≡ b → (b′ : Bool) → eqb (free-namespace-slot (view u)) namespace-slots ≡ b′ → Kept t u s r (unshare t c) (unshare u d)
-    go true em a ea b eb b′ eb′ = rw (em, sym mark ∙ em, unshare) (both-refuse w Einval)
-    go false em true ea b eb b′ eb′ = rw (em, sym mark ∙ em, ea, sym deep ∙ ea, unshare) (both-refuse w Enospc)
-    go false em false ea true eb b′ eb′ = rw (em, ea, eb, unshare) (no-room-left t u s r (unshare u d))
-    go false em false ea false eb true eb′ = rw (sym mark ∙ em, sym deep ∙ ea, eb′, unshare) (no-room-right t u s r (unshare t c))
-    go false em false ea false eb false eb′ =
-        rw (em, sym mark ∙ em, ea, sym deep ∙ ea, eb, eb′, unshare)
-        (unshared-kept w (eqb-false _ _ ea) (eqb-false _ _ (sym deep ∙ ea)) (eqb-false _ _ eb) (eqb-false _ _ eb′))
-
 -- clone new by twin callers
 pub clone-new-same : MadeSame CloneNew
 unfolding MadeSame make clone-new
-clone-new-same t u s r c d w h g = go (eqb (own-level (view t) c) deepest) refl (eqb (free-slot (view t)) process-slots or eqb (free-namespace-slot (view t)) namespace-slots) refl (eqb (free-slot (view u)) process-slots or eqb (free-namespace-slot (view u)) namespace-slots) refl
+clone-new-same t u s r c d w h g =
+    by-test (eqb (own-level (view t) c) deepest) (λ ea. rw (ea, sym deep ∙ ea, clone-new) (both-refuse w Enospc))
+    (λ ea. by-test (eqb (free-slot (view t)) process-slots or eqb (free-namespace-slot (view t)) namespace-slots)
+    (λ eb. rw (ea, eb, clone-new) (no-room-left t u s r (clone-new u d)))
+    (λ eb. by-test (eqb (free-slot (view u)) process-slots or eqb (free-namespace-slot (view u)) namespace-slots)
+    (λ eb′. rw (sym deep ∙ ea, eb′, clone-new) (no-room-right t u s r (clone-new t c)))
+    (λ eb′. rw (ea, sym deep ∙ ea, eb, eb′, clone-new)
+    (cloned-kept w (eqb-false _ _ ea) (eqb-false _ _ (sym deep ∙ ea)) (eqb-false _ _ (or-false-right _ _ eb)) (eqb-false _ _ (or-false-right _ _ eb′)) (eqb-false _ _ (or-false-left _ _ eb)) (eqb-false _ _ (or-false-left _ _ eb′)) (rw (ea, eb, clone-new) at h) (rw (sym deep ∙ ea, eb′, clone-new) at g)))))
   where
     deep : eqb (own-level (view t) c) deepest ≡ eqb (own-level (view u) d) deepest
     deep = ap (λ n. eqb n deepest) (levels-alike w)
-
-    go : (a : Bool) → eqb (own-level (view t) c) deepest ≡ a → (b : Bool) → eqb (free-slot (view t)) process-slots or eqb (free-namespace-slot (view t)) namespace-slots ≡ b → (b′ : Bool) → eqb (free-slot (view u)) process-slots or eqb (free-namespace-slot (view u)) namespace-slots ≡ b′ → Kept t u s r (clone-new t c) (clone-new u d)
-    go true ea b eb b′ eb′ = rw (ea, sym deep ∙ ea, clone-new) (both-refuse w Enospc)
-    go false ea true eb b′ eb′ = rw (ea, eb, clone-new) (no-room-left t u s r (clone-new u d))
-    go false ea false eb true eb′ = rw (sym deep ∙ ea, eb′, clone-new) (no-room-right t u s r (clone-new t c))
-    go false ea false eb false eb′ =
-        rw (ea, sym deep ∙ ea, eb, eb′, clone-new)
-        (cloned-kept w (eqb-false _ _ ea) (eqb-false _ _ (sym deep ∙ ea)) (eqb-false _ _ (or-false-right _ _ eb)) (eqb-false _ _ (or-false-right _ _ eb′)) (eqb-false _ _ (or-false-left _ _ eb)) (eqb-false _ _ (or-false-left _ _ eb′)) (rw (ea, eb, clone-new) at h) (rw (sym deep ∙ ea, eb′, clone-new) at g))

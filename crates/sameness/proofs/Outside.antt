@@ -7,6 +7,7 @@ use lib.IntN.{ℤ}
 use Rattle.rules.proofs.Laws.Facts.{facts}
 use Rattle.rules.proofs.Laws.Steps.{step-made}
 use Rattle.rules.proofs.Laws.Tests.{left, isnt, right}
+use Rattle.sameness.proofs.Cases.{by-test}
 use Rattle.sameness.proofs.Inside.{follow-self}
 use Rattle.sameness.proofs.Same.{Same, sheets-of-same}
 use Rattle.sameness.proofs.Still.{same-still, put-still}
@@ -77,17 +78,14 @@ getppid-leaves t s i h hs k a g = as-it-was t s hs
 -- handle, and poll
 pub handle-leaves : (z : ℤ) (on : Bool) → MadeLeaves (Handle z on)
 unfolding MadeLeaves make handle handle-on handle-off answers granted refused
-handle-leaves z on t s i h hs k a g = go (not (within 1 signals z) or eqb (natural z) sigkill or eqb (natural z) sigstop) refl on refl
-  where
-    go : (b : Bool) → not (within 1 signals z) or eqb (natural z) sigkill or eqb (natural z) sigstop ≡ b → (o : Bool) → on ≡ o → sheet-of (handle t i z on .table) (follow t (handle t i z on .table) (at s)) ≡ sheet (view t) s
-    go true e o q = rw (e, handle) (as-it-was t s hs)
-    go false e true q = rw (e, q, handle) (signals-leave s i _ _ h (rw (e, q, handle) at g) hs (outsider t s i (Handle z on) a))
-    go false e false q = rw (e, q, handle) (signals-leave s i _ _ h (rw (e, q, handle) at g) hs (outsider t s i (Handle z on) a))
+handle-leaves z on t s i h hs k a g =
+    by-test (not (within 1 signals z) or eqb (natural z) sigkill or eqb (natural z) sigstop) (λ e. rw (e, handle) (as-it-was t s hs))
+    (λ e. by-test on
+    (λ q. rw (e, q, handle) (signals-leave s i _ _ h (rw (e, q, handle) at g) hs (outsider t s i (Handle z on) a)))
+    (λ q. rw (e, q, handle) (signals-leave s i _ _ h (rw (e, q, handle) at g) hs (outsider t s i (Handle z on) a))))
 
 pub poll-leaves : MadeLeaves Poll
 unfolding MadeLeaves make poll answers granted
-poll-leaves t s i h hs k a g = go (eqb (lowest-signal (process t i .pending)) signals) refl
-  where
-    go : (b : Bool) → eqb (lowest-signal (process t i .pending)) signals ≡ b → sheet-of (poll t i .table) (follow t (poll t i .table) (at s)) ≡ sheet (view t) s
-    go true e = rw (e, poll) (as-it-was t s hs)
-    go false e = rw (e, poll) (signals-leave s i _ _ h (rw (e, poll) at g) hs (outsider t s i Poll a))
+poll-leaves t s i h hs k a g =
+    by-test (eqb (lowest-signal (process t i .pending)) signals) (λ e. rw (e, poll) (as-it-was t s hs))
+    (λ e. rw (e, poll) (signals-leave s i _ _ h (rw (e, poll) at g) hs (outsider t s i Poll a)))

@@ -7,6 +7,7 @@ use lib.Dec.{eqb}
 use Rattle.rules.proofs.Laws.Below.{up-level}
 use Rattle.rules.proofs.Laws.Facts.{Facts, seen-taken}
 use Rattle.rules.proofs.Laws.Tests.{and-false, choose}
+use Rattle.sameness.proofs.Cases.{by-test}
 use Rattle.sameness.proofs.Anchor.{anchor}
 use Rattle.sameness.proofs.Same.{Same}
 use Rattle.sameness.proofs.Twins.{Pair, Twin, flip-pair, flip-twin, twin-rows, twin-there, taken-v, taken-u}
@@ -89,14 +90,12 @@ module _ {v v′ : View} {K Q : ℕ → Bool} (f : Facts v) (w : Places v v′ K
   -- who remains is seen as before
   pub seen-remain : (n i : ℕ) → So (Q i) → seen v′ n i ≡ seen v n i
   unfolding seen taken
-  seen-remain n i h = go (taken v i) refl
+  seen-remain n i h =
+      by-test (taken v i) (λ e. ap₂ _and_ kept (ap (λ x. below v′ x n) (w .owns i h) ∙ below-stays f (w .tree) (v .own i) n (w .own-kept i h e)))
+      (λ e. rw (kept ∙ e, e) (and-false (below v′ (v′ .own i) n) ∙ sym (and-false (below v (v .own i) n))))
     where
       kept : taken v′ i ≡ taken v i
       kept = ap (λ x. not (eqb x 0)) (w .pids i 0 h)
-
-      go : (b : Bool) → taken v i ≡ b → taken v′ i and below v′ (v′ .own i) n ≡ taken v i and below v (v .own i) n
-      go true e = ap₂ _and_ kept (ap (λ x. below v′ x n) (w .owns i h) ∙ below-stays f (w .tree) (v .own i) n (w .own-kept i h e))
-      go false e = rw (kept ∙ e, e) (and-false (below v′ (v′ .own i) n) ∙ sym (and-false (below v (v .own i) n)))
 
   pub seen-gone : (n i : ℕ) → Q i ≡ false → seen v′ n i ≡ false
   unfolding seen

@@ -12,6 +12,7 @@ use Rattle.rules.proofs.Laws.Facts.{facts}
 use Rattle.rules.proofs.Laws.Find.{named-seen}
 use Rattle.rules.proofs.Laws.Steps.{runs-lives}
 use Rattle.rules.proofs.Laws.Tests.{or-false-left}
+use Rattle.sameness.proofs.Cases.{by-test}
 use Rattle.sameness.proofs.Calls.{both-refuse, owns-twins}
 use Rattle.sameness.proofs.Light.{shown, same-put}
 use Rattle.sameness.proofs.Freeing.{freed-alike, freed-leaves}
@@ -91,11 +92,8 @@ setns-same z t u s r i j w h g = go (named-twins w z)
 -- by an outsider
 pub setns-leaves : (z : ℤ) → MadeLeaves (Setns z)
 unfolding MadeLeaves make setns set-children answers granted refused namespace-taken
-setns-leaves z t s i h hs k a g = go (eqb (named (view t) i z) process-slots or view t .ended (named (view t) i z)) refl
-  where
-    go : (b : Bool) → eqb (named (view t) i z) process-slots or view t .ended (named (view t) i z) ≡ b → sheet-of (setns t i z .table) (follow t (setns t i z .table) (at s)) ≡ sheet (view t) s
-    go true e = rw (e, setns) (as-it-was t s hs)
-    go false e =
-        rw (e, setns)
-        (freed-leaves h (setns-sane t h i _ (process t i .unshared) (runs-lives t i k) (named-seen (view t) i z (eqb-false _ _ (or-false-left _ _ e)))) hs hs
-        (same-still (facts t h) (put-still t (facts t h) i (with-children (process t i) (view t .own (named (view t) i z)) (process t i .unshared)) (refl, refl, refl) s (outsider t s i (Setns z) a))))
+setns-leaves z t s i h hs k a g =
+    by-test (eqb (named (view t) i z) process-slots or view t .ended (named (view t) i z)) (λ e. rw (e, setns) (as-it-was t s hs))
+    (λ e. rw (e, setns)
+    (freed-leaves h (setns-sane t h i _ (process t i .unshared) (runs-lives t i k) (named-seen (view t) i z (eqb-false _ _ (or-false-left _ _ e)))) hs hs
+    (same-still (facts t h) (put-still t (facts t h) i (with-children (process t i) (view t .own (named (view t) i z)) (process t i .unshared)) (refl, refl, refl) s (outsider t s i (Setns z) a)))))

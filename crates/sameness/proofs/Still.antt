@@ -11,6 +11,7 @@ use Rattle.rules.proofs.Laws.Facts.{Facts, seen-taken, seen-below}
 use Rattle.rules.proofs.Laws.Slots.{below-parent, below-same}
 use Rattle.rules.proofs.Laws.Tests.{both, cases, or-left, or-right}
 use Rattle.rules.proofs.Laws.Tree.{below-refl}
+use Rattle.sameness.proofs.Cases.{by-test}
 use Rattle.sameness.proofs.Anchor.{up-below, name-no-slot}
 use Rattle.sameness.proofs.Light.{Placed, put-other, put-remain}
 use Rattle.sameness.proofs.Readers.{children-below}
@@ -46,14 +47,12 @@ module _ {v : View} (f : Facts v) (s : ℕ) where
 
   near-children : (i : ℕ) → So (seen v s i) → So (near v s (v .children i)) ⊎ (v .children i ≡ no-slot)
   unfolding living
-  near-children i h = go (v .ended i) refl
+  near-children i h =
+      by-test (v .ended i) (λ e. inr (f .ended-bare i ti e .0 .0 .0))
+      (λ e. inl (or-left _ _ (below-trans v f _ _ s (children-below f i (both _ _ ti (ap not e))) (seen-below v s i h))))
     where
       ti : So (taken v i)
       ti = seen-taken v s i h
-
-      go : (b : Bool) → v .ended i ≡ b → So (near v s (v .children i)) ⊎ (v .children i ≡ no-slot)
-      go true e = inr (f .ended-bare i ti e .0 .0 .0)
-      go false e = inl (or-left _ _ (below-trans v f _ _ s (children-below f i (both _ _ ti (ap not e))) (seen-below v s i h)))
 
 -- ---- all of it stays
 
@@ -89,11 +88,9 @@ module _ {v v′ : View} {s : ℕ} (f : Facts v) (w : Still v v′ s) where
 
   pub pid-in-still : (i : ℕ) → pid-in v′ s i ≡ pid-in v s i
   unfolding pid-in pid-seen
-  pid-in-still i = go (seen v s i) refl
-    where
-      go : (b : Bool) → seen v s i ≡ b → (if seen v′ s i then v′ .pid i (v′ .level s) else 0) ≡ (if seen v s i then v .pid i (v .level s) else 0)
-      go true k = λ z. if w .seens i z then (ap (v′ .pid i) level ∙ w .pids i (v .level s) k) z else 0
-      go false k = rw (w .seens i ∙ k, k)
+  pid-in-still i =
+      by-test (seen v s i) (λ k. λ z. if w .seens i z then (ap (v′ .pid i) level ∙ w .pids i (v .level s) k) z else 0)
+      (λ k. rw (w .seens i ∙ k, k))
 
   name-still : (n : ℕ) → So (near v s n) → name v′ s n ≡ name v s n
   name-still = name-stays f tree (w .lives) s (λ m k. pid-in-still (init v m))

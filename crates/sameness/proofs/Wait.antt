@@ -16,6 +16,7 @@ use Rattle.rules.proofs.Laws.Facts.{Facts, seen-taken, facts, sane}
 use Rattle.rules.proofs.Laws.Slots.{init-living, parent-living, child-seen}
 use Rattle.rules.proofs.Laws.Tests.{no-so, zero-or, right, isnt, and-false, true-and, true-or, false-or-true, false-or-false, true-and-false, isnt-not, left, both, any-elim, any-intro, isnt-so, bool-ext}
 use Rattle.rules.proofs.Laws.Tree.{below-refl}
+use Rattle.sameness.proofs.Cases.{by-test}
 use Rattle.sameness.proofs.Anchor.{init-or-none}
 use Rattle.sameness.proofs.Calls.{both-refuse, both-tell, owns-twins}
 use Rattle.sameness.proofs.Light.{shown}
@@ -254,7 +255,9 @@ reap-kept {t} {u} {s} {r} w {x} {y} k ex ey (Ended e) z =
 -- wait by twin callers
 pub wait-same : MadeSame Wait
 unfolding MadeSame make wait reap
-wait-same t u s r c d w h g = go (any process-slots (child-of (view t) c)) refl
+wait-same t u s r c d w h g =
+    by-test (any process-slots (child-of (view t) c)) (λ e. some-child e (first-twins w))
+    (λ e. rw (e, sym (any-same w) ∙ e, wait) (both-refuse w Echild))
   where
     x : ℕ
     x = first-ended (view t) c
@@ -269,10 +272,6 @@ wait-same t u s r c d w h g = go (any process-slots (child-of (view t) c)) refl
         let q = shown t u (w .pair) k .states in
         rw (e, sym (any-same w) ∙ e, ← q, wait)
         (reap-kept w k ex ey (view t .state x) ex)
-
-    go : (b : Bool) → any process-slots (child-of (view t) c) ≡ b → Kept t u s r (wait t c) (wait u d)
-    go true e = some-child e (first-twins w)
-    go false e = rw (e, sym (any-same w) ∙ e, wait) (both-refuse w Echild)
 
 -- ---- wait by an outsider that removes nobody of S
 
