@@ -73,8 +73,7 @@ not-init {v} f i h a = ne-eqb (init v (v .own i)) i (λ e. omega (arith, f .in-r
 
 -- an unborn namespace lies below a living one if its parent does
 unborn-below : {v : View} (f : Facts v) (n o : ℕ) → So (unborn v n) → v .level n ≡ suc (v .level (v .up n)) → So (alive v o) → below v n o ≡ below v (v .up n) o
-unborn-below {v} f n o h e a =
-    bool-ext _ _ (λ b. below-parent v f n o b (deeper b)) (λ b. below-trans v f n (v .up n) o (up-below f n _ e) b)
+unborn-below {v} f n o h e a = bool-ext _ _ (λ b. below-parent v f n o b (deeper b)) (λ b. below-trans v f n (v .up n) o (up-below f n _ e) b)
   where
     deeper : So (below v n o) → v .level o < v .level n
     deeper b = lt-of (below-level v f n o b) (λ q. false≢true (sym (alive-not-unborn (v .life o) a) ∙ ap (unborn v) (sym (below-same v f n o b q)) ∙ h))
@@ -235,11 +234,7 @@ module _ {v u : View} {s r : ℕ} (w : Pair v u s r) {c d : ℕ} {n m k l : ℕ}
   -- each row stands as it stood, and the children's rows are the same
   pub birth-same : Same v′ u′ s r
   birth-same =
-      record {
-        levels = w .same .levels;
-        there = λ i h. there-case i h (ℕ-discrete i k);
-        back = λ j h. back-case j h (ℕ-discrete j l);
-      }
+      record { levels = w .same .levels; there = λ i h. there-case i h (ℕ-discrete i k); back = λ j h. back-case j h (ℕ-discrete j l) }
     where
       there-case : (i : ℕ) → So (seen v′ s i) → Dec (i ≡ k) → (j : ℕ) × So (seen u′ r j) × (row v′ s i ≡ row u′ r j)
       there-case i h (yes e) = (l, child-seen b d r bm, ap (row v′ s) e ∙ new-rows)

@@ -101,8 +101,7 @@ runs-alive {t} s i h k a =
 
 runs-same : {t u : Table} (s r i j : ℕ) → SoundTable t → SoundTable u → So (seen (view t) s i) → So (seen (view u) r j) → row (view t) s i ≡ row (view u) r j → runs (view t) i ≡ runs (view u) j
 unfolding runs row
-runs-same {t} {u} s r i j h g a b e =
-    rw (seen-taken (view t) s i a, seen-taken (view u) r j b) (ap (λ (q : Row). true and is-running (q .state)) e)
+runs-same {t} {u} s r i j h g a b e = rw (seen-taken (view t) s i a, seen-taken (view u) r j b) (ap (λ (q : Row). true and is-running (q .state)) e)
 
 inside-same : InsideSame
 unfolding MadeSame

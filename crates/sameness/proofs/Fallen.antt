@@ -102,8 +102,7 @@ module _ {v : View} (f : Facts v) (x : ℕ) (e : End) where
     near-in : (k n : ℕ) → v .level n ≡ k → So (below v n (v .own x)) → nearest (fallen v x e .life) (v .up) k n ≡ v .up (v .own x)
     unfolding nearest
     near-in zero n q h = absurd (omega (arith, below-level v f n (v .own x) h))
-    near-in (suc k) n q h =
-        rw (h, nearest) (go (ℕ-discrete (v .level n) (v .level (v .own x))) (λ b. near-in k (v .up n) (up-level v f n k q) b))
+    near-in (suc k) n q h = rw (h, nearest) (go (ℕ-discrete (v .level n) (v .level (v .own x))) (λ b. near-in k (v .up n) (up-level v f n k q) b))
       where
         go : Dec (v .level n ≡ v .level (v .own x)) → (So (below v (v .up n) (v .own x)) → nearest (fallen v x e .life) (v .up) k (v .up n) ≡ v .up (v .own x)) → nearest (fallen v x e .life) (v .up) k (v .up n) ≡ v .up (v .own x)
         go (yes q) r =

@@ -194,8 +194,7 @@ kill-leaves z n t s i h hs k a g =
         let q = all-zero xs t (view t .own i) (natural n) e in
         let w = start (sane t h) hs in
         subst (λ y. sheet-of (freed y) (follow t (freed y) (at s)) ≡ sheet (view t) s) (sym q) (freed-leaves h (sane t h) hs hs (w .same))
-    done low o g false e =
-        freed-leaves h (w .sane-now) hs (w .stands) (w .same)
+    done low o g false e = freed-leaves h (w .sane-now) hs (w .stands) (w .same)
       where
         w : Going t t₁ s
         w =

@@ -74,7 +74,7 @@ module _ {v u : View} {s r : ℕ} (w : Pair v u s r) where
   pub child-twins : {i j c d : ℕ} → Twin v u s r i j → Twin v u s r c d → child-of v c i ≡ child-of u d j
   unfolding child-of
   child-twins {i} {j} {c} {d} k l =
-      ap₂ _and_ (taken-v k ∙ sym (taken-u k)) 
+      ap₂ _and_ (taken-v k ∙ sym (taken-u k))
       (by-test (seen v s (v .parent i)) (λ e. twin-eqb (parent-twin w k e) l)
       (λ e. other v s c _ (l .seen-v) e ∙ sym (other u r d _ (l .seen-u) (sym (parent-seen w k) ∙ e))))
     where

@@ -60,11 +60,7 @@ one-way {v} u s r h e i k =
 pub same-of-sheets : {v u : View} {s r : ℕ} → Facts v → Facts u → sheet v s ≡ sheet u r → Same v u s r
 unfolding sheet
 same-of-sheets {v} {u} {s} {r} h g e =
-    record {
-      levels = ap (λ x. x .level) e;
-      there = one-way u s r h e;
-      back = λ j k. let (i, m, q) = one-way v r s g (sym e) j k in (i, m, sym q);
-    }
+    record { levels = ap (λ x. x .level) e; there = one-way u s r h e; back = λ j k. let (i, m, q) = one-way v r s g (sym e) j k in (i, m, sym q) }
 
 -- and back
 rows-sorted : {v : View} (s : ℕ) → Facts v → So (namespace-taken v s) → Sorted key (map (row v s) (all-seen v s))

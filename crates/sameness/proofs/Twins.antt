@@ -46,15 +46,13 @@ flip-same w =
     record { levels = sym (w .levels); there = λ j k. let (i, m, q) = w .back j k in (i, m, sym q); back = λ i k. let (j, m, q) = w .there i k in (j, m, sym q) }
 
 pub flip-pair : {v u : View} {s r : ℕ} → Pair v u s r → Pair u v r s
-flip-pair w =
-    record { facts-v = w .facts-u; facts-u = w .facts-v; alive-v = w .alive-u; alive-u = w .alive-v; same = flip-same (w .same) }
+flip-pair w = record { facts-v = w .facts-u; facts-u = w .facts-v; alive-v = w .alive-u; alive-u = w .alive-v; same = flip-same (w .same) }
 
 pub flip-twin : {v u : View} {s r i j : ℕ} → Twin v u s r i j → Twin u v r s j i
 flip-twin w = record { seen-v = w .seen-u; seen-u = w .seen-v; pids = sym (w .pids) }
 
 pub flip-twins : {v u : View} {s r n m : ℕ} → Twins v u s r n m → Twins u v r s m n
-flip-twins w =
-    record { lives-v = w .lives-u; lives-u = w .lives-v; below-v = w .below-u; below-u = w .below-v; inits = sym (w .inits) }
+flip-twins w = record { lives-v = w .lives-u; lives-u = w .lives-v; below-v = w .below-u; below-u = w .below-v; inits = sym (w .inits) }
 
 pub pid-in-seen : (v : View) (n i : ℕ) → So (seen v n i) → pid-in v n i ≡ pid-seen v n i
 unfolding pid-in
@@ -261,8 +259,7 @@ below-there {v} {u} {s} w {a} {b} {n} {m} j k h =
 module _ {v u : View} {s r : ℕ} (w : Pair v u s r) where
   -- "below" is the same
   pub below-twins : {a b n m : ℕ} → Twins v u s r a b → Twins v u s r n m → below v a n ≡ below u b m
-  below-twins j k =
-      bool-ext _ _ (below-there w j k) (below-there (flip-pair w) (flip-twins j) (flip-twins k))
+  below-twins j k = bool-ext _ _ (below-there w j k) (below-there (flip-pair w) (flip-twins j) (flip-twins k))
 
   -- to lie below a living namespace is to have one's nearest living namespace there
   pub below-named : {n m top end : ℕ} → Namesakes v u s r n m → Twins v u s r top end → below v n top ≡ below u m end

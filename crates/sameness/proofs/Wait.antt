@@ -266,8 +266,7 @@ wait-same t u s r c d w h g =
     y = first-ended (view u) d
 
     some-child : any process-slots (child-of (view t) c) ≡ true → First w x y → Kept t u s r (wait t c) (wait u d)
-    some-child e (inl (a, b)) =
-        rw (e, sym (any-same w) ∙ e, no-state (w .sound-t) x a, no-state (w .sound-u) y b, wait) (both-tell w 0 0 refl)
+    some-child e (inl (a, b)) = rw (e, sym (any-same w) ∙ e, no-state (w .sound-t) x a, no-state (w .sound-u) y b, wait) (both-tell w 0 0 refl)
     some-child e (inr (k, ex, ey)) =
         let q = shown t u (w .pair) k .states in
         rw (e, sym (any-same w) ∙ e, ← q, wait)

@@ -46,8 +46,7 @@ lone-init =
 
 -- the same inside calls, with other calls between
 abbrev some-calls : List Event
-some-calls =
-    inside 1 Clone ∷ outside 0 Clone ∷ inside 2 Getppid ∷ inside 1 (Kill (pos 2) (pos 9)) ∷ inside 1 Wait ∷ inside 7 Getpid ∷ []
+some-calls = inside 1 Clone ∷ outside 0 Clone ∷ inside 2 Getppid ∷ inside 1 (Kill (pos 2) (pos 9)) ∷ inside 1 Wait ∷ inside 7 Getpid ∷ []
 
 abbrev other-calls : List Event
 other-calls =
