@@ -96,17 +96,11 @@ clone-leaves t s i h hs k a g = go (dead (view t) (view t .children i)) refl (eq
     go true ea b eb g = rw (ea, clone) (as-it-was t s hs)
     go false ea true eb g = rw (ea, eb, clone) (as-it-was t s hs)
     go false ea false eb g =
+        let n = view t .children i in
+        let tn = children-taken (facts t h) i (runs-lives t i k) in
+        let o = untouched-made s i Clone h k a (born t i (birth t i n)) (rw (ea, eb, clone) refl) refl in
         rw (ea, eb, clone)
         (stands-leaves h (rw (ea, eb, clone) at g) hs (birth-stands (sane t h) i n tn (eqb-false _ _ eb) s o hs) (birth-same (sane t h) i n tn (eqb-false _ _ eb) s o))
-      where
-        n : ℕ
-        n = view t .children i
-
-        tn : So (namespace-taken (view t) n)
-        tn = children-taken (facts t h) i (runs-lives t i k)
-
-        o : below (view t) n s ≡ false
-        o = untouched-made s i Clone h k a (born t i (birth t i n)) (rw (ea, eb, clone) refl) refl
 
 -- ---- a fresh namespace
 
@@ -119,36 +113,22 @@ clone-new-leaves t s i h hs k a g = go (eqb (own-level (view t) i) deepest) refl
     go true ea b eb g = rw (ea, clone-new) (as-it-was t s hs)
     go false ea true eb g = rw (ea, eb, clone-new) (as-it-was t s hs)
     go false ea false eb g =
+        let x = free-namespace-slot (view t) in
+        let room : free-namespace-slot (view t) ≡ namespace-slots → ⊥ = eqb-false _ _ (or-false-right _ _ eb) in
+        let still = new-still (sane t h) i room s hs in
+        let li = runs-lives t i k in
+        let f₁ = namespace-sane t (sane t h) i li (eqb-false _ _ ea) room in
+        let tx = new-taken (sane t h) i room in
+        let o = new-outside (sane t h) i room s hs (lives-taken (view t) i li) (f₁ .facts) (outsider t s i CloneNew a) in
         rw (ea, eb, clone-new)
         (stands-leaves h (rw (ea, eb, clone-new) at g) hs (birth-stands f₁ i x tx room₁ s o (stands-still (facts t h) still hs))
         (same-trans (birth-same f₁ i x tx room₁ s o) (same-still (facts t h) still)))
       where
-        x : ℕ
-        x = free-namespace-slot (view t)
-
         t₁ : Table
         t₁ = new-namespace t i
 
-        room : free-namespace-slot (view t) ≡ namespace-slots → ⊥
-        room = eqb-false _ _ (or-false-right _ _ eb)
-
-        still : Still (view t) (view t₁) s
-        still = new-still (sane t h) i room s hs
-
-        li : So (living (view t) i)
-        li = runs-lives t i k
-
-        f₁ : Sane t₁
-        f₁ = namespace-sane t (sane t h) i li (eqb-false _ _ ea) room
-
-        tx : So (namespace-taken (view t₁) x)
-        tx = new-taken (sane t h) i room
-
         room₁ : free-slot (view t₁) ≡ process-slots → ⊥
         room₁ e = eqb-false _ _ (or-false-left _ _ eb) (sym (same-free t i) ∙ e)
-
-        o : below (view t₁) x s ≡ false
-        o = new-outside (sane t h) i room s hs (lives-taken (view t) i li) (f₁ .facts) (outsider t s i CloneNew a)
 
 -- ---- unshare by an outsider
 
@@ -162,20 +142,12 @@ unshare-leaves t s i h hs k a g = go (process t i .unshared) refl (eqb (own-leve
     go false em true ea b eb = rw (em, ea, unshare) (as-it-was t s hs)
     go false em false ea true eb = rw (em, ea, eb, unshare) (as-it-was t s hs)
     go false em false ea false eb =
+        let room : free-namespace-slot (view t) ≡ namespace-slots → ⊥ = eqb-false _ _ eb in
+        let t₁ = new-namespace t i in
+        let f₁ = namespace-sane t (sane t h) i (runs-lives t i k) (eqb-false _ _ ea) room .facts in
+        let still = new-still (sane t h) i room s hs in
         rw (em, ea, eb, unshare)
         (freed-leaves h (unshare-sane t h i k (eqb-false _ _ ea) room) hs (stands-still (facts t h) still hs)
         (same-trans
         (same-still f₁ (put-still t₁ f₁ i (with-children (process t₁ i) (free-namespace-slot (view t)) true) (refl, refl, refl) s (still .seens i ∙ outsider t s i Unshare a)))
         (same-still (facts t h) still)))
-      where
-        room : free-namespace-slot (view t) ≡ namespace-slots → ⊥
-        room = eqb-false _ _ eb
-
-        t₁ : Table
-        t₁ = new-namespace t i
-
-        f₁ : Facts (view t₁)
-        f₁ = namespace-sane t (sane t h) i (runs-lives t i k) (eqb-false _ _ ea) room .facts
-
-        still : Still (view t) (view t₁) s
-        still = new-still (sane t h) i room s hs

@@ -128,10 +128,9 @@ module _ {v : View} {n k : ℕ} (room : Room v n k) (c : ℕ) where
       either false = refl
 
   pub life-other : (m : ℕ) → So (unborn v m) → (n ≡ m → ⊥) → v′ .life m ≡ v .life m
-  life-other m h o = ap (λ (b : Bool). if b then (if is-unborn (v .life m) then Alive (record { 0 = k }) else v .life m) else v .life m) not-above
-    where
-      not-above : below v n m ≡ false
-      not-above = isnt-so (λ b. o (bottom f n m b h))
+  life-other m h o =
+      let not-above : below v n m ≡ false = isnt-so (λ b. o (bottom f n m b h)) in
+      ap (λ (b : Bool). if b then (if is-unborn (v .life m) then Alive (record { 0 = k }) else v .life m) else v .life m) not-above
 
   pub life-new : So (unborn v n) → v′ .life n ≡ Alive (record { 0 = k })
   life-new h = ap₂ (λ (a b : Bool). if a then (if b then Alive (record { 0 = k }) else v .life n) else v .life n) (below-refl v n) h
@@ -175,10 +174,9 @@ unborn-unseen {v} f n i h k = no-so (own-not-unborn v f i (seen-taken v n i k)) 
 
 unborn-free : {v : View} (f : Facts v) (n k : ℕ) → So (unborn v n) → So (free-pid v n k)
 unfolding free-pid
-unborn-free {v} f n k h = ap not (bool-ext held false (λ a. let (i, l, g) = any-elim _ _ a in absurd (unborn-unseen f n i h (left _ _ g))) (λ a. absurd (false≢true a)))
-  where
-    held : Bool
-    held = any process-slots (λ i. seen v n i and eqb (pid-seen v n i) k)
+unborn-free {v} f n k h =
+    let held = any process-slots (λ i. seen v n i and eqb (pid-seen v n i) k) in
+    ap not (bool-ext held false (λ a. let (i, l, g) = any-elim _ _ a in absurd (unborn-unseen f n i h (left _ _ g))) (λ a. absurd (false≢true a)))
 
 pub next-unborn : {v u : View} (f : Facts v) (g : Facts u) (n m : ℕ) → So (unborn v n) → So (unborn u m) → v .last n ≡ u .last m → next-pid v n ≡ next-pid u m
 unfolding next-pid
@@ -213,6 +211,7 @@ cradle-next {v} {u} {s} {r} w n m l (inl k) a b =
     next-twins w
     (subst (λ x. Twins v u s r (up-by (v .up) (v .level n - l) n) (up-by (u .up) (x - l) m)) (twins-level w k) (twins-up-by w (v .level n - l) k (omega arith)))
 cradle-next {v} {u} w n m l (inr k) a b =
+    let levels : v .level n ≡ u .level m = omega (arith, k .level-v, k .level-u, twins-level w (k .ups)) in
     by-equal l (v .level n)
     (λ e.
     let x : v .level n - l ≡ 0 = omega arith in
@@ -224,6 +223,3 @@ cradle-next {v} {u} w n m l (inr k) a b =
     ap (λ z. next-pid v (up-by (v .up) z n)) x
     ∙ next-twins w (twins-up-by w (v .level (v .up n) - l) (k .ups) (omega arith))
     ∙ sym (ap (λ z. next-pid u (up-by (u .up) z m)) y))
-  where
-    levels : v .level n ≡ u .level m
-    levels = omega (arith, k .level-v, k .level-u, twins-level w (k .ups))

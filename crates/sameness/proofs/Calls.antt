@@ -84,35 +84,27 @@ module _ {t u : Table} {s r i j : ℕ} (w : Ready t u s r i j) where
   signal-kept : (a b a′ b′ k l : ℕ) → a ≡ a′ → b ≡ b′ → k ≡ l → SoundTable (put t i (with-signals (process t i) a b)) → SoundTable (put u j (with-signals (process u j) a′ b′)) → Kept t u s r (answers (put t i (with-signals (process t i) a b)) k) (answers (put u j (with-signals (process u j) a′ b′)) l)
   unfolding namespace-taken
   signal-kept a b a′ b′ k l ea eb e h g =
+      let z = shown t u (w .pair) (w .twin) in
       both-change w k l e h g (taken-s w) (taken-r w)
       (same-put t u (w .pair) (w .twin) (w .sound-t .shape) (w .sound-u .shape) (record { states = z .states; handleds = ea; pendings = eb; marks = z .marks; childrens = z .childrens }) (refl, refl, refl) (refl, refl, refl))
-    where
-      z : Shown t u s r (process t i) (process u j)
-      z = shown t u (w .pair) (w .twin)
 
 -- handle, and poll
 pub handle-same : (z : ℤ) (on : Bool) → MadeSame (Handle z on)
 unfolding MadeSame make handle handle-on handle-off answers granted
 handle-same z on t u s r i j w h g =
+    let y = shown t u (w .pair) (w .twin) in
     by-test (not (within 1 signals z) or eqb (natural z) sigkill or eqb (natural z) sigstop) (λ e. rw (e, handle) (both-refuse w Einval))
     (λ e. by-test on
     (λ q. rw (e, q, handle)
     (signal-kept w _ _ _ _ 0 0 (ap (λ x. with-signal x (natural z)) (y .handleds)) (y .pendings) refl (rw (e, q, handle) at h) (rw (e, q, handle) at g)))
     (λ q. rw (e, q, handle)
     (signal-kept w _ _ _ _ 0 0 (ap (λ x. without-signal x (natural z)) (y .handleds)) (ap (λ x. without-signal x (natural z)) (y .pendings)) refl (rw (e, q, handle) at h) (rw (e, q, handle) at g))))
-  where
-    y : Shown t u s r (process t i) (process u j)
-    y = shown t u (w .pair) (w .twin)
 
 pub poll-same : MadeSame Poll
 unfolding MadeSame make poll answers granted
 poll-same t u s r i j w h g =
+    let y = shown t u (w .pair) (w .twin) in
+    let lows = ap lowest-signal (y .pendings) in
     by-test (eqb (lowest-signal (process t i .pending)) signals) (λ e. rw (e, sym (ap (λ x. eqb x signals) lows) ∙ e, poll) (both-tell w 0 0 refl))
     (λ e. rw (e, sym (ap (λ x. eqb x signals) lows) ∙ e, poll)
     (signal-kept w _ _ _ _ _ _ (y .handleds) (ap₂ without-signal (y .pendings) lows) lows (rw (e, poll) at h) (rw (sym (ap (λ x. eqb x signals) lows) ∙ e, poll) at g)))
-  where
-    y : Shown t u s r (process t i) (process u j)
-    y = shown t u (w .pair) (w .twin)
-
-    lows : lowest-signal (process t i .pending) ≡ lowest-signal (process u j .pending)
-    lows = ap lowest-signal (y .pendings)

@@ -129,6 +129,7 @@ no-room-right t u s r x = inl (or-true (is-no-room (x .reply .answer)))
 pub clone-same : MadeSame Clone
 unfolding MadeSame make clone
 clone-same t u s r c d w h g =
+    let same = deads w in
     by-test (dead (view t) (view t .children c)) (λ ea. rw (ea, sym same ∙ ea, clone) (both-refuse w Enomem))
     (λ ea. by-test (eqb (free-slot (view t)) process-slots)
     (λ eb. rw (ea, eb, clone) (no-room-left t u s r (clone u d)))
@@ -136,6 +137,3 @@ clone-same t u s r c d w h g =
     (λ eb′. rw (sym same ∙ ea, eb′, clone) (no-room-right t u s r (clone t c)))
     (λ eb′. rw (ea, sym same ∙ ea, eb, eb′, clone)
     (born-kept w (sane t (w .sound-t)) (sane u (w .sound-u)) (w .pair) (w .twin) (cradles w ea) (holders w) (eqb-false _ _ eb) (eqb-false _ _ eb′) (rw (ea, eb, clone) at h) (rw (sym same ∙ ea, eb′, clone) at g)))))
-  where
-    same : dead (view t) (view t .children c) ≡ dead (view u) (view u .children d)
-    same = deads w

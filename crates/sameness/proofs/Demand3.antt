@@ -106,6 +106,11 @@ runs-same {t} {u} s r i j h g a b e = rw (seen-taken (view t) s i a, seen-taken 
 inside-same : InsideSame
 unfolding MadeSame
 inside-same t u s r i j c h g hs hr e a b n =
+    let w = same-of-sheets (facts t h) (facts u g) e in
+    let rows : row (view t) s i ≡ row (view u) r j =
+    let (x, m, q) = w .there i a in
+    q ∙ ap (row (view u) r) (pid-unique (view u) (facts u g) r x j hr m b (sym (row-pid (view t) (view u) s r i x (level-lt (facts t h) s hs) (level-lt (facts u g) r hr) q) ∙ n)) in
+    let both-run = runs-same s r i j h g a b rows in
     by-test (runs (view t) i)
     (λ k. rw (step-made t i c h k, step-made u j c g (sym both-run ∙ k))
     (all-inside c t u s r i j
@@ -119,17 +124,6 @@ inside-same t u s r i j c h g hs hr e a b n =
     })
     (make-sound t i c h k) (make-sound u j c g (sym both-run ∙ k))))
     (λ k. rw (step-refused t i c h k, step-refused u j c g (sym both-run ∙ k)) (refused-same t u s r NotRunning hs hr e))
-  where
-    w : Same (view t) (view u) s r
-    w = same-of-sheets (facts t h) (facts u g) e
-
-    rows : row (view t) s i ≡ row (view u) r j
-    rows =
-        let (x, m, q) = w .there i a in
-        q ∙ ap (row (view u) r) (pid-unique (view u) (facts u g) r x j hr m b (sym (row-pid (view t) (view u) s r i x (level-lt (facts t h) s hs) (level-lt (facts u g) r hr) q) ∙ n))
-
-    both-run : runs (view t) i ≡ runs (view u) j
-    both-run = runs-same s r i j h g a b rows
 
 -- ---- the relation that every call keeps
 

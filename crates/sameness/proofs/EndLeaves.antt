@@ -167,6 +167,7 @@ exit-leaves z t s i h hs k a g = go (eqb i 0) refl g
     go : (b : Bool) → eqb i 0 ≡ b → SoundTable (exit t i z .table) → sheet-of (exit t i z .table) (follow t (exit t i z .table) (at s)) ≡ sheet (view t) s
     go true q g = rw (q, exit) (as-it-was t s hs)
     go false q g =
+        let still = end-still (sane t h) i e li o not-above in
         rw (q, exit)
         (freed-leaves h (end-sane t (sane t h) i e li (eqb-false _ _ q) (remainder z)) hs (stands-still (facts t h) still hs) (same-still (facts t h) still))
       where
@@ -193,6 +194,3 @@ exit-leaves z t s i h hs k a g = go (eqb i 0) refl g
             isnt-so
             (λ b. lives-on t (freed t₁) s no-touch (view t .own i) (facts t h .in-namespace _ (own-taken (view t) (facts t h) i (lives-taken (view t) i li))) own-not b (living-own-alive (view t) (facts t h) i li)
             (isnt-so (λ y. false≢true (sym (end-dies (sane t h) i e (lives-taken (view t) i li) m) ∙ freed-back (end-sane t (sane t h) i e li (eqb-false _ _ q) (remainder z)) (view t .own i) y))))
-
-        still : Still (view t) (view t₁) s
-        still = end-still (sane t h) i e li o not-above

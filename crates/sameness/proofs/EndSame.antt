@@ -180,23 +180,17 @@ zero-init {v} f x z = let e = ap (v .own) z ∙ f .root-own in (eq-eqb (init v (
 -- an end of two twins that live, none of them the init of the callers' own namespace
 pub end-same : {t u : Table} {s r f g x y : ℕ} (e : End) → Midway t u s r f g → Twin (view t) (view u) s r x y → So (seen (view t) f x) → So (living (view t) x) → So (kept-end (Ended e)) → (So (is-init (view t) x) → view t .own x ≡ f → ⊥) → Onward t u s r f g (end t x e) (end u y e)
 end-same {t} {u} {s} {r} {f} {g} {x} {y} e w k sx lx ok other =
+    let ly : So (living (view u) y) = sym (living-twins pr k) ∙ lx in
+    let ev = end-view t (w .sane-t) x e (lives-taken (view t) x lx) in
+    let eu = end-view u (w .sane-u) y e (lives-taken (view u) y ly) in
     let (alive, (same, (from, targets))) = subst₂ (After (view t) (view u) s r f g) (sym ev) (sym eu) (end-after e pr (w .from) k sx lx (ended-end (view t) x e) (ended-end (view u) y e) both-init other) in
     (record { sane-t = end-sane t (w .sane-t) x e lx x-other ok; sane-u = end-sane u (w .sane-u) y e ly y-other ok; alive-s = alive .0; alive-r = alive .1; same = same; from = from }, targets)
   where
     pr : Pair (view t) (view u) s r
     pr = pair-of w
 
-    ly : So (living (view u) y)
-    ly = sym (living-twins pr k) ∙ lx
-
     lives : So (alive (view t) (view t .own x))
     lives = living-own-alive (view t) (w .sane-t .facts) x lx
-
-    ev : view (end t x e) ≡ ended-view (view t) x e
-    ev = end-view t (w .sane-t) x e (lives-taken (view t) x lx)
-
-    eu : view (end u y e) ≡ ended-view (view u) y e
-    eu = end-view u (w .sane-u) y e (lives-taken (view u) y ly)
 
     both-init : is-init (view t) x ≡ is-init (view u) y
     both-init = is-init-twins pr k lives

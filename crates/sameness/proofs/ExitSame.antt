@@ -46,32 +46,20 @@ use Rattle.table.specs.declared.Table.{Table}
 zero-there : {v u : View} {s r : ℕ} (w : Pair v u s r) {i j : ℕ} → Twin v u s r i j → i ≡ 0 → j ≡ 0
 unfolding pid-seen
 zero-there {v} {u} {s} {r} w {i} {j} k z =
+    let level-s : v .level s ≡ 0 = omega (arith, below-level v (w .facts-v) (v .own i) s (seen-below v s i (k .seen-v)), ap (λ x. v .level (v .own x)) z ∙ ap (v .level) (w .facts-v .root-own) ∙ w .facts-v .root-level) in
+    let r-root : r ≡ 0 = root-only u (w .facts-u) r (alive-taken u (w .facts-u) r (w .alive-u)) (omega (arith, w .same .levels, level-s)) in
+    let one = ap₂ (λ x y. v .pid x y) z level-s ∙ w .facts-v .root-pid in
+    let one′ = ap (λ x. u .pid 0 x) (ap (u .level) r-root ∙ w .facts-u .root-level) ∙ w .facts-u .root-pid in
+    let zero-seen = subst₂ (λ x y. So (seen u x y)) (sym r-root) (w .facts-u .root-init) (init-seen u (w .facts-u) 0 0 (subst (λ x. So (alive u x)) r-root (w .alive-u)) (below-refl u 0)) in
     pid-unique u (w .facts-u) r j 0 (alive-taken u (w .facts-u) r (w .alive-u)) (k .seen-u) zero-seen (sym (k .pids) ∙ one ∙ sym one′)
-  where
-    level-s : v .level s ≡ 0
-    level-s = omega (arith, below-level v (w .facts-v) (v .own i) s (seen-below v s i (k .seen-v)), ap (λ x. v .level (v .own x)) z ∙ ap (v .level) (w .facts-v .root-own) ∙ w .facts-v .root-level)
-
-    r-root : r ≡ 0
-    r-root = root-only u (w .facts-u) r (alive-taken u (w .facts-u) r (w .alive-u)) (omega (arith, w .same .levels, level-s))
-
-    one : v .pid i (v .level s) ≡ 1
-    one = ap₂ (λ x y. v .pid x y) z level-s ∙ w .facts-v .root-pid
-
-    one′ : u .pid 0 (u .level r) ≡ 1
-    one′ = ap (λ x. u .pid 0 x) (ap (u .level) r-root ∙ w .facts-u .root-level) ∙ w .facts-u .root-pid
-
-    zero-seen : So (seen u r 0)
-    zero-seen = subst₂ (λ x y. So (seen u x y)) (sym r-root) (w .facts-u .root-init) (init-seen u (w .facts-u) 0 0 (subst (λ x. So (alive u x)) r-root (w .alive-u)) (below-refl u 0))
 
 -- the init of the namespace above S is not seen from S
 above-zero : {v : View} (f : Facts v) (s : ℕ) → So (alive v s) → 0 < v .level s → pid-in v s (init v (v .up s)) ≡ 0
 unfolding seen
 above-zero {v} f s a l =
+    let e : v .level s ≡ suc (pred (v .level s)) = omega arith in
     pid-in-unseen f s (init v (v .up s))
     (bool-ext _ _ (λ h. absurd (omega (arith, below-level v f _ s (right _ _ h), ap (v .level) (init-own v f (v .up s) (alive-up v f s _ a e)), up-level v f s _ e))) (λ h. absurd (false≢true h)))
-  where
-    e : v .level s ≡ suc (pred (v .level s))
-    e = omega arith
 
 unseen-above : {v : View} (f : Facts v) (s n : ℕ) → So (alive v s) → n ≡ s → 0 < v .level s → pid-in v s (init v (v .up n)) ≡ 0
 unseen-above {v} f s n a e l = ap (λ x. pid-in v s (init v (v .up x))) e ∙ above-zero f s a l
@@ -111,7 +99,10 @@ module _ {t u : Table} {s r c d : ℕ} (w : Ready t u s r c d) (e : End) (ok : S
   -- S's init ends
   dies : So (is-init (view t) c) → view t .own c ≡ s → (c ≡ 0 → ⊥) → (d ≡ 0 → ⊥) → SoundTable (freed (end t c e)) → SoundTable (freed (end u d e)) → Kept t u s r (answers (freed (end t c e)) 0) (answers (freed (end u d e)) 0)
   unfolding answers granted
-  dies ic oc nc nd h g = inr (refl, freed-sheets t u ft fu (stands t (held .sane-t) c s tc (taken-s w)) (stands u (held .sane-u) d r td (taken-r w)) (λ k. ap (λ (l : ℕ → ℕ). l s) (end-tree t (held .sane-t) c e tc .1)) (λ k. ap (λ (l : ℕ → ℕ). l r) (end-tree u (held .sane-u) d e td .1)) same)
+  dies ic oc nc nd h g =
+      let ft = end-sane t (held .sane-t) c e (runs-lives t c (w .runs-t)) nc ok in
+      let fu = end-sane u (held .sane-u) d e (runs-lives u d (w .runs-u)) nd ok in
+      inr (refl, freed-sheets t u ft fu (stands t (held .sane-t) c s tc (taken-s w)) (stands u (held .sane-u) d r td (taken-r w)) (λ k. ap (λ (l : ℕ → ℕ). l s) (end-tree t (held .sane-t) c e tc .1)) (λ k. ap (λ (l : ℕ → ℕ). l r) (end-tree u (held .sane-u) d e td .1)) same)
     where
       p : Pair (view t) (view u) s r
       p = w .pair
@@ -121,12 +112,6 @@ module _ {t u : Table} {s r c d : ℕ} (w : Ready t u s r c d) (e : End) (ok : S
 
       td : So (taken (view u) d)
       td = taken-u (w .twin)
-
-      ft : Sane (end t c e)
-      ft = end-sane t (held .sane-t) c e (runs-lives t c (w .runs-t)) nc ok
-
-      fu : Sane (end u d e)
-      fu = end-sane u (held .sane-u) d e (runs-lives u d (w .runs-u)) nd ok
 
       stands : (z : Table) (f : Sane z) (x n : ℕ) → So (taken (view z) x) → So (namespace-taken (view z) n) → So (namespace-taken (view (end z x e)) n)
       stands z f x n tx k = stands-as (view z) (view (end z x e)) n (ap (λ (l : ℕ → ℕ). l n) (end-tree z f x e tx .1)) k
@@ -139,16 +124,12 @@ module _ {t u : Table} {s r c d : ℕ} (w : Ready t u s r c d) (e : End) (ok : S
         where
           id : So (is-init (view u) d)
           id = sym (is-init-twins p (w .twin) (own-lives w)) ∙ ic
-
           od : view u .own d ≡ r
           od = twins-unique p (owns-twins w) (top-twins p) oc
-
           positive-s : 0 < view t .level s
           positive-s = init-positive (p .facts-v) c s ic oc nc (taken-s w)
-
           positive-r : 0 < view u .level r
           positive-r = omega (arith, positive-s, p .same .levels)
-
           positive : 0 < view t .level (view t .own c)
           positive = omega (arith, positive-s, ap (view t .level) oc)
 

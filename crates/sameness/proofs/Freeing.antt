@@ -49,11 +49,9 @@ module _ {v : View} (f : Facts v) where
   row-freed : (s i : ℕ) → So (kept v s) → So (taken v i) → row w s i ≡ row v s i
   unfolding row
   row-freed s i ks h =
+      let last : (if is-init v i then w .last (v .own i) else 0) ≡ (if is-init v i then v .last (v .own i) else 0) = rw (kept-own v f i h) in
       row-remain f remain s i ks refl h
       ∙ (λ z. lit v s i (v .state i) (v .handled i) (v .pending i) (v .unshared i) (pid-in-remain f (remain .places) s (v .parent i) ks refl z) (name-remain f remain s (v .children i) ks (kept-children v f i h) z) (last z))
-    where
-      last : (if is-init v i then w .last (v .own i) else 0) ≡ (if is-init v i then v .last (v .own i) else 0)
-      last = rw (kept-own v f i h)
 
   module _ (s : ℕ) where
     same-freed : So (kept v s) → Same w v s s
@@ -93,16 +91,12 @@ empty-sheet v s l h e = λ z. record { level = e z; rows = ap (map (row v s)) (g
 pub sheet-freed : (t₀ : Table) {t : Table} → Sane t → (s : ℕ) → So (namespace-taken (view t) s) → (kept (view t) s ≡ false → view t .level s ≡ view t₀ .level s) → sheet-of (freed t) (follow t₀ (freed t) (at s)) ≡ sheet (view t) s
 unfolding follow sheet-of
 sheet-freed t₀ {t} x s h e =
+    let f = x .facts in
+    let ev = freed-view t (x .shape-of) in
     by-test (kept (view t) s)
     (λ k. rw (ap (λ (u : View). namespace-taken u s) ev ∙ stands-freed f s k h)
     (ap (λ (u : View). sheet u s) ev ∙ sheets-of-same (subst Facts ev (facts (freed t) (freed-keeps t (x .shape-of) f))) f (stands-freed f s k h) h (same-freed f s k)))
     (λ k. rw (ap (λ (u : View). namespace-taken u s) ev ∙ gone-freed f s k) (sym (empty-sheet (view t) s _ (nobody-freed f s k) (e k))))
-  where
-    f : Facts (view t)
-    f = x .facts
-
-    ev : view (freed t) ≡ restrict (kept (view t)) (view t)
-    ev = freed-view t (x .shape-of)
 
 -- two tables in the middle of a call that are the same to S: so they are once freed
 pub freed-sheets : (t u : Table) {t₁ u₁ : Table} → Sane t₁ → Sane u₁ → {s r : ℕ} → So (namespace-taken (view t₁) s) → So (namespace-taken (view u₁) r) → (kept (view t₁) s ≡ false → view t₁ .level s ≡ view t .level s) → (kept (view u₁) r ≡ false → view u₁ .level r ≡ view u .level r) → Same (view t₁) (view u₁) s r → sheet-of (freed t₁) (follow t (freed t₁) (at s)) ≡ sheet-of (freed u₁) (follow u (freed u₁) (at r))

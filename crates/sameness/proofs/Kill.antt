@@ -151,13 +151,11 @@ action-none v f x n e = go (eqb n 0)
 pub action-twins : {t u : Table} {s r f g : ℕ} → Midway t u s r f g → {x y : ℕ} (n : ℕ) → Twin (view t) (view u) s r x y → action-on (view t) f x n ≡ action-on (view u) g y n
 unfolding action-on
 action-twins {t} {u} {s} {r} {f} {g} w {x} {y} n k =
+    let p = pair-of w in
     by-test (living (view t) x)
     (λ e. rw (living-twins p k, is-init-twins p k (living-own-alive (view t) (w .sane-t .facts) x e), twins-eqb p (owns p k (living-own-alive (view t) (w .sane-t .facts) x e)) (w .from), shown t u p k .handleds, action-on)
     refl)
     (λ e. action-none (view t) f x n e ∙ sym (action-none (view u) g y n (sym (living-twins p k) ∙ e)))
-  where
-    p : Pair (view t) (view u) s r
-    p = pair-of w
 
 -- ---- a change that keeps places
 
@@ -198,7 +196,9 @@ is-finish Pend = false
 -- nobody ends the init of the namespace that it sends from
 finish-own : (v : View) (f x n : ℕ) → action-on v f x n ≡ Finish → So (is-init v x) → v .own x ≡ f → ⊥
 unfolding action-on _and_
-finish-own v f x n e h q = false≢true (sym no-finish ∙ ap is-finish e)
+finish-own v f x n e h q =
+    let no-finish : is-finish (action-on v f x n) ≡ false = rw (h, eq-eqb (v .own x) f q, action-on) (go (eqb n 0 or not (living v x)) (eqb n 18) (eqb n 9 or eqb n 19) (has (v .handled x) n)) in
+    false≢true (sym no-finish ∙ ap is-finish e)
   where
     go : (a b c d : Bool) → is-finish (if a then Nothing else (if b then Resume else (if c then Nothing else (if d then Pend else Nothing)))) ≡ false
     go true b c d = refl
@@ -206,9 +206,6 @@ finish-own v f x n e h q = false≢true (sym no-finish ∙ ap is-finish e)
     go false false true d = refl
     go false false false true = refl
     go false false false false = refl
-
-    no-finish : is-finish (action-on v f x n) ≡ false
-    no-finish = rw (h, eq-eqb (v .own x) f q, action-on) (go (eqb n 0 or not (living v x)) (eqb n 18) (eqb n 9 or eqb n 19) (has (v .handled x) n))
 
 pub resumed-placed : (p : Process) → Placed (resumed p) p
 unfolding resumed with-pending
@@ -329,6 +326,7 @@ module _ {t u : Table} {s r i j : ℕ} (w : Ready t u s r i j) where
 pub kill-same : (z n : ℤ) → MadeSame (Kill z n)
 unfolding MadeSame make kill answers granted
 kill-same z n t u s r i j w h g =
+    let lengths = along-length (Twin (view t) (view u) s r) (targets (view t) i z) (targets (view u) j z) (targets-twins w z) in
     by-test (within 0 signals n)
     (λ ea. by-test (names-group z)
     (λ eb. rw (ea, eb, kill) (both-refuse w Enosys))
@@ -339,6 +337,3 @@ kill-same z n t u s r i j w h g =
     rw (ea, eb, ec, sym (ap (λ x. eqb x 0) lengths) ∙ ec, kill)
     (inr (refl, freed-alike t u (d .sane-t) (d .sane-u) (pair-of d))))))
     (λ ea. rw (ea, kill) (both-refuse w Einval))
-  where
-    lengths : length (targets (view t) i z) ≡ length (targets (view u) j z)
-    lengths = along-length (Twin (view t) (view u) s r) (targets (view t) i z) (targets (view u) j z) (targets-twins w z)

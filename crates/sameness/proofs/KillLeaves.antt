@@ -194,9 +194,8 @@ kill-leaves z n t s i h hs k a g =
         let q = all-zero xs t (view t .own i) (natural n) e in
         let w = start (sane t h) hs in
         subst (λ y. sheet-of (freed y) (follow t (freed y) (at s)) ≡ sheet (view t) s) (sym q) (freed-leaves h (sane t h) hs hs (w .same))
-    done low o g false e = freed-leaves h (w .sane-now) hs (w .stands) (w .same)
-      where
-        w : Going t t₁ s
-        w =
-            all-going (view t .own i) (natural n) low xs (targets-safe (view t) (facts t h) i z) (start (sane t h) hs) (sent (eqb (natural n) 0) (some-of (λ j. is-inside t (at s) j and living (view t) j) xs) e (or-false-left _ _ o))
-            (λ m l c b d y. lives-on t (freed t₁) s (or-false-right _ _ o) m l c b d (isnt-so (λ v. false≢true (sym y ∙ freed-back (deliver-all-sane t (sane t h) (view t .own i) (natural n) low xs (targets-safe (view t) (facts t h) i z)) m v))))
+    done low o g false e =
+        let w : Going t t₁ s =
+        all-going (view t .own i) (natural n) low xs (targets-safe (view t) (facts t h) i z) (start (sane t h) hs) (sent (eqb (natural n) 0) (some-of (λ j. is-inside t (at s) j and living (view t) j) xs) e (or-false-left _ _ o))
+        (λ m l c b d y. lives-on t (freed t₁) s (or-false-right _ _ o) m l c b d (isnt-so (λ v. false≢true (sym y ∙ freed-back (deliver-all-sane t (sane t h) (view t .own i) (natural n) low xs (targets-safe (view t) (facts t h) i z)) m v)))) in
+        freed-leaves h (w .sane-now) hs (w .stands) (w .same)

@@ -133,6 +133,8 @@ levels-alike w = twins-level (w .pair) (owns-twins w)
 pub unshare-same : MadeSame Unshare
 unfolding MadeSame make unshare answers granted
 unshare-same t u s r c d w h g =
+    let mark = shown t u (w .pair) (w .twin) .marks in
+    let deep = ap (λ n. eqb n deepest) (levels-alike w) in
     by-test (process t c .unshared) (λ em. rw (em, sym mark ∙ em, unshare) (both-refuse w Einval))
     (λ em. by-test (eqb (own-level (view t) c) deepest)
     (λ ea. rw (em, sym mark ∙ em, ea, sym deep ∙ ea, unshare) (both-refuse w Enospc))
@@ -142,17 +144,12 @@ unshare-same t u s r c d w h g =
     (λ eb′. rw (sym mark ∙ em, sym deep ∙ ea, eb′, unshare) (no-room-right t u s r (unshare t c)))
     (λ eb′. rw (em, sym mark ∙ em, ea, sym deep ∙ ea, eb, eb′, unshare)
     (unshared-kept w (eqb-false _ _ ea) (eqb-false _ _ (sym deep ∙ ea)) (eqb-false _ _ eb) (eqb-false _ _ eb′))))))
-  where
-    mark : process t c .unshared ≡ process u d .unshared
-    mark = shown t u (w .pair) (w .twin) .marks
-
-    deep : eqb (own-level (view t) c) deepest ≡ eqb (own-level (view u) d) deepest
-    deep = ap (λ n. eqb n deepest) (levels-alike w)
 
 -- clone new by twin callers
 pub clone-new-same : MadeSame CloneNew
 unfolding MadeSame make clone-new
 clone-new-same t u s r c d w h g =
+    let deep = ap (λ n. eqb n deepest) (levels-alike w) in
     by-test (eqb (own-level (view t) c) deepest) (λ ea. rw (ea, sym deep ∙ ea, clone-new) (both-refuse w Enospc))
     (λ ea. by-test (eqb (free-slot (view t)) process-slots or eqb (free-namespace-slot (view t)) namespace-slots)
     (λ eb. rw (ea, eb, clone-new) (no-room-left t u s r (clone-new u d)))
@@ -160,6 +157,3 @@ clone-new-same t u s r c d w h g =
     (λ eb′. rw (sym deep ∙ ea, eb′, clone-new) (no-room-right t u s r (clone-new t c)))
     (λ eb′. rw (ea, sym deep ∙ ea, eb, eb′, clone-new)
     (cloned-kept w (eqb-false _ _ ea) (eqb-false _ _ (sym deep ∙ ea)) (eqb-false _ _ (or-false-right _ _ eb)) (eqb-false _ _ (or-false-right _ _ eb′)) (eqb-false _ _ (or-false-left _ _ eb)) (eqb-false _ _ (or-false-left _ _ eb′)) (rw (ea, eb, clone-new) at h) (rw (sym deep ∙ ea, eb′, clone-new) at g)))))
-  where
-    deep : eqb (own-level (view t) c) deepest ≡ eqb (own-level (view u) d) deepest
-    deep = ap (λ n. eqb n deepest) (levels-alike w)

@@ -91,11 +91,9 @@ module _ {v v′ : View} {K Q : ℕ → Bool} (f : Facts v) (w : Places v v′ K
   pub seen-remain : (n i : ℕ) → So (Q i) → seen v′ n i ≡ seen v n i
   unfolding seen taken
   seen-remain n i h =
+      let kept = ap (λ x. not (eqb x 0)) (w .pids i 0 h) in
       by-test (taken v i) (λ e. ap₂ _and_ kept (ap (λ x. below v′ x n) (w .owns i h) ∙ below-stays f (w .tree) (v .own i) n (w .own-kept i h e)))
       (λ e. rw (kept ∙ e, e) (and-false (below v′ (v′ .own i) n) ∙ sym (and-false (below v (v .own i) n))))
-    where
-      kept : taken v′ i ≡ taken v i
-      kept = ap (λ x. not (eqb x 0)) (w .pids i 0 h)
 
   pub seen-gone : (n i : ℕ) → Q i ≡ false → seen v′ n i ≡ false
   unfolding seen

@@ -48,11 +48,9 @@ module _ {v : View} (f : Facts v) (s : ℕ) where
   near-children : (i : ℕ) → So (seen v s i) → So (near v s (v .children i)) ⊎ (v .children i ≡ no-slot)
   unfolding living
   near-children i h =
+      let ti = seen-taken v s i h in
       by-test (v .ended i) (λ e. inr (f .ended-bare i ti e .0 .0 .0))
       (λ e. inl (or-left _ _ (below-trans v f _ _ s (children-below f i (both _ _ ti (ap not e))) (seen-below v s i h))))
-    where
-      ti : So (taken v i)
-      ti = seen-taken v s i h
 
 -- ---- all of it stays
 

@@ -323,23 +323,13 @@ wait-leaves t s i h hs k a g = go (any process-slots (child-of (view t) i)) refl
     go true e Running q g = rw (e, q, wait) (as-it-was t s hs)
     go true e Stopped q g = rw (e, q, wait) (as-it-was t s hs)
     go true e (Ended y) q g =
+        let ex = ap is-ended q in
+        let tx = first-taken h i ex in
+        let no-touch = untouched-made s i Wait h k a (reap t i x (Ended y)) (rw (e, q, wait) refl) refl in
+        let removed : taken (view (freed (put t x empty-process))) x ≡ false =
+        ap (λ (u : View). taken u x) (freed-view _ (reaped-sane t (sane t h) x ex .shape-of))
+        ∙ ap (λ (u : View). taken u x) (reaped-view t (sane t h) x ex) ∙ reap-remain (facts t h) x tx ex .places .gone x (ap not (eq-eqb x x refl)) in
+        let unseen : seen (view t) s x ≡ false = isnt-so (λ m. no-so no-touch (any-intro _ _ x (facts t h .in-range x tx) (both _ _ m (ap not removed)))) in
         rw (e, q, wait)
         (freed-leaves h (reaped-sane t (sane t h) x ex) hs hs
         (subst (λ (u : View). Same u (view t) s s) (sym (reaped-view t (sane t h) x ex)) (same-still (facts t h) (reap-still (facts t h) x tx ex unseen))))
-      where
-        ex : So (view t .ended x)
-        ex = ap is-ended q
-
-        tx : So (taken (view t) x)
-        tx = first-taken h i ex
-
-        no-touch : touched t (freed (put t x empty-process)) (at s) i Wait ≡ false
-        no-touch = untouched-made s i Wait h k a (reap t i x (Ended y)) (rw (e, q, wait) refl) refl
-
-        removed : taken (view (freed (put t x empty-process))) x ≡ false
-        removed =
-            ap (λ (u : View). taken u x) (freed-view _ (reaped-sane t (sane t h) x ex .shape-of))
-            ∙ ap (λ (u : View). taken u x) (reaped-view t (sane t h) x ex) ∙ reap-remain (facts t h) x tx ex .places .gone x (ap not (eq-eqb x x refl))
-
-        unseen : seen (view t) s x ≡ false
-        unseen = isnt-so (λ m. no-so no-touch (any-intro _ _ x (facts t h .in-range x tx) (both _ _ m (ap not removed))))
