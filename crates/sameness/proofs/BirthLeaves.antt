@@ -14,6 +14,7 @@ use Rattle.rules.proofs.Laws.Facts.{Facts, facts, Sane, sane, seen-taken, seen-
 use Rattle.rules.proofs.Laws.Steps.{runs-lives}
 use Rattle.rules.proofs.Laws.Tests.{no-so, isnt-so, left, right, cases, or-false-left, or-false-right, bool-ext}
 use Rattle.rules.proofs.Laws.Tree.{below-refl}
+use Rattle.sameness.proofs.Cases.{by-test}
 use Rattle.sameness.proofs.Born.{Room, below-grown, seen-grown, life-born, life-other, bottom, old}
 use Rattle.sameness.proofs.Freeing.{freed-leaves}
 use Rattle.sameness.proofs.NewNamespace.{new-taken, same-free, new-outside, new-still}
@@ -90,17 +91,16 @@ module _ {t : Table} (w : Sane t) (c n : ℕ) (tn : So (namespace-taken (view t)
 -- plain clone
 pub clone-leaves : MadeLeaves Clone
 unfolding MadeLeaves make clone refused is-refused touched clones-into namespace-inside
-clone-leaves t s i h hs k a g = go (dead (view t) (view t .children i)) refl (eqb (free-slot (view t)) process-slots) refl g
-  where
-    go : (x : Bool) → dead (view t) (view t .children i) ≡ x → (b : Bool) → eqb (free-slot (view t)) process-slots ≡ b → SoundTable (clone t i .table) → sheet-of (clone t i .table) (follow t (clone t i .table) (at s)) ≡ sheet (view t) s
-    go true ea b eb g = rw (ea, clone) (as-it-was t s hs)
-    go false ea true eb g = rw (ea, eb, clone) (as-it-was t s hs)
-    go false ea false eb g =
-        let n = view t .children i in
-        let tn = children-taken (facts t h) i (runs-lives t i k) in
-        let o = untouched-made s i Clone h k a (born t i (birth t i n)) (rw (ea, eb, clone) refl) refl in
-        rw (ea, eb, clone)
-        (stands-leaves h (rw (ea, eb, clone) at g) hs (birth-stands (sane t h) i n tn (eqb-false _ _ eb) s o hs) (birth-same (sane t h) i n tn (eqb-false _ _ eb) s o))
+clone-leaves t s i h hs k a g =
+    by-test (dead (view t) (view t .children i)) (λ ea. rw (ea, clone) (as-it-was t s hs))
+    (λ ea. by-test (eqb (free-slot (view t)) process-slots)
+    (λ eb. rw (ea, eb, clone) (as-it-was t s hs))
+    (λ eb.
+    let n = view t .children i in
+    let tn = children-taken (facts t h) i (runs-lives t i k) in
+    let o = untouched-made s i Clone h k a (born t i (birth t i n)) (rw (ea, eb, clone) refl) refl in
+    rw (ea, eb, clone)
+    (stands-leaves h (rw (ea, eb, clone) at g) hs (birth-stands (sane t h) i n tn (eqb-false _ _ eb) s o hs) (birth-same (sane t h) i n tn (eqb-false _ _ eb) s o))))
 
 -- ---- a fresh namespace
 
@@ -135,19 +135,19 @@ clone-new-leaves t s i h hs k a g = go (eqb (own-level (view t) i) deepest) refl
 -- unshare
 pub unshare-leaves : MadeLeaves Unshare
 unfolding MadeLeaves make unshare set-children answers granted refused namespace-taken
-unshare-leaves t s i h hs k a g = go (process t i .unshared) refl (eqb (own-level (view t) i) deepest) refl (eqb (free-namespace-slot (view t)) namespace-slots) refl
-  where
-    go : (m : Bool) → process t i .unshared ≡ m → (x : Bool) → eqb (own-level (view t) i) deepest ≡ x → (b : Bool) → eqb (free-namespace-slot (view t)) namespace-slots ≡ b → sheet-of (unshare t i .table) (follow t (unshare t i .table) (at s)) ≡ sheet (view t) s
-    go true em x ea b eb = rw (em, unshare) (as-it-was t s hs)
-    go false em true ea b eb = rw (em, ea, unshare) (as-it-was t s hs)
-    go false em false ea true eb = rw (em, ea, eb, unshare) (as-it-was t s hs)
-    go false em false ea false eb =
-        let room : free-namespace-slot (view t) ≡ namespace-slots → ⊥ = eqb-false _ _ eb in
-        let t₁ = new-namespace t i in
-        let f₁ = namespace-sane t (sane t h) i (runs-lives t i k) (eqb-false _ _ ea) room .facts in
-        let still = new-still (sane t h) i room s hs in
-        rw (em, ea, eb, unshare)
-        (freed-leaves h (unshare-sane t h i k (eqb-false _ _ ea) room) hs (stands-still (facts t h) still hs)
-        (same-trans
-        (same-still f₁ (put-still t₁ f₁ i (with-children (process t₁ i) (free-namespace-slot (view t)) true) (refl, refl, refl) s (still .seens i ∙ outsider t s i Unshare a)))
-        (same-still (facts t h) still)))
+unshare-leaves t s i h hs k a g =
+    by-test (process t i .unshared) (λ em. rw (em, unshare) (as-it-was t s hs))
+    (λ em. by-test (eqb (own-level (view t) i) deepest)
+    (λ ea. rw (em, ea, unshare) (as-it-was t s hs))
+    (λ ea. by-test (eqb (free-namespace-slot (view t)) namespace-slots)
+    (λ eb. rw (em, ea, eb, unshare) (as-it-was t s hs))
+    (λ eb.
+    let room : free-namespace-slot (view t) ≡ namespace-slots → ⊥ = eqb-false _ _ eb in
+    let t₁ = new-namespace t i in
+    let f₁ = namespace-sane t (sane t h) i (runs-lives t i k) (eqb-false _ _ ea) room .facts in
+    let still = new-still (sane t h) i room s hs in
+    rw (em, ea, eb, unshare)
+    (freed-leaves h (unshare-sane t h i k (eqb-false _ _ ea) room) hs (stands-still (facts t h) still hs)
+    (same-trans
+    (same-still f₁ (put-still t₁ f₁ i (with-children (process t₁ i) (free-namespace-slot (view t)) true) (refl, refl, refl) s (still .seens i ∙ outsider t s i Unshare a)))
+    (same-still (facts t h) still))))))

@@ -100,38 +100,24 @@ module _ {t u : Table} {s r c d : ℕ} (w : Ready t u s r c d) (e : End) (ok : S
   dies : So (is-init (view t) c) → view t .own c ≡ s → (c ≡ 0 → ⊥) → (d ≡ 0 → ⊥) → SoundTable (freed (end t c e)) → SoundTable (freed (end u d e)) → Kept t u s r (answers (freed (end t c e)) 0) (answers (freed (end u d e)) 0)
   unfolding answers granted
   dies ic oc nc nd h g =
+      let p = w .pair in
+      let tc = taken-v (w .twin) in
+      let td = taken-u (w .twin) in
+      let same : Same (view (end t c e)) (view (end u d e)) s r =
+      let id : So (is-init (view u) d) = sym (is-init-twins p (w .twin) (own-lives w)) ∙ ic in
+      let od = twins-unique p (owns-twins w) (top-twins p) oc in
+      let positive-s = init-positive (p .facts-v) c s ic oc nc (taken-s w) in
+      let positive-r : 0 < view u .level r = omega (arith, positive-s, p .same .levels) in
+      let positive : 0 < view t .level (view t .own c) = omega (arith, positive-s, ap (view t .level) oc) in
+      subst₂ (λ (a b : View). Same a b s r) (sym (end-view t (held .sane-t) c e tc)) (sym (end-view u (held .sane-u) d e td))
+      (subst₂ (λ (a b : Bool). Same (if a then subtree-gone (view t) (view t .own c) c e else member-of (view t) c e) (if b then subtree-gone (view u) (view u .own d) d e else member-of (view u) d e) s r) (sym ic) (sym id)
+      (init-same p e (w .twin) (own-lives w) positive (unseen-above (p .facts-v) s (view t .own c) (p .alive-v) oc positive-s ∙ sym (unseen-above (p .facts-u) r (view u .own d) (p .alive-u) od positive-r)))) in
       let ft = end-sane t (held .sane-t) c e (runs-lives t c (w .runs-t)) nc ok in
       let fu = end-sane u (held .sane-u) d e (runs-lives u d (w .runs-u)) nd ok in
       inr (refl, freed-sheets t u ft fu (stands t (held .sane-t) c s tc (taken-s w)) (stands u (held .sane-u) d r td (taken-r w)) (λ k. ap (λ (l : ℕ → ℕ). l s) (end-tree t (held .sane-t) c e tc .1)) (λ k. ap (λ (l : ℕ → ℕ). l r) (end-tree u (held .sane-u) d e td .1)) same)
     where
-      p : Pair (view t) (view u) s r
-      p = w .pair
-
-      tc : So (taken (view t) c)
-      tc = taken-v (w .twin)
-
-      td : So (taken (view u) d)
-      td = taken-u (w .twin)
-
       stands : (z : Table) (f : Sane z) (x n : ℕ) → So (taken (view z) x) → So (namespace-taken (view z) n) → So (namespace-taken (view (end z x e)) n)
       stands z f x n tx k = stands-as (view z) (view (end z x e)) n (ap (λ (l : ℕ → ℕ). l n) (end-tree z f x e tx .1)) k
-
-      same : Same (view (end t c e)) (view (end u d e)) s r
-      same =
-          subst₂ (λ (a b : View). Same a b s r) (sym (end-view t (held .sane-t) c e tc)) (sym (end-view u (held .sane-u) d e td))
-          (subst₂ (λ (a b : Bool). Same (if a then subtree-gone (view t) (view t .own c) c e else member-of (view t) c e) (if b then subtree-gone (view u) (view u .own d) d e else member-of (view u) d e) s r) (sym ic) (sym id)
-          (init-same p e (w .twin) (own-lives w) positive (unseen-above (p .facts-v) s (view t .own c) (p .alive-v) oc positive-s ∙ sym (unseen-above (p .facts-u) r (view u .own d) (p .alive-u) od positive-r))))
-        where
-          id : So (is-init (view u) d)
-          id = sym (is-init-twins p (w .twin) (own-lives w)) ∙ ic
-          od : view u .own d ≡ r
-          od = twins-unique p (owns-twins w) (top-twins p) oc
-          positive-s : 0 < view t .level s
-          positive-s = init-positive (p .facts-v) c s ic oc nc (taken-s w)
-          positive-r : 0 < view u .level r
-          positive-r = omega (arith, positive-s, p .same .levels)
-          positive : 0 < view t .level (view t .own c)
-          positive = omega (arith, positive-s, ap (view t .level) oc)
 
 -- exit by twin callers
 pub exit-same : (z : ℤ) → MadeSame (Exit z)
