@@ -10,7 +10,7 @@ use Rattle.rules.proofs.Keeps.Birth.{with-born, birth-view}
 use Rattle.rules.proofs.Keeps.Changes.{namespace-sane, unshare-sane}
 use Rattle.rules.proofs.Keeps.Premises.{free-slot-is}
 use Rattle.rules.proofs.Laws.Below.{below-trans}
-use Rattle.rules.proofs.Laws.Facts.{Facts, facts, Sane, sane, seen-taken, seen-below, lives-taken}
+use Rattle.rules.proofs.Laws.Facts.{facts, Sane, sane, seen-taken, seen-below, lives-taken}
 use Rattle.rules.proofs.Laws.Steps.{runs-lives}
 use Rattle.rules.proofs.Laws.Tests.{no-so, isnt-so, left, right, cases, or-false-left, or-false-right, bool-ext}
 use Rattle.rules.proofs.Laws.Tree.{below-refl}
@@ -29,7 +29,7 @@ use Rattle.sameness.specs.Events.{at, follow, namespace-inside, sheet-of
 use Rattle.table.specs.Limits.{deepest, namespace-slots, process-slots}
 use Rattle.rules.specs.Pids.{free-namespace-slot, free-slot, next-pid}
 use Rattle.table.specs.Slots.{process}
-use Rattle.rules.specs.Read.{View, below, dead, living, namespace-taken, seen, unborn, view}
+use Rattle.rules.specs.Read.{View, below, dead, namespace-taken, seen, unborn, view}
 use Rattle.rules.specs.Records.{with-children}
 use Rattle.sameness.specs.Sheet.{sheet}
 use Rattle.rules.specs.Sound.{SoundTable}

@@ -10,7 +10,7 @@ use borrow.Author.Tests.{eqb-true, eq-eqb, ne-eqb, le-leb, lt-leb}
 use lib.Dec.{eqb, leb}
 use Rattle.rules.proofs.Keeps.Birth.{with-born}
 use Rattle.rules.proofs.Laws.Below.{below-level, below-trans}
-use Rattle.rules.proofs.Laws.Facts.{Facts, seen-taken, lives-taken}
+use Rattle.rules.proofs.Laws.Facts.{Facts, lives-taken}
 use Rattle.rules.proofs.Laws.Slots.{own-not-unborn, alive-taken, alive-not-unborn, init-taken, children-of, init-seen, parent-living, below-parent, below-same}
 use Rattle.rules.proofs.Laws.Tests.{zero-or, no-so, bool-ext}
 use Rattle.rules.proofs.Laws.Tree.{below-refl}

@@ -1,6 +1,5 @@
 -- A birth: the next number, and what is read of the others, on one table and on two that are the same to S.
 use Prim.Native.Nat.{ℕ, suc, _-_, pred, _<_, _≤_}
-use native.Mathlib.Decide.{ℕ-discrete}
 use native.Mathlib.Omega.{arith}
 use mathlib.Core.Bool.{Bool, not, So, true, false, false≢true}
 use mathlib.Core.Logic.{_⊎_, inl, inr, ⊎-elim}

@@ -1,6 +1,6 @@
 -- The calls that leave who is where: getpid, getppid, handle, poll, by twin callers.
 use Prim.Native.Nat.{ℕ}
-use mathlib.Core.Bool.{Bool, true, false, not, So}
+use mathlib.Core.Bool.{Bool, not, So}
 use mathlib.Core.Logic.{inr}
 use mathlib.Core.Path.{_≡_, refl, sym, _∙_, ap, ap₂}
 use lib.Dec.{eqb}
@@ -10,7 +10,7 @@ use Rattle.rules.proofs.Laws.Slots.{living-own-alive, alive-taken}
 use Rattle.rules.proofs.Laws.Steps.{runs-lives}
 use Rattle.sameness.proofs.Cases.{by-test}
 use Rattle.sameness.proofs.Inside.{Kept, Ready, MadeSame, refused-same, stands-same, follow-self}
-use Rattle.sameness.proofs.Light.{Shown, shown, same-put}
+use Rattle.sameness.proofs.Light.{shown, same-put}
 use Rattle.sameness.proofs.Readers.{parent-pid}
 use Rattle.sameness.proofs.Same.{Same, sheets-of-same}
 use Rattle.sameness.proofs.Twins.{Twins, twin-rows, owns, pid-twins}

@@ -1,6 +1,6 @@
 -- plain clone, by twin callers.
 use Prim.Native.Nat.{ℕ, zero, suc}
-use mathlib.Core.Bool.{Bool, true, false, not, So, false≢true}
+use mathlib.Core.Bool.{false, not, So, false≢true}
 use mathlib.Core.Logic.{inl, inr}
 use mathlib.Core.Path.{_≡_, refl, sym, _∙_, ap, subst₂}
 use borrow.Author.Tests.{eqb-true, eqb-false, eq-eqb}

@@ -19,12 +19,12 @@ use Rattle.sameness.proofs.Calls.{getpid-same, getppid-same, handle-sam
 use Rattle.sameness.proofs.CloneSame.{clone-same}
 use Rattle.sameness.proofs.EndLeaves.{exit-leaves}
 use Rattle.sameness.proofs.ExitSame.{exit-same}
-use Rattle.sameness.proofs.Inside.{MadeSame, Kept, PlaceStands, follow-self, refused-same}
+use Rattle.sameness.proofs.Inside.{MadeSame, PlaceStands, follow-self, refused-same}
 use Rattle.sameness.proofs.Kill.{kill-same}
 use Rattle.sameness.proofs.KillLeaves.{kill-leaves}
 use Rattle.sameness.proofs.NewNamespaceSame.{clone-new-same, unshare-same}
 use Rattle.sameness.proofs.Outside.{MadeLeaves, getpid-leaves, getppid-leaves, handle-leaves, poll-leaves, as-it-was}
-use Rattle.sameness.proofs.Same.{Callers, find-same, find-none, Same, same-of-sheets, level-lt, row-pid}
+use Rattle.sameness.proofs.Same.{Callers, find-same, find-none, same-of-sheets, level-lt, row-pid}
 use Rattle.sameness.proofs.Setns.{setns-same, setns-leaves}
 use Rattle.sameness.proofs.Wait.{wait-leaves, wait-same}
 use Rattle.rules.specs.Answers.{is-no-room, refused}

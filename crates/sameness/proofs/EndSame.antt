@@ -1,32 +1,32 @@
 -- The end of two twins, inits or not: what a kill needs of it.
-use Prim.Native.Nat.{ℕ, _<_, _≤_}
+use Prim.Native.Nat.{ℕ, _<_}
 use native.Mathlib.Omega.{arith}
 use mathlib.Core.Bool.{So, Bool, false, true, not, false≢true}
 use mathlib.Core.Logic.{inr, inl, _⊎_}
-use mathlib.Core.Path.{sym, _≡_, ap, _∙_, refl, subst, subst₂}
+use mathlib.Core.Path.{sym, _≡_, ap, _∙_, refl, subst₂}
 use borrow.Author.Tests.{eq-eqb}
 use lib.Dec.{eqb}
 use Rattle.rules.proofs.Keeps.End.{ended-view, end-view, end-sane}
-use Rattle.rules.proofs.Keeps.InitEnds.{subtree-gone, gone}
+use Rattle.rules.proofs.Keeps.InitEnds.{gone}
 use Rattle.rules.proofs.Laws.Below.{below-level}
 use Rattle.rules.proofs.Laws.Facts.{Facts, seen-below, lives-taken, Sane}
-use Rattle.rules.proofs.Laws.Slots.{living-own-alive, below-same}
+use Rattle.rules.proofs.Laws.Slots.{living-own-alive}
 use Rattle.rules.proofs.Laws.Tests.{false-and, no-so, isnt-so, and-not, choose}
+use Rattle.sameness.proofs.Anchor.{deeper}
 use Rattle.sameness.proofs.Cases.{by-test}
-use Rattle.sameness.proofs.Fallen.{fallen-places, init-stays}
+use Rattle.sameness.proofs.Fallen.{fallen, fallen-places, init-stays}
 use Rattle.sameness.proofs.InitEnd.{both-stay, init-same}
 use Rattle.sameness.proofs.MemberEnd.{member-remain, member-same, member-of}
 use Rattle.sameness.proofs.Readers.{living-twins, is-init-twins, above-pid}
 use Rattle.sameness.proofs.Remain.{Places, everyone, below-stays, pid-remain, seen-remain, twin-remain}
 use Rattle.sameness.proofs.Same.{Same}
-use Rattle.sameness.proofs.Twins.{Pair, Twins, Twin, owns, twins-level}
+use Rattle.sameness.proofs.Twins.{own-levels, Pair, Twins, Twin, owns, twins-level}
 use Rattle.rules.specs.Ends.{end}
 use Rattle.table.specs.Slots.{is-alive, init-of}
 use Rattle.rules.specs.Read.{View, living, is-init, taken, alive, view, init, seen, pid-seen, below}
 use Rattle.rules.specs.Sound.{kept-end}
 use Rattle.table.specs.Tests.{if_then_else_, _and_}
 use Rattle.table.specs.declared.End.{End}
-use Rattle.table.specs.declared.Life.the-variants.{Dead}
 use Rattle.table.specs.declared.State.the-variants.{Ended}
 use Rattle.table.specs.declared.Table.{Table}
 
@@ -51,30 +51,36 @@ abbrev pub Onward : Table → Table → ℕ → ℕ → ℕ → ℕ → Table �
 Onward t u s r f g t′ u′ = Midway t′ u′ s r f g × ((a b : ℕ) → Target (view t) (view u) s r f a b → Target (view t′) (view u′) s r f a b)
 
 -- what two views are after, to S and to callers whose own namespaces are f and g
-abbrev After : View → View → ℕ → ℕ → ℕ → ℕ → View → View → Type 0
-After v u s r f g v′ u′ = (So (alive v′ s) × So (alive u′ r)) × (Same v′ u′ s r × (Twins v′ u′ s r f g × ((i j : ℕ) → Target v u s r f i j → Target v′ u′ s r f i j)))
+record After (v u v′ u′ : View) (s r f g : ℕ) : Type 0 where
+  alive-v : So (alive v′ s)
+  alive-u : So (alive u′ r)
+  same : Same v′ u′ s r
+  from : Twins v′ u′ s r f g
+  targets : (i j : ℕ) → Target v u s r f i j → Target v′ u′ s r f i j
 
--- ---- one table: who does not live does not live then
+-- ---- one table
 
--- who does not live does not live after an end
-pub ended-end : (v : View) (x : ℕ) (e : End) (i : ℕ) → living v i ≡ false → living (ended-view v x e) i ≡ false
-unfolding living taken
-ended-end v x e i h =
-    choose (λ w. living w i ≡ false) (is-init v x)
-    (λ a. go (gone v (v .own x) i) (seen v (v .own x) i))
-    (λ a. at (eqb i x))
-  where
-    not-true : (a : Bool) → a and false ≡ false
-    not-true a = and-not a refl
+module _ (v : View) (x : ℕ) (e : End) where
+  pub ended-init : So (is-init v x) → ended-view v x e ≡ fallen v x e
+  ended-init h = rw h
 
-    go : (b c : Bool) → not (eqb (if b then 0 else v .pid i 0) 0) and not (if b then false else (if c then true else v .ended i)) ≡ false
-    go true c = false-and _ _ (λ k. false≢true k)
-    go false true = not-true _
-    go false false = h
+  ended-member : is-init v x ≡ false → ended-view v x e ≡ member-of v x e
+  ended-member h = rw h
 
-    at : (b : Bool) → not (eqb (v .pid i 0) 0) and not (if b then true else v .ended i) ≡ false
-    at true = not-true _
-    at false = h
+  -- who does not live does not live after an end
+  pub ended-end : (i : ℕ) → living v i ≡ false → living (ended-view v x e) i ≡ false
+  unfolding living taken
+  ended-end i h =
+      choose (λ w. living w i ≡ false) (is-init v x) (λ a. go (gone v (v .own x) i) (seen v (v .own x) i)) (λ a. at (eqb i x))
+    where
+      go : (b c : Bool) → not (eqb (if b then 0 else v .pid i 0) 0) and not (if b then false else (if c then true else v .ended i)) ≡ false
+      go true c = false-and _ _ (λ k. false≢true k)
+      go false true = and-not _ refl
+      go false false = h
+
+      at : (b : Bool) → not (eqb (v .pid i 0) 0) and not (if b then true else v .ended i) ≡ false
+      at true = and-not _ refl
+      at false = h
 
 -- ---- two tables
 
@@ -101,76 +107,66 @@ module _ {v u v′ u′ : View} {s r f g : ℕ} (p : Pair v u s r) (from : Twins
       by-test (Q i) (λ q. inl (twin-remain p a b refl refl both-remain m q, seen-remain (p .facts-v) a f i q ∙ h))
       (λ q. inr (not-living v′ i (a .gone i q), not-living u′ j (b .gone j (sym (both-remain i j m) ∙ q))))
 
-module _ {v u : View} {s r f g x y : ℕ} (e : End) (p : Pair v u s r) (from : Twins v u s r f g) (k : Twin v u s r x y) (sx : So (seen v f x)) (lx : So (living v x)) (fell-v : (i : ℕ) → living v i ≡ false → living (ended-view v x e) i ≡ false) (fell-u : (j : ℕ) → living u j ≡ false → living (ended-view u y e) j ≡ false) (both-init : is-init v x ≡ is-init u y) where
-  own-lives : So (alive v (v .own x))
-  own-lives = living-own-alive v (p .facts-v) x lx
+module _ {v u : View} {s r f g x y : ℕ} (e : End) (p : Pair v u s r) (from : Twins v u s r f g) (k : Twin v u s r x y) (sx : So (seen v f x)) (lx : So (living v x)) where
+  lives : So (alive v (v .own x))
+  lives = living-own-alive v (p .facts-v) x lx
 
-  -- ---- no init
+  pub both-init : is-init v x ≡ is-init u y
+  both-init = is-init-twins p k lives
 
-  abbrev Then : Bool → Type 0
-  Then b = After v u s r f g (if b then subtree-gone v (v .own x) x e else member-of v x e) (if b then subtree-gone u (u .own y) y e else member-of u y e)
-
-  member-after : is-init v x ≡ false → Then false
+  -- no inits
+  member-after : is-init v x ≡ false → After v u (member-of v x e) (member-of u y e) s r f g
   member-after h =
-      let a = member-remain x e in
-      let b = member-remain y e in (
-        (p .alive-v, p .alive-u),
-        (
-          member-same p e k own-lives,
-          (
-            from-after p from (a .places) (b .places) (λ i j m. refl) refl refl refl refl,
-            targets-after p from (a .places) (b .places) (λ i j m. refl) (rw h at fell-v) (rw (sym both-init ∙ h) at fell-u),
-          ),
-        ),
-      )
+      let a = member-remain x e .places in
+      let b = member-remain y e .places in
+      record {
+        alive-v = p .alive-v;
+        alive-u = p .alive-u;
+        same = member-same p e k lives;
+        from = from-after p from a b (λ i j m. refl) refl refl refl refl;
+        targets = targets-after p from a b (λ i j m. refl) (rw h at (ended-end v x e)) (rw (sym both-init ∙ h) at (ended-end u y e));
+      }
 
-  -- ---- an init, of a namespace below the callers'
-
+  -- inits, of namespaces below the callers'
   module _ (other : v .own x ≡ f → ⊥) where
-    pub deeper : v .level f < v .level (v .own x)
-    deeper = lt-of (below-level v (p .facts-v) _ f (seen-below v f x sx)) (λ q. other (below-same v (p .facts-v) _ f (seen-below v f x sx) q))
-      where
-        lt-of : v .level f ≤ v .level (v .own x) → (v .level (v .own x) ≡ v .level f → ⊥) → v .level f < v .level (v .own x)
-        lt-of l m = omega arith
+    pub deep : v .level f < v .level (v .own x)
+    deep = deeper (p .facts-v) (v .own x) f (seen-below v f x sx) other
 
-    -- what lies above does not lie in the subtree
-    out : {z : View} (h : Facts z) (n top : ℕ) → z .level n < z .level top → below z n top ≡ false
-    out {z} h n top l = isnt-so (λ b. omega (arith, below-level z h n top b))
+    -- what lies above does not lie in the subtree, and lives on
+    out : {z : View} (h : Facts z) (n c : ℕ) → z .level n < z .level (z .own c) → below z n (z .own c) ≡ false
+    out {z} h n c l = isnt-so (λ b. omega (arith, below-level z h n (z .own c) b))
 
-    spared : {z : View} (h : Facts z) (c n : ℕ) → z .level n < z .level (z .own c) → subtree-gone z (z .own c) c e .life n ≡ z .life n
-    spared {z} h c n l = ap (λ (b : Bool). if b then Dead else z .life n) (out h n (z .own c) l)
+    spared : {z : View} (h : Facts z) (c n : ℕ) → z .level n < z .level (z .own c) → fallen z c e .life n ≡ z .life n
+    spared {z} h c n l = rw (out h n c l)
 
-    init-after : is-init v x ≡ true → Then true
+    init-after : So (is-init v x) → After v u (fallen v x e) (fallen u y e) s r f g
     init-after h =
-        let tops = owns p k own-lives in
-        let deep : v .level s < v .level (v .own x) = omega (arith, deeper, below-level v (p .facts-v) f s (from .below-v)) in
-        let positive : 0 < v .level (v .own x) = omega (arith, deep) in
-        let up = above-pid p tops deep in
+        let tops = owns p k lives in
+        let ls : v .level s < v .level (v .own x) = omega (arith, deep, below-level v (p .facts-v) f s (from .below-v)) in
+        let positive : 0 < v .level (v .own x) = omega (arith, ls) in
+        let up = above-pid p tops ls in
         let a = fallen-places v x e in
         let b = fallen-places u y e in
-        let c = both-stay p e k own-lives positive up in
+        let c = both-stay p e k lives positive up in
         let same = twins-level p tops in
-        let lu : u .level g < u .level (u .own y) = omega (arith, deeper, same, twins-level p from) in
-        let lr : u .level r < u .level (u .own y) = omega (arith, deep, same, p .same .levels) in (
-          (ap is-alive (spared (p .facts-v) x s deep) ∙ p .alive-v, ap is-alive (spared (p .facts-u) y r lr) ∙ p .alive-u),
-          (
-            init-same p e k own-lives positive up,
-            (
-              from-after p from a b c (spared (p .facts-v) x f deeper) (spared (p .facts-u) y g lu) (init-stays (p .facts-v) x e f (out (p .facts-v) f _ deeper)) (init-stays (p .facts-u) y e g (out (p .facts-u) g _ lu)),
-              targets-after p from a b c (rw h at fell-v) (rw (sym both-init ∙ h) at fell-u),
-            ),
-          ),
-        )
+        let lg : u .level g < u .level (u .own y) = omega (arith, deep, same, twins-level p from) in
+        let lr : u .level r < u .level (u .own y) = omega (arith, ls, same, p .same .levels) in
+        record {
+          alive-v = ap is-alive (spared (p .facts-v) x s ls) ∙ p .alive-v;
+          alive-u = ap is-alive (spared (p .facts-u) y r lr) ∙ p .alive-u;
+          same = init-same p e k lives positive up;
+          from =
+              from-after p from a b c (spared (p .facts-v) x f deep) (spared (p .facts-u) y g lg)
+              (init-stays (p .facts-v) x e f (out (p .facts-v) f x deep)) (init-stays (p .facts-u) y e g (out (p .facts-u) g y lg));
+          targets = targets-after p from a b c (rw h at (ended-end v x e)) (rw (sym both-init ∙ h) at (ended-end u y e));
+        }
 
-  -- ---- either
-
-  -- of inits or not
-  pub end-after : (So (is-init v x) → v .own x ≡ f → ⊥) → After v u s r f g (ended-view v x e) (ended-view u y e)
-  end-after other = subst (λ (b : Bool). After v u s r f g (ended-view v x e) (if b then subtree-gone u (u .own y) y e else member-of u y e)) both-init (go (is-init v x) refl)
-    where
-      go : (b : Bool) → is-init v x ≡ b → Then b
-      go true h = init-after (other h) h
-      go false h = member-after h
+  -- either
+  end-after : (So (is-init v x) → v .own x ≡ f → ⊥) → After v u (ended-view v x e) (ended-view u y e) s r f g
+  end-after other =
+      by-test (is-init v x)
+      (λ h. subst₂ (λ a b. After v u a b s r f g) (sym (ended-init v x e h)) (sym (ended-init u y e (sym both-init ∙ h))) (init-after (other h) h))
+      (λ h. subst₂ (λ a b. After v u a b s r f g) (sym (ended-member v x e h)) (sym (ended-member u y e (sym both-init ∙ h))) (member-after h))
 
 -- the root init is an init, of a namespace at level 0
 zero-init : {v : View} (f : Facts v) (x : ℕ) → x ≡ 0 → So (is-init v x) × (v .level (v .own x) ≡ 0)
@@ -180,26 +176,17 @@ zero-init {v} f x z = let e = ap (v .own) z ∙ f .root-own in (eq-eqb (init v (
 -- an end of two twins that live, none of them the init of the callers' own namespace
 pub end-same : {t u : Table} {s r f g x y : ℕ} (e : End) → Midway t u s r f g → Twin (view t) (view u) s r x y → So (seen (view t) f x) → So (living (view t) x) → So (kept-end (Ended e)) → (So (is-init (view t) x) → view t .own x ≡ f → ⊥) → Onward t u s r f g (end t x e) (end u y e)
 end-same {t} {u} {s} {r} {f} {g} {x} {y} e w k sx lx ok other =
-    let ly : So (living (view u) y) = sym (living-twins pr k) ∙ lx in
+    let ly : So (living (view u) y) = sym (living-twins p k) ∙ lx in
     let ev = end-view t (w .sane-t) x e (lives-taken (view t) x lx) in
     let eu = end-view u (w .sane-u) y e (lives-taken (view u) y ly) in
-    let (alive, (same, (from, targets))) = subst₂ (After (view t) (view u) s r f g) (sym ev) (sym eu) (end-after e pr (w .from) k sx lx (ended-end (view t) x e) (ended-end (view u) y e) both-init other) in
-    (record { sane-t = end-sane t (w .sane-t) x e lx x-other ok; sane-u = end-sane u (w .sane-u) y e ly y-other ok; alive-s = alive .0; alive-r = alive .1; same = same; from = from }, targets)
+    let a = subst₂ (λ v′ u′. After (view t) (view u) v′ u′ s r f g) (sym ev) (sym eu) (end-after e p (w .from) k sx lx other) in
+    (record { sane-t = end-sane t (w .sane-t) x e lx x-other ok; sane-u = end-sane u (w .sane-u) y e ly y-other ok; alive-s = a .alive-v; alive-r = a .alive-u; same = a .same; from = a .from }, a .targets)
   where
-    pr : Pair (view t) (view u) s r
-    pr = pair-of w
-
-    lives : So (alive (view t) (view t .own x))
-    lives = living-own-alive (view t) (w .sane-t .facts) x lx
-
-    both-init : is-init (view t) x ≡ is-init (view u) y
-    both-init = is-init-twins pr k lives
-
-    low : So (is-init (view t) x) → view t .level f < view t .level (view t .own x)
-    low h = deeper e pr (w .from) k sx lx (ended-end (view t) x e) (ended-end (view u) y e) both-init (other h)
+    p : Pair (view t) (view u) s r
+    p = pair-of w
 
     x-other : x ≡ 0 → ⊥
-    x-other z = let (i, l) = zero-init (w .sane-t .facts) x z in omega (arith, l, low i)
+    x-other z = let (i, l) = zero-init (p .facts-v) x z in omega (arith, l, deep e p (w .from) k sx lx (other i))
 
     y-other : y ≡ 0 → ⊥
-    y-other z = let (i, l) = zero-init (w .sane-u .facts) y z in omega (arith, l, low (both-init ∙ i), twins-level pr (owns pr k lives))
+    y-other z = let (i, l) = zero-init (p .facts-u) y z in omega (arith, l, deep e p (w .from) k sx lx (other (both-init e p (w .from) k sx lx ∙ i)), own-levels p k)

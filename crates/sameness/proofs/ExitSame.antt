@@ -9,20 +9,18 @@ use borrow.Author.Tests.{eqb-true, eqb-false, eq-eqb}
 use lib.Dec.{eqb}
 use lib.IntN.{ℤ}
 use Rattle.rules.proofs.Keeps.End.{end-sane, end-tree, end-view}
-use Rattle.rules.proofs.Keeps.InitEnds.{subtree-gone}
 use Rattle.rules.proofs.Laws.Below.{below-level, up-level}
-use Rattle.rules.proofs.Laws.Facts.{Facts, Sane, sane, seen-taken, seen-below}
+use Rattle.rules.proofs.Laws.Facts.{Facts, Sane, sane, seen-below}
 use Rattle.rules.proofs.Laws.Slots.{alive-taken, init-own, root-only, pid-unique, alive-up, init-seen}
 use Rattle.rules.proofs.Laws.Steps.{remainder, runs-lives}
-use Rattle.rules.proofs.Laws.Tests.{right, bool-ext}
+use Rattle.rules.proofs.Laws.Tests.{isnt-so, right, bool-ext}
 use Rattle.rules.proofs.Laws.Tree.{below-refl}
-use Rattle.sameness.proofs.Cases.{by-test}
+use Rattle.sameness.proofs.Cases.{by-test, by-equal}
 use Rattle.sameness.proofs.Calls.{both-refuse, owns-twins, own-lives, taken-s, taken-r}
-use Rattle.sameness.proofs.EndSame.{end-same, pair-of, Midway}
+use Rattle.sameness.proofs.EndSame.{ended-init, end-same, pair-of, Midway}
 use Rattle.sameness.proofs.Freeing.{freed-alike, freed-sheets}
 use Rattle.sameness.proofs.InitEnd.{init-same}
 use Rattle.sameness.proofs.Inside.{Kept, Ready, MadeSame}
-use Rattle.sameness.proofs.MemberEnd.{member-of}
 use Rattle.sameness.proofs.Readers.{is-init-twins}
 use Rattle.sameness.proofs.Same.{Same}
 use Rattle.sameness.proofs.Twins.{pid-in-unseen, top-twins, Pair, Twin, flip-pair, flip-twin, twins-unique, taken-v, taken-u}
@@ -34,7 +32,7 @@ use Rattle.rules.specs.Freeing.{freed}
 use Rattle.rules.specs.Read.{View, alive, init, is-init, namespace-taken, pid-in, pid-seen, seen, view, taken}
 use Rattle.rules.specs.Sound.{SoundTable, kept-end}
 use Rattle.rules.specs.Step.{make}
-use Rattle.table.specs.Tests.{_or_, if_then_else_}
+use Rattle.table.specs.Tests.{_or_}
 use Rattle.table.specs.declared.Call.the-variants.{Exit}
 use Rattle.table.specs.declared.End.the-variants.{Exited}
 use Rattle.table.specs.declared.End.{End}
@@ -54,28 +52,26 @@ zero-there {v} {u} {s} {r} w {i} {j} k z =
     pid-unique u (w .facts-u) r j 0 (alive-taken u (w .facts-u) r (w .alive-u)) (k .seen-u) zero-seen (sym (k .pids) ∙ one ∙ sym one′)
 
 -- the init of the namespace above S is not seen from S
-above-zero : {v : View} (f : Facts v) (s : ℕ) → So (alive v s) → 0 < v .level s → pid-in v s (init v (v .up s)) ≡ 0
+above-zero : {v : View} (f : Facts v) (s n : ℕ) → So (alive v s) → 0 < v .level s → n ≡ s → pid-in v s (init v (v .up n)) ≡ 0
 unfolding seen
-above-zero {v} f s a l =
+above-zero {v} f s n a l q =
     let e : v .level s ≡ suc (pred (v .level s)) = omega arith in
-    pid-in-unseen f s (init v (v .up s))
-    (bool-ext _ _ (λ h. absurd (omega (arith, below-level v f _ s (right _ _ h), ap (v .level) (init-own v f (v .up s) (alive-up v f s _ a e)), up-level v f s _ e))) (λ h. absurd (false≢true h)))
-
-unseen-above : {v : View} (f : Facts v) (s n : ℕ) → So (alive v s) → n ≡ s → 0 < v .level s → pid-in v s (init v (v .up n)) ≡ 0
-unseen-above {v} f s n a e l = ap (λ x. pid-in v s (init v (v .up x))) e ∙ above-zero f s a l
+    ap (λ x. pid-in v s (init v (v .up x))) q
+    ∙ pid-in-unseen f s (init v (v .up s)) (isnt-so (λ h. omega (arith, below-level v f _ s (right _ _ h), ap (v .level) (init-own v f (v .up s) (alive-up v f s _ a e)), up-level v f s _ e)))
 
 -- an init that is not the root's is of a namespace below the root
 init-positive : {v : View} (f : Facts v) (c s : ℕ) → So (is-init v c) → v .own c ≡ s → (c ≡ 0 → ⊥) → So (namespace-taken v s) → 0 < v .level s
 unfolding is-init
-init-positive {v} f c s i o n h = lt-of (λ z. n (sym (eqb-true _ _ i) ∙ ap (init v) (o ∙ root-only v f s h z) ∙ f .root-init))
-  where
-    lt-of : (v .level s ≡ 0 → ⊥) → 0 < v .level s
-    lt-of k = omega arith
+init-positive {v} f c s i o n h =
+    by-equal (v .level s) 0 (λ z. absurd (n (sym (eqb-true _ _ i) ∙ ap (init v) (o ∙ root-only v f s h z) ∙ f .root-init))) (λ z. omega arith)
 
--- a namespace that keeps its level stands on
-stands-as : (v u : View) (n : ℕ) → u .level n ≡ v .level n → So (namespace-taken v n) → So (namespace-taken u n)
+-- an end leaves the levels, so a namespace that stood stands
+end-level : {t : Table} (f : Sane t) (x n : ℕ) (e : End) → So (taken (view t) x) → view (end t x e) .level n ≡ view t .level n
+end-level {t} f x n e h = ap (λ (l : ℕ → ℕ). l n) (end-tree t f x e h .1)
+
+end-stands : {t : Table} (f : Sane t) (x n : ℕ) (e : End) → So (taken (view t) x) → So (namespace-taken (view t) n) → So (namespace-taken (view (end t x e)) n)
 unfolding namespace-taken
-stands-as v u n e h = ap (λ x. eqb n 0 or not (eqb x 0)) e ∙ h
+end-stands f x n e h k = ap (λ l. eqb n 0 or not (eqb l 0)) (end-level f x n e h) ∙ k
 
 module _ {t u : Table} {s r c d : ℕ} (w : Ready t u s r c d) (e : End) (ok : So (kept-end (Ended e))) where
   held : Midway t u s r s r
@@ -103,21 +99,21 @@ module _ {t u : Table} {s r c d : ℕ} (w : Ready t u s r c d) (e : End) (ok : S
       let p = w .pair in
       let tc = taken-v (w .twin) in
       let td = taken-u (w .twin) in
-      let same : Same (view (end t c e)) (view (end u d e)) s r =
+      let ft = held .sane-t in
+      let fu = held .sane-u in
       let id : So (is-init (view u) d) = sym (is-init-twins p (w .twin) (own-lives w)) ∙ ic in
       let od = twins-unique p (owns-twins w) (top-twins p) oc in
-      let positive-s = init-positive (p .facts-v) c s ic oc nc (taken-s w) in
-      let positive-r : 0 < view u .level r = omega (arith, positive-s, p .same .levels) in
-      let positive : 0 < view t .level (view t .own c) = omega (arith, positive-s, ap (view t .level) oc) in
-      subst₂ (λ (a b : View). Same a b s r) (sym (end-view t (held .sane-t) c e tc)) (sym (end-view u (held .sane-u) d e td))
-      (subst₂ (λ (a b : Bool). Same (if a then subtree-gone (view t) (view t .own c) c e else member-of (view t) c e) (if b then subtree-gone (view u) (view u .own d) d e else member-of (view u) d e) s r) (sym ic) (sym id)
-      (init-same p e (w .twin) (own-lives w) positive (unseen-above (p .facts-v) s (view t .own c) (p .alive-v) oc positive-s ∙ sym (unseen-above (p .facts-u) r (view u .own d) (p .alive-u) od positive-r)))) in
-      let ft = end-sane t (held .sane-t) c e (runs-lives t c (w .runs-t)) nc ok in
-      let fu = end-sane u (held .sane-u) d e (runs-lives u d (w .runs-u)) nd ok in
-      inr (refl, freed-sheets t u ft fu (stands t (held .sane-t) c s tc (taken-s w)) (stands u (held .sane-u) d r td (taken-r w)) (λ k. ap (λ (l : ℕ → ℕ). l s) (end-tree t (held .sane-t) c e tc .1)) (λ k. ap (λ (l : ℕ → ℕ). l r) (end-tree u (held .sane-u) d e td .1)) same)
-    where
-      stands : (z : Table) (f : Sane z) (x n : ℕ) → So (taken (view z) x) → So (namespace-taken (view z) n) → So (namespace-taken (view (end z x e)) n)
-      stands z f x n tx k = stands-as (view z) (view (end z x e)) n (ap (λ (l : ℕ → ℕ). l n) (end-tree z f x e tx .1)) k
+      let ls = init-positive (p .facts-v) c s ic oc nc (taken-s w) in
+      let lr : 0 < view u .level r = omega (arith, ls, p .same .levels) in
+      let lc : 0 < view t .level (view t .own c) = omega (arith, ls, ap (view t .level) oc) in
+      let same : Same (view (end t c e)) (view (end u d e)) s r =
+      subst₂ (λ (a b : View). Same a b s r) (sym (end-view t ft c e tc ∙ ended-init (view t) c e ic)) (sym (end-view u fu d e td ∙ ended-init (view u) d e id))
+      (init-same p e (w .twin) (own-lives w) lc (above-zero (p .facts-v) s (view t .own c) (p .alive-v) ls oc ∙ sym (above-zero (p .facts-u) r (view u .own d) (p .alive-u) lr od))) in
+      inr (
+        refl,
+        freed-sheets t u (end-sane t ft c e (runs-lives t c (w .runs-t)) nc ok) (end-sane u fu d e (runs-lives u d (w .runs-u)) nd ok)
+            (end-stands ft c s e tc (taken-s w)) (end-stands fu d r e td (taken-r w)) (λ k. end-level ft c s e tc) (λ k. end-level fu d r e td) same,
+      )
 
 -- exit by twin callers
 pub exit-same : (z : ℤ) → MadeSame (Exit z)

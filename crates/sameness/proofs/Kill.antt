@@ -1,6 +1,5 @@
 -- kill, by twin callers: the same targets in the same order, and the same to each.
 use Prim.Native.Nat.{ℕ, suc, _<_, _≤_}
-use native.Mathlib.Decide.{ℕ-discrete}
 use native.Mathlib.Omega.{arith}
 use mathlib.Core.Bool.{Bool, true, false, not, So, false≢true}
 use mathlib.Core.List.{List, _∷_, map, []}
@@ -23,7 +22,7 @@ use Rattle.sameness.proofs.Cases.{by-test, by-equal}
 use Rattle.sameness.proofs.Calls.{owns-twins, both-refuse}
 use Rattle.sameness.proofs.EndSame.{end-same, pair-of, Midway, Onward, Target, from-after, targets-after}
 use Rattle.sameness.proofs.Freeing.{freed-alike}
-use Rattle.sameness.proofs.Inside.{Ready, Kept, MadeSame}
+use Rattle.sameness.proofs.Inside.{Ready, MadeSame}
 use Rattle.sameness.proofs.Light.{Placed, Shown, shown, same-put, put-other, put-remain}
 use Rattle.sameness.proofs.Readers.{seen-above, twin-eqb, is-init-twins, living-twins}
 use Rattle.sameness.proofs.Same.{seen-listed, listed-seen}

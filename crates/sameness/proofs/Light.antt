@@ -1,7 +1,6 @@
 -- A process put at its slot with its place kept: own namespace, parent and numbers. Its state, its signals, its mark
 -- and its children's namespace may change; two tables on which twins change alike stay the same to S.
 use Prim.Native.Nat.{ℕ, zero, suc}
-use native.Mathlib.Decide.{ℕ-discrete}
 use native.Mathlib.Omega.{arith}
 use mathlib.Core.Bool.{So, false≢true}
 use mathlib.Core.List.{List, _∷_, []}
@@ -9,7 +8,7 @@ use mathlib.Core.Path.{_≡_, refl, sym, _∙_, ap, subst₂}
 use lib.ListN.{getD, set}
 use lib.Seq.{getD-set-same, getD-set-other}
 use Rattle.rules.proofs.Keeps.Changed.{process-count}
-use Rattle.rules.proofs.Laws.Facts.{Facts, seen-taken}
+use Rattle.rules.proofs.Laws.Facts.{Facts}
 use Rattle.sameness.proofs.Cases.{by-equal}
 use Rattle.sameness.proofs.Remain.{Remain, everyone, name-remain, pid-in-remain, same-remain}
 use Rattle.sameness.proofs.Same.{Same}

@@ -1,12 +1,12 @@
 -- unshare, and clone with a new namespace, by twin callers.
 use Prim.Native.Nat.{ℕ}
-use mathlib.Core.Bool.{Bool, true, false}
+use mathlib.Core.Bool.{true}
 use mathlib.Core.Logic.{inr}
 use mathlib.Core.Path.{_≡_, refl, sym, _∙_, ap, subst₂}
 use borrow.Author.Tests.{eqb-false}
 use lib.Dec.{eqb}
 use Rattle.rules.proofs.Keeps.Changes.{namespace-sane, unshare-sane}
-use Rattle.rules.proofs.Laws.Facts.{Sane, sane, seen-taken, seen-below}
+use Rattle.rules.proofs.Laws.Facts.{Sane, sane, seen-below}
 use Rattle.rules.proofs.Laws.Steps.{runs-lives}
 use Rattle.rules.proofs.Laws.Tests.{or-false-left, or-false-right, or-left}
 use Rattle.sameness.proofs.Cases.{by-test}

@@ -6,7 +6,7 @@ use mathlib.Core.Path.{_≡_, refl, sym, _∙_, ap, ap₂, subst}
 use borrow.Author.Tests.{eq-eqb, ne-eqb, eqb-true}
 use lib.Dec.{eqb}
 use Rattle.rules.proofs.Laws.Below.{below-trans}
-use Rattle.rules.proofs.Laws.Facts.{Facts, seen-taken, seen-below, lives-taken}
+use Rattle.rules.proofs.Laws.Facts.{Facts, seen-below, lives-taken}
 use Rattle.rules.proofs.Laws.Find.{Found, find-cases}
 use Rattle.rules.proofs.Laws.Slots.{alive-taken, pid-unique, alive-not-unborn}
 use Rattle.rules.proofs.Laws.Tests.{isnt-so, no-so, left, right, both, bool-ext}

@@ -5,7 +5,7 @@ use mathlib.Core.Bool.{Bool, true, false, not, So, false≢true}
 use mathlib.Core.Path.{_≡_, refl, sym, _∙_, ap, ap₂, fun-ext, subst}
 use lib.Dec.{eqb}
 use Rattle.rules.proofs.Laws.Below.{up-level}
-use Rattle.rules.proofs.Laws.Facts.{Facts, seen-taken}
+use Rattle.rules.proofs.Laws.Facts.{Facts}
 use Rattle.rules.proofs.Laws.Tests.{and-false, choose}
 use Rattle.sameness.proofs.Cases.{by-test}
 use Rattle.sameness.proofs.Anchor.{anchor}

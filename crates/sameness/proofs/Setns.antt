@@ -23,12 +23,11 @@ use Rattle.sameness.proofs.Still.{same-still, put-still}
 use Rattle.sameness.proofs.Twins.{Twin, twin-rows}
 use Rattle.rules.specs.Answers.{answers, granted, refused}
 use Rattle.rules.specs.Calls.{named, set-children, setns}
-use Rattle.sameness.specs.Events.{sheet-of, follow, at}
 use Rattle.table.specs.Limits.{process-slots}
 use Rattle.table.specs.Slots.{process}
 use Rattle.rules.specs.Read.{view, seen, namespace-taken}
 use Rattle.rules.specs.Records.{with-children}
-use Rattle.sameness.specs.Sheet.{Row, row, sheet}
+use Rattle.sameness.specs.Sheet.{Row, row}
 use Rattle.rules.specs.Step.{make}
 use Rattle.table.specs.Tests.{_or_}
 use Rattle.table.specs.declared.Call.the-variants.{Setns}

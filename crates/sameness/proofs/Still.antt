@@ -2,7 +2,7 @@
 use Prim.Native.Nat.{ℕ, suc, _-_, _≤_}
 use native.Mathlib.Decide.{ℕ-discrete}
 use native.Mathlib.Omega.{arith}
-use mathlib.Core.Bool.{Bool, true, false, not, So, false≢true}
+use mathlib.Core.Bool.{Bool, false, not, So, false≢true}
 use mathlib.Core.Logic.{_⊎_, inl, inr, ⊎-elim}
 use mathlib.Core.Path.{_≡_, refl, sym, _∙_, ap, ap₂, fun-ext, subst}
 use lib.Dec.{eqb}
@@ -19,7 +19,7 @@ use Rattle.sameness.proofs.Remain.{Tree, below-stays, name-stays, seen-
 use Rattle.sameness.proofs.Same.{Same}
 use Rattle.table.specs.Limits.{levels, no-slot}
 use Rattle.table.specs.Slots.{init-of, process, pid-at, put}
-use Rattle.rules.specs.Read.{View, below, init, is-init, living, namespace-taken, pid-in, pid-seen, seen, taken, view}
+use Rattle.rules.specs.Read.{View, below, init, is-init, living, namespace-taken, pid-in, pid-seen, seen, view}
 use Rattle.sameness.specs.Sheet.{name, row}
 use Rattle.table.specs.Tests.{_or_, if_then_else_, values}
 use Rattle.table.specs.declared.Life.{Life}

@@ -12,7 +12,7 @@ use Rattle.rules.proofs.Keeps.Changed.{process-count}
 use Rattle.rules.proofs.Keeps.Freed.{freed-view}
 use Rattle.rules.proofs.Keeps.Puts.{reaped-sane, reaped-view}
 use Rattle.rules.proofs.Keeps.Reap.{without}
-use Rattle.rules.proofs.Laws.Facts.{Facts, seen-taken, facts, sane}
+use Rattle.rules.proofs.Laws.Facts.{Facts, facts, sane}
 use Rattle.rules.proofs.Laws.Slots.{init-living, parent-living, child-seen}
 use Rattle.rules.proofs.Laws.Tests.{no-so, zero-or, right, isnt, and-false, true-and, true-or, false-or-true, false-or-false, true-and-false, isnt-not, left, both, any-elim, any-intro, isnt-so, bool-ext}
 use Rattle.rules.proofs.Laws.Tree.{below-refl}
