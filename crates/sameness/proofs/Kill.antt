@@ -51,38 +51,31 @@ use Rattle.table.specs.declared.Table.{Table}
 -- ---- whom a kill finds: pairs of twins, in the same order
 
 -- two lists, related place by place
-abbrev pub Along : (ℕ → ℕ → Type 0) → List ℕ → List ℕ → Type 0
-Along R [] [] = Unit {0}
-Along R [] (y ∷ ys) = ⊥
-Along R (x ∷ xs) [] = ⊥
-Along R (x ∷ xs) (y ∷ ys) = R x y × Along R xs ys
+data Along (R : ℕ → ℕ → Type 0) : List ℕ → List ℕ → Type 0 where
+  end-along : Along R [] []
+  more : {x y : ℕ} {xs ys : List ℕ} → R x y → Along R xs ys → Along R (x ∷ xs) (y ∷ ys)
 
-pub along-length : (R : ℕ → ℕ → Type 0) (xs ys : List ℕ) → Along R xs ys → length xs ≡ length ys
-along-length R [] [] h = refl
-along-length R [] (y ∷ ys) h = absurd h
-along-length R (x ∷ xs) [] h = absurd h
-along-length R (x ∷ xs) (y ∷ ys) h = ap suc (along-length R xs ys (h .1))
+along-length : {R : ℕ → ℕ → Type 0} {xs ys : List ℕ} → Along R xs ys → length xs ≡ length ys
+along-length end-along = refl
+along-length (more r h) = ap suc (along-length h)
 
-along-only : (R : ℕ → ℕ → Type 0) (p q : ℕ → Bool) → ((x y : ℕ) → R x y → p x ≡ q y) → (xs ys : List ℕ) → Along R xs ys → Along R (only p xs) (only q ys)
+along-only : {R : ℕ → ℕ → Type 0} (p q : ℕ → Bool) → ((x y : ℕ) → R x y → p x ≡ q y) → {xs ys : List ℕ} → Along R xs ys → Along R (only p xs) (only q ys)
 unfolding only
-along-only R p q e [] [] h = tt
-along-only R p q e [] (y ∷ ys) h = absurd h
-along-only R p q e (x ∷ xs) [] h = absurd h
-along-only R p q e (x ∷ xs) (y ∷ ys) h = go (p x) (q y) (e x y (h .0)) (along-only R p q e xs ys (h .1))
-  where
-    go : (a b : Bool) → a ≡ b → Along R (only p xs) (only q ys) → Along R (elim a [ true ↦ x ∷ only p xs | false ↦ only p xs ]) (elim b [ true ↦ y ∷ only q ys | false ↦ only q ys ])
-    go true true e r = (h .0, r)
-    go true false e r = absurd (false≢true (sym e))
-    go false true e r = absurd (false≢true e)
-    go false false e r = r
+along-only p q e end-along = end-along
+along-only p q e (more {x = x} {y = y} r h) =
+    by-test (p x) (λ a. rw (a, sym (e x y r) ∙ a, only) (more r (along-only p q e h))) (λ a. rw (a, sym (e x y r) ∙ a, only) (along-only p q e h))
+
+along-with : {R S : ℕ → ℕ → Type 0} (xs : List ℕ) {ys : List ℕ} → ((x y : ℕ) → In x xs → R x y → S x y) → Along R xs ys → Along S xs ys
+along-with [] h end-along = end-along
+along-with (x ∷ xs) h (more r k) = more (h _ _ (inl refl) r) (along-with xs (λ a b m r. h a b (inr m) r) k)
 
 -- lists with the same numbers, place by place
 along-pids : (R : ℕ → ℕ → Type 0) (f g : ℕ → ℕ) (xs ys : List ℕ) → ((x y : ℕ) → In x xs → In y ys → f x ≡ g y → R x y) → map f xs ≡ map g ys → Along R xs ys
-along-pids R f g [] [] h e = tt
+along-pids R f g [] [] h e = end-along
 along-pids R f g [] (y ∷ ys) h e = absurd (not-empty (g y) (map g ys) (sym e))
 along-pids R f g (x ∷ xs) [] h e = absurd (not-empty (f x) (map f xs) e)
 along-pids R f g (x ∷ xs) (y ∷ ys) h e =
-    (h x y (inl refl) (inl refl) (heads-equal _ _ _ _ e), along-pids R f g xs ys (λ a b m k. h a b (inr m) (inr k)) (tails-equal _ _ _ _ e))
+    more (h x y (inl refl) (inl refl) (heads-equal _ _ _ _ e)) (along-pids R f g xs ys (λ a b m k. h a b (inr m) (inr k)) (tails-equal _ _ _ _ e))
 
 pids-sorted : {v : View} (f : Facts v) (n : ℕ) → So (alive v n) → Sorted (λ k. k) (map (pid-seen v n) (all-seen v n))
 unfolding all-seen
@@ -105,32 +98,24 @@ module _ {v u : View} {s r : ℕ} (w : Pair v u s r) where
       subst (λ y. Twin v u s r i y)
       (pid-unique u (w .facts-u) m x j (alive-taken u (w .facts-u) m (l .lives-u)) (sym (seen-twins w p l) ∙ a) b (sym (pid-twins w p l) ∙ e)) p
 
-  pub all-seen-twins : {n m : ℕ} → Twins v u s r n m → Along (Twin v u s r) (all-seen v n) (all-seen u m)
+  all-seen-twins : {n m : ℕ} → Twins v u s r n m → Along (Twin v u s r) (all-seen v n) (all-seen u m)
   all-seen-twins {n} {m} l =
       along-pids (Twin v u s r) (pid-seen v n) (pid-seen u m) (all-seen v n) (all-seen u m)
       (λ i j a b e. twin-of-pid l (listed-seen v n i a) (listed-seen u m j b) e)
       (sorted-unique (λ k. k) _ _ (pids-sorted (w .facts-v) n (l .lives-v)) (pids-sorted (w .facts-u) m (l .lives-u)) (pids-in w l) (pids-in (flip-pair w) (flip-twins l)))
 
 -- the targets are pairs of twins
-pub targets-twins : {t u : Table} {s r i j : ℕ} → Ready t u s r i j → (z : ℤ) → Along (Twin (view t) (view u) s r) (targets (view t) i z) (targets (view u) j z)
+targets-twins : {t u : Table} {s r i j : ℕ} → Ready t u s r i j → (z : ℤ) → Along (Twin (view t) (view u) s r) (targets (view t) i z) (targets (view u) j z)
 unfolding targets others
 targets-twins {t} {u} {s} {r} w (negsuc k) =
-    along-only (Twin (view t) (view u) s r) _ _
+    along-only _ _
     (λ x y p. ap₂ (λ (a b : Bool). not a and not b) (twin-eqb (w .pair) p (w .twin)) (ap (λ n. eqb n 1) (pid-twins (w .pair) p (owns-twins w))))
-    _ _ (all-seen-twins (w .pair) (owns-twins w))
+    (all-seen-twins (w .pair) (owns-twins w))
 targets-twins {t} {u} {s} {r} {i} {j} w (pos k) = go (named-twins w (pos k))
   where
     go : Named t u s r (named (view t) i (pos k)) (named (view u) j (pos k)) → Along (Twin (view t) (view u) s r) (if eqb (named (view t) i (pos k)) process-slots then [] else named (view t) i (pos k) ∷ []) (if eqb (named (view u) j (pos k)) process-slots then [] else named (view u) j (pos k) ∷ [])
-    go (inl (e, d)) = rw (eq-eqb _ _ e, eq-eqb _ _ d) tt
-    go (inr (p, l, m)) = rw (ne-eqb (named (view t) i (pos k)) process-slots (λ e. omega (arith, e)), ne-eqb (named (view u) j (pos k)) process-slots (λ e. omega (arith, e))) (p, tt)
-
--- all of them are seen
-
-pub along-with : (R S : ℕ → ℕ → Type 0) (xs ys : List ℕ) → ((x y : ℕ) → In x xs → R x y → S x y) → Along R xs ys → Along S xs ys
-along-with R S [] [] h k = k
-along-with R S [] (y ∷ ys) h k = k
-along-with R S (x ∷ xs) [] h k = k
-along-with R S (x ∷ xs) (y ∷ ys) h k = (h x y (inl refl) (k .0), along-with R S xs ys (λ a b m r. h a b (inr m) r) (k .1))
+    go (inl (e, d)) = rw (eq-eqb _ _ e, eq-eqb _ _ d) end-along
+    go (inr (p, l, m)) = rw (ne-eqb (named (view t) i (pos k)) process-slots (λ e. omega (arith, e)), ne-eqb (named (view u) j (pos k)) process-slots (λ e. omega (arith, e))) (more p end-along)
 
 -- ---- what a signal does
 
@@ -287,21 +272,13 @@ module _ (n : ℕ) (low : n < signals) where
       by-test (living (view t) x) (λ l. rw (← action-twins w n k) (action-onward w n low k h l (action-on (view t) f x n) refl))
       (λ l. rw (action-none (view t) f x n l, action-none (view u) g y n (sym (living-twins (pair-of w) k) ∙ l)) (w, λ a b h. h))
 
-  along-map : (R S : ℕ → ℕ → Type 0) (xs ys : List ℕ) → ((a b : ℕ) → R a b → S a b) → Along R xs ys → Along S xs ys
-  along-map R S [] [] h k = k
-  along-map R S [] (y ∷ ys) h k = k
-  along-map R S (x ∷ xs) [] h k = k
-  along-map R S (x ∷ xs) (y ∷ ys) h k = (h x y (k .0), along-map R S xs ys h (k .1))
-
   -- all deliveries
-  pub deliver-all-held : (xs ys : List ℕ) {t u : Table} {s r f g : ℕ} → Midway t u s r f g → Along (Target (view t) (view u) s r f) xs ys → Midway (deliver-all t f xs n) (deliver-all u g ys n) s r f g
+  deliver-all-held : (xs : List ℕ) {ys : List ℕ} {t u : Table} {s r f g : ℕ} → Midway t u s r f g → Along (Target (view t) (view u) s r f) xs ys → Midway (deliver-all t f xs n) (deliver-all u g ys n) s r f g
   unfolding deliver-all
-  deliver-all-held [] [] w h = w
-  deliver-all-held [] (y ∷ ys) w h = absurd h
-  deliver-all-held (x ∷ xs) [] w h = absurd h
-  deliver-all-held (x ∷ xs) (y ∷ ys) {t} {u} {s} {r} {f} {g} w h =
-      let (w′, move) = deliver-onward w x y (h .0) in
-      deliver-all-held xs ys w′ (along-map (Target (view t) (view u) s r f) (Target (view (deliver t f x n)) (view (deliver u g y n)) s r f) xs ys move (h .1))
+  deliver-all-held [] w end-along = w
+  deliver-all-held (x ∷ xs) w (more r h) =
+      let (w′, move) = deliver-onward w _ _ r in
+      deliver-all-held xs w′ (along-with xs (λ a b m k. move a b k) h)
 
 -- ---- kill, by twin callers, from what an end does
 
@@ -318,14 +295,14 @@ module _ {t u : Table} {s r i j : ℕ} (w : Ready t u s r i j) where
       }
 
   kill-after : (z : ℤ) (n : ℕ) → n < signals → Midway (deliver-all t (view t .own i) (targets (view t) i z) n) (deliver-all u (view u .own j) (targets (view u) j z) n) s r (view t .own i) (view u .own j)
-  kill-after z n low = deliver-all-held n low _ _ held
-      (along-with (Twin (view t) (view u) s r) (Target (view t) (view u) s r (view t .own i)) (targets (view t) i z) (targets (view u) j z) (λ x y m k. inl (k, targets-seen (view t) i z x m)) (targets-twins w z))
+  kill-after z n low = deliver-all-held n low (targets (view t) i z) held
+      (along-with (targets (view t) i z) (λ x y m k. inl (k, targets-seen (view t) i z x m)) (targets-twins w z))
 
 -- kill by twin callers
 pub kill-same : (z n : ℤ) → MadeSame (Kill z n)
 unfolding MadeSame make kill answers granted
 kill-same z n t u s r i j w h g =
-    let lengths = along-length (Twin (view t) (view u) s r) (targets (view t) i z) (targets (view u) j z) (targets-twins w z) in
+    let lengths = along-length (targets-twins w z) in
     by-test (within 0 signals n)
     (λ ea. by-test (names-group z)
     (λ eb. rw (ea, eb, kill) (both-refuse w Enosys))
