@@ -2,30 +2,30 @@
 use Prim.Native.Nat.{ℕ, zero, suc, _+_, _-_, _<_, _≤_}
 use native.Mathlib.Decide.{ℕ-discrete, decLe}
 use native.Mathlib.Omega.{arith}
-use mathlib.Core.Bool.{Bool, true, false, So, false≢true}
+use mathlib.Core.Bool.{Bool, true, false, not, So, false≢true}
 use mathlib.Core.List.{_∷_}
-use mathlib.Core.Logic.{_⊎_, inl, inr, ⊎-elim}
+use mathlib.Core.Logic.{inl, inr, ⊎-elim}
 use mathlib.Core.Path.{_≡_, refl, sym, _∙_, ap, ap₂, fun-ext, subst}
-use borrow.Author.Tests.{eqb-true, eq-eqb, ne-eqb, le-leb, lt-leb}
+use borrow.Author.Tests.{eqb-false, eqb-true, eq-eqb, ne-eqb, le-leb, lt-leb}
 use lib.Dec.{eqb, leb}
 use Rattle.rules.proofs.Keeps.Birth.{with-born}
-use Rattle.rules.proofs.Laws.Below.{below-level, below-trans}
+use Rattle.rules.proofs.Laws.Below.{below-trans}
 use Rattle.rules.proofs.Laws.Facts.{Facts, lives-taken}
-use Rattle.rules.proofs.Laws.Slots.{own-not-unborn, alive-taken, alive-not-unborn, init-taken, children-of, init-seen, parent-living, below-parent, below-same}
-use Rattle.rules.proofs.Laws.Tests.{zero-or, no-so, bool-ext}
+use Rattle.rules.proofs.Laws.Slots.{init-own, own-not-unborn, alive-not-unborn, init-taken, parent-living}
+use Rattle.rules.proofs.Laws.Tests.{both, zero-or, no-so, bool-ext}
 use Rattle.rules.proofs.Laws.Tree.{below-refl}
-use Rattle.sameness.proofs.Anchor.{name-unborn, is-unborn-name, name-taken, up-below, name-no-slot}
+use Rattle.sameness.proofs.Anchor.{below-up, init-or-none, up-below, name-no-slot}
+use Rattle.sameness.proofs.Cases.{by-test}
 use Rattle.sameness.proofs.Born.{Room, cradle-below, seen-grown, pid-in-grown, life-born, life-new, name-born, name-other, name-new, old, child-seen, Cradles, cradle-next, next-unborn, next-twins, last-twins}
-use Rattle.sameness.proofs.Readers.{is-init-twins}
+use Rattle.sameness.proofs.Readers.{children-taken, children-unborn, ended-twins, living-twins, is-init-twins}
 use Rattle.sameness.proofs.Same.{Same, row-by}
-use Rattle.sameness.proofs.Twins.{top-twins, Pair, Twin, Twins, flip-pair, flip-twin, pid-in-seen, twin-rows, twin-there, twins-level, owns, alive-named, own-names, below-twins, taken-v, taken-u}
-use Rattle.table.specs.Limits.{levels, no-slot}
+use Rattle.sameness.proofs.Twins.{inits-twin, top-twins, Pair, Twin, Twins, flip-pair, flip-twin, pid-in-seen, twin-rows, twin-there, twins-level, owns, alive-named, own-names, below-twins, taken-v, taken-u}
+use Rattle.table.specs.Limits.{levels}
 use Rattle.rules.specs.Pids.{next-pid}
-use Rattle.table.specs.Slots.{init-of, is-alive}
-use Rattle.rules.specs.Read.{View, above-at, alive, below, init, is-init, namespace-taken, pid-in, pid-seen, seen, taken, unborn}
-use Rattle.sameness.specs.Sheet.{Name, Row, by-init, dead-at, name, name-by, no-name, row, unborn-name}
+use Rattle.table.specs.Slots.{init-of}
+use Rattle.rules.specs.Read.{View, above-at, alive, below, init, is-init, living, seen, taken, unborn}
+use Rattle.sameness.specs.Sheet.{Row, by-init, name, row}
 use Rattle.table.specs.Tests.{if_then_else_, values}
-use Rattle.table.specs.declared.Life.the-variants.{Unborn, Alive, Dead}
 use Rattle.table.specs.declared.Life.{Life}
 
 values-same : (f g : ℕ → ℕ) (n k : ℕ) → ((l : ℕ) → k ≤ l → l < k + n → f l ≡ g l) → values f n k ≡ values g n k
@@ -36,50 +36,15 @@ values-same f g (suc n) k h = ap₂ _∷_ (h k (omega arith) (omega arith)) (val
 left-pids : (v : View) (c n k i : ℕ) → eqb i k ≡ false → (a b : ℕ) → values (with-born v c n k .pid i) a b ≡ values (v .pid i) a b
 left-pids v c n k i e a b = ap (λ (f : ℕ → ℕ). values f a b) (fun-ext (λ l. rw e))
 
--- a living namespace's name
-alive-name : {v : View} (f : Facts v) (s n : ℕ) → So (alive v n) → So (seen v s (init v n)) → name v s n ≡ by-init (pid-seen v s (init v n))
-unfolding name-by
-alive-name {v} f s n a h = name-taken f s n (alive-taken v f n a) ∙ go (v .life n) refl a
-  where
-    go : (x : Life) → v .life n ≡ x → So (is-alive x) → name-by v s n x ≡ by-init (pid-seen v s (init v n))
-    go Unborn e z = absurd (false≢true z)
-    go (Alive i) e z = ap by-init (ap (pid-in v s) (sym (ap init-of e)) ∙ pid-in-seen v s (init v n) h)
-    go Dead e z = absurd (false≢true z)
-
-abbrev is-no-name : Name → Bool
-is-no-name (by-init k) = false
-is-no-name (dead-at l k) = false
-is-no-name unborn-name = false
-is-no-name no-name = true
-
--- a namespace has a name
-named : {v : View} (f : Facts v) (s n : ℕ) → So (namespace-taken v n) → name v s n ≡ no-name → ⊥
-unfolding name-by
-named {v} f s n h e = false≢true (sym (go (v .life n)) ∙ ap is-no-name (sym (name-taken f s n h) ∙ e))
-  where
-    go : (x : Life) → is-no-name (name-by v s n x) ≡ false
-    go Unborn = refl
-    go (Alive i) = refl
-    go Dead = refl
-
+-- of a namespace that does not live nobody is the init
 not-init : {v : View} (f : Facts v) (i : ℕ) → So (taken v i) → alive v (v .own i) ≡ false → is-init v i ≡ false
 unfolding is-init
-not-init {v} f i h a = ne-eqb (init v (v .own i)) i (λ e. omega (arith, f .in-range i h, sym (go (v .life (v .own i)) a) ∙ e))
-  where
-    go : (x : Life) → is-alive x ≡ false → init-of x ≡ no-slot
-    go Unborn z = refl
-    go (Alive y) z = absurd (false≢true (sym z))
-    go Dead z = refl
+not-init {v} f i h a = ne-eqb (init v (v .own i)) i (λ e. ⊎-elim (no-so a) (λ q. omega (arith, e, q, f .in-range i h)) (init-or-none v (v .own i)))
 
 -- an unborn namespace lies below a living one if its parent does
 unborn-below : {v : View} (f : Facts v) (n o : ℕ) → So (unborn v n) → v .level n ≡ suc (v .level (v .up n)) → So (alive v o) → below v n o ≡ below v (v .up n) o
-unborn-below {v} f n o h e a = bool-ext _ _ (λ b. below-parent v f n o b (deeper b)) (λ b. below-trans v f n (v .up n) o (up-below f n _ e) b)
-  where
-    deeper : So (below v n o) → v .level o < v .level n
-    deeper b = lt-of (below-level v f n o b) (λ q. false≢true (sym (alive-not-unborn (v .life o) a) ∙ ap (unborn v) (sym (below-same v f n o b q)) ∙ h))
-      where
-        lt-of : v .level o ≤ v .level n → (v .level n ≡ v .level o → ⊥) → v .level o < v .level n
-        lt-of x y = omega arith
+unborn-below {v} f n o h e a =
+    bool-ext _ _ (λ b. below-up f n o b (λ q. no-so (alive-not-unborn (v .life o) a) (subst (λ x. So (unborn v x)) q h))) (λ b. below-trans v f n (v .up n) o (up-below f n _ e) b)
 
 -- the last number that a row shows then
 shows : {v : View} {n k : ℕ} (a : Room v n k) (c : ℕ) (i : ℕ) → So (taken v i) → (if is-init (with-born v c n k) i then with-born v c n k .last (with-born v c n k .own i) else 0) ≡ (if is-init v i then (if below v n (v .own i) then next-pid v (v .own i) else v .last (v .own i)) else 0)
@@ -105,7 +70,7 @@ in-new {v} {n} {k} a c h =
     ap (λ (x : Life). if eqb (init-of x) k then with-born v c n k .last n else 0) (life-new a c h)
     ∙ ap₂ (λ (b d : Bool). if b then (if d then next-pid v n else v .last n) else 0) (eq-eqb k k refl) (below-refl v n)
 
-module _ {v u : View} {s r : ℕ} (w : Pair v u s r) {c d : ℕ} {n m k l : ℕ} (a : Room v n k) (b : Room u m l) (tc : Twin v u s r c d) (cradles : Cradles v u s r n m) (holders : (i j : ℕ) → Twin v u s r i j → So (unborn v n) → eqb (v .children i) n ≡ eqb (u .children j) m) where
+module _ {v u : View} {s r : ℕ} (w : Pair v u s r) {c d : ℕ} {n m k l : ℕ} (a : Room v n k) (b : Room u m l) (tc : Twin v u s r c d) (cradles : Cradles v u s r n m) (holders : (i j : ℕ) → Twin v u s r i j → So (unborn v (v .children i)) → So (unborn u (u .children j)) → eqb (v .children i) n ≡ eqb (u .children j) m) where
   abbrev v′ : View
   v′ = with-born v c n k
 
@@ -126,17 +91,15 @@ module _ {v u : View} {s r : ℕ} (w : Pair v u s r) {c d : ℕ} {n m k l : ℕ}
 
   -- the names of the namespace that the child is born in, then
   cradle-name : name v′ s n ≡ name u′ r m
-  cradle-name = go (unborn v n) refl
+  unfolding row
+  cradle-name =
+      by-test (unborn v n)
+      (λ h. name-new a c s h bn ∙ ap by-init (next-twins w (top-twins w)) ∙ sym (name-new b d r (sym unborn-nm ∙ h) bm))
+      (λ h. name-born a c s n h ∙ alike h cradles ∙ sym (name-born b d r m (sym unborn-nm ∙ h)))
     where
-      go : (z : Bool) → unborn v n ≡ z → name v′ s n ≡ name u′ r m
-      go true h =
-          name-new a c s h bn ∙ ap by-init (next-twins w (top-twins w))
-          ∙ sym (name-new b d r (sym unborn-nm ∙ h) bm)
-      go false h = name-born a c s n h ∙ alike cradles ∙ sym (name-born b d r m (sym unborn-nm ∙ h))
-        where
-          alike : Cradles v u s r n m → name v s n ≡ name u r m
-          alike (inl x) = alive-name (w .facts-v) s n (x .lives-v) (init-seen v (w .facts-v) n s (x .lives-v) (x .below-v)) ∙ ap by-init (x .inits) ∙ sym (alive-name (w .facts-u) r m (x .lives-u) (init-seen u (w .facts-u) m r (x .lives-u) (x .below-u)))
-          alike (inr x) = absurd (false≢true (sym h ∙ x .unborn-v))
+      alike : unborn v n ≡ false → Cradles v u s r n m → name v s n ≡ name u r m
+      alike h (inl x) = ap (name v s) (sym (init-own v (w .facts-v) n (x .lives-v))) ∙ ap (λ (o : Row). o .own) (twin-rows w (inits-twin w x)) ∙ ap (name u r) (init-own u (w .facts-u) m (x .lives-u))
+      alike h (inr x) = absurd (false≢true (sym h ∙ x .unborn-v))
 
   below-cradle : {o o′ : ℕ} → Twins v u s r o o′ → below v n o ≡ below u m o′
   below-cradle {o} {o′} z =
@@ -160,27 +123,22 @@ module _ {v u : View} {s r : ℕ} (w : Pair v u s r) {c d : ℕ} {n m k l : ℕ}
     rows = twin-rows w x
 
     old-children : name v′ s (v .children i) ≡ name u′ r (u .children j)
-    unfolding row
-    old-children = go (children-of v (w .facts-v) i ti) (children-of u (w .facts-u) j tj)
-      where
-        e : name v s (v .children i) ≡ name u r (u .children j)
-        e = ap (λ (o : Row). o .children) rows
-
-        born : So (namespace-taken v (v .children i)) → So (namespace-taken u (u .children j)) → (z : Bool) → unborn v (v .children i) ≡ z → unborn u (u .children j) ≡ z → name v′ s (v .children i) ≡ name u′ r (u .children j)
-        born g h false y y′ = name-born a c s (v .children i) y ∙ e ∙ sym (name-born b d r (u .children j) y′)
-        born g h true y y′ = which (ℕ-discrete n (v .children i)) (ℕ-discrete m (u .children j))
-          where
-            which : Dec (n ≡ v .children i) → Dec (m ≡ u .children j) → name v′ s (v .children i) ≡ name u′ r (u .children j)
-            which (yes q₁) (yes q₂) = ap (name v′ s) (sym q₁) ∙ cradle-name ∙ ap (name u′ r) q₂
-            which (yes q₁) (no q₂) = absurd (q₂ (sym (eqb-true _ _ (sym (holders i j x (ap (unborn v) q₁ ∙ y)) ∙ eq-eqb (v .children i) n (sym q₁)))))
-            which (no q₁) (yes q₂) = absurd (q₁ (sym (eqb-true _ _ (holders i j x (unborn-nm ∙ ap (unborn u) q₂ ∙ y′) ∙ eq-eqb (u .children j) m (sym q₂)))))
-            which (no q₁) (no q₂) = name-other a c s (v .children i) g y q₁ ∙ sym (name-other b d r (u .children j) h y′ q₂)
-
-        go : So (namespace-taken v (v .children i)) ⊎ (v .children i ≡ no-slot) → So (namespace-taken u (u .children j)) ⊎ (u .children j ≡ no-slot) → name v′ s (v .children i) ≡ name u′ r (u .children j)
-        go (inl g) (inl h) = born g h (unborn v (v .children i)) refl (sym (name-unborn (w .facts-u) r (u .children j) h) ∙ sym (ap is-unborn-name e) ∙ name-unborn (w .facts-v) s (v .children i) g)
-        go (inr g) (inr h) = name-no-slot v′ s _ g ∙ sym (name-no-slot u′ r _ h)
-        go (inl g) (inr h) = absurd (named (w .facts-v) s (v .children i) g (e ∙ name-no-slot u r _ h))
-        go (inr g) (inl h) = absurd (named (w .facts-u) r (u .children j) h (sym e ∙ name-no-slot v s _ g))
+    unfolding row living
+    old-children =
+        by-test (v .ended i)
+        (λ e. name-no-slot v′ s _ (w .facts-v .ended-bare i ti e .0 .0 .0) ∙ sym (name-no-slot u′ r _ (w .facts-u .ended-bare j tj (sym (ended-twins w x) ∙ e) .0 .0 .0)))
+        (λ e.
+        let li : So (living v i) = both _ _ ti (ap not e) in
+        let lj : So (living u j) = sym (living-twins w x) ∙ li in
+        let both-unborn = children-unborn w x li in
+        by-test (unborn v (v .children i))
+        (λ y.
+        let y′ : So (unborn u (u .children j)) = sym both-unborn ∙ y in
+        let same = holders i j x y y′ in
+        by-test (eqb (v .children i) n)
+        (λ q. ap (name v′ s) (eqb-true _ _ q) ∙ cradle-name ∙ ap (name u′ r) (sym (eqb-true _ _ (sym same ∙ q))))
+        (λ q. name-other a c s _ (children-taken (w .facts-v) i li) y (λ z. eqb-false _ _ q (sym z)) ∙ sym (name-other b d r _ (children-taken (w .facts-u) j lj) y′ (λ z. eqb-false _ _ (sym same ∙ q) (sym z)))))
+        (λ y. name-born a c s (v .children i) y ∙ ap (λ (o : Row). o .children) rows ∙ sym (name-born b d r (u .children j) (sym both-unborn ∙ y))))
 
     old-last : (if is-init v′ i then v′ .last (v′ .own i) else 0) ≡ (if is-init u′ j then u′ .last (u′ .own j) else 0)
     unfolding row

@@ -2,7 +2,7 @@
 use Prim.Native.Nat.{ℕ, zero, suc}
 use mathlib.Core.Bool.{false, not, So, false≢true}
 use mathlib.Core.Logic.{inl, inr}
-use mathlib.Core.Path.{_≡_, refl, sym, _∙_, ap, subst₂}
+use mathlib.Core.Path.{_≡_, refl, sym, _∙_, ap, subst, subst₂}
 use borrow.Author.Tests.{eqb-true, eqb-false, eq-eqb}
 use lib.Dec.{eqb}
 use Rattle.rules.proofs.Keeps.Birth.{birth-view}
@@ -50,7 +50,7 @@ one-up {v} f n h k = go (v .level n) refl
 
 -- two births by twin callers, on their tables or with a fresh namespace each
 pub born-kept : {t u t₁ u₁ : Table} {s r c d n m : ℕ} (w : Ready t u s r c d) → Sane t₁ → Sane u₁ → Pair (view t₁) (view u₁) s r → Twin (view t₁) (view u₁) s r c d → Cradles (view t₁) (view u₁) s r n m
-    → ((i j : ℕ) → Twin (view t₁) (view u₁) s r i j → So (unborn (view t₁) n) → eqb (view t₁ .children i) n ≡ eqb (view u₁ .children j) m)
+    → ((i j : ℕ) → Twin (view t₁) (view u₁) s r i j → So (unborn (view t₁) (view t₁ .children i)) → So (unborn (view u₁) (view u₁ .children j)) → eqb (view t₁ .children i) n ≡ eqb (view u₁ .children j) m)
     → (free-slot (view t₁) ≡ process-slots → ⊥) → (free-slot (view u₁) ≡ process-slots → ⊥) → SoundTable (birth t₁ c n) → SoundTable (birth u₁ d m) → Kept t u s r (born t c (birth t₁ c n)) (born u d (birth u₁ d m))
 unfolding namespace-taken
 born-kept {t} {u} {t₁} {u₁} {s} {r} {c} {d} {n} {m} w a b p k cradles holders rt ru h g =
@@ -108,13 +108,16 @@ module _ {t u : Table} {s r c d : ℕ} (w : Ready t u s r c d) where
       }))
       (λ h. inl (twins-named (w .pair) (children-names (w .pair) (w .twin) (runs-lives t c (w .runs-t)) h) (alive-otherwise (view t .life (view t .children c)) nd h)))
 
-  holders : (i j : ℕ) → Twin (view t) (view u) s r i j → So (unborn (view t) (view t .children c)) → eqb (view t .children i) (view t .children c) ≡ eqb (view u .children j) (view u .children d)
-  holders i j x h =
-      let h′ = sym unborns ∙ h in
+  holders : (i j : ℕ) → Twin (view t) (view u) s r i j → So (unborn (view t) (view t .children i)) → So (unborn (view u) (view u .children j)) → eqb (view t .children i) (view t .children c) ≡ eqb (view u .children j) (view u .children d)
+  holders i j x h h′ =
       let e = twin-eqb (w .pair) x (w .twin) in
       bool-ext _ _
-      (λ q. eq-eqb _ _ (ap (view u .children) (eqb-true j d (sym e ∙ eq-eqb i c (ft .unborn-one _ hn h i c (taken-v x) (eqb-true _ _ q) (taken-v (w .twin)) refl)))))
-      (λ q. eq-eqb _ _ (ap (view t .children) (eqb-true i c (e ∙ eq-eqb j d (fu .unborn-one _ hm h′ j d (taken-u x) (eqb-true _ _ q) (taken-u (w .twin)) refl)))))
+      (λ q.
+      let z = eqb-true _ _ q in
+      eq-eqb _ _ (ap (view u .children) (eqb-true j d (sym e ∙ eq-eqb i c (ft .unborn-one _ hn (subst (λ n. So (unborn (view t) n)) z h) i c (taken-v x) z (taken-v (w .twin)) refl)))))
+      (λ q.
+      let z = eqb-true _ _ q in
+      eq-eqb _ _ (ap (view t .children) (eqb-true i c (e ∙ eq-eqb j d (fu .unborn-one _ hm (subst (λ n. So (unborn (view u) n)) z h′) j d (taken-u x) z (taken-u (w .twin)) refl)))))
 
 -- no room on one of the tables
 pub no-room-left : (t u : Table) (s r : ℕ) (y : Outcome) → Kept t u s r (refused t Eagain) y

@@ -121,7 +121,7 @@ module _ {t u : Table} {s r c d : ℕ} (w : Ready t u s r c d) (ot : own-level (
 
   cloned-kept : (free-slot (view t) ≡ process-slots → ⊥) → (free-slot (view u) ≡ process-slots → ⊥) → SoundTable (birth tn c (free-namespace-slot (view t))) → SoundTable (birth un d (free-namespace-slot (view u))) → Kept t u s r (born t c (birth tn c (free-namespace-slot (view t)))) (born u d (birth un d (free-namespace-slot (view u))))
   cloned-kept pt pu h g =
-      born-kept w gt gu new-pair new-twin new-cradles (λ i j m z. not-held ft c rt i (taken-v m) ∙ sym (not-held fu d ru j (taken-u m)))
+      born-kept w gt gu new-pair new-twin new-cradles (λ i j m y z. not-held ft c rt i (taken-v m) ∙ sym (not-held fu d ru j (taken-u m)))
       (λ e. pt (sym (same-free t c) ∙ e)) (λ e. pu (sym (same-free u d) ∙ e)) h g
 
 -- ---- the two calls
