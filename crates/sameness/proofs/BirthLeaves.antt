@@ -18,7 +18,7 @@ use Rattle.sameness.proofs.Cases.{by-test}
 use Rattle.sameness.proofs.Born.{Room, below-grown, seen-grown, life-born, life-other, bottom, old}
 use Rattle.sameness.proofs.Freeing.{freed-leaves}
 use Rattle.sameness.proofs.NewNamespace.{new-taken, same-free, new-outside, new-still}
-use Rattle.sameness.proofs.Outside.{MadeLeaves, as-it-was, outsider, stands-leaves, untouched-made}
+use Rattle.sameness.proofs.Calls.{MadeLeaves, as-it-was, outsider, stands-leaves, untouched-made}
 use Rattle.sameness.proofs.Readers.{children-taken}
 use Rattle.sameness.proofs.Same.{Same, same-trans}
 use Rattle.sameness.proofs.Still.{Still, same-still, stands-still, near, put-still}

@@ -1,36 +1,148 @@
--- The calls that leave who is where: getpid, getppid, handle, poll, by twin callers.
+-- What is to prove of each call, made by two running callers with the same number in S and by an outsider; and the
+-- calls that leave who is where: getpid, getppid, handle, poll.
 use Prim.Native.Nat.{ℕ}
-use mathlib.Core.Bool.{Bool, not, So}
-use mathlib.Core.Logic.{inr}
-use mathlib.Core.Path.{_≡_, refl, sym, _∙_, ap, ap₂}
+use mathlib.Core.Bool.{So, Bool, true, false, not, false≢true}
+use mathlib.Core.Logic.{_⊎_, inr}
+use mathlib.Core.Path.{_≡_, refl, sym, subst, _∙_, ap, ap₂}
 use lib.Dec.{eqb}
 use lib.IntN.{ℤ}
 use Rattle.rules.proofs.Laws.Facts.{facts}
+use Rattle.rules.proofs.Laws.Steps.{step-made, runs-lives}
+use Rattle.rules.proofs.Laws.Tests.{left, isnt, right}
 use Rattle.rules.proofs.Laws.Slots.{living-own-alive, alive-taken}
-use Rattle.rules.proofs.Laws.Steps.{runs-lives}
+use Rattle.sameness.proofs.Same.{Same, sheets-of-same}
+use Rattle.sameness.proofs.Twins.{Pair, Twin, Twins, twin-rows, owns, pid-twins}
 use Rattle.sameness.proofs.Cases.{by-test}
-use Rattle.sameness.proofs.Inside.{Kept, Ready, MadeSame, refused-same, stands-same, follow-self}
+use Rattle.sameness.proofs.Still.{same-still, put-still}
 use Rattle.sameness.proofs.Light.{shown, same-put}
 use Rattle.sameness.proofs.Readers.{parent-pid}
-use Rattle.sameness.proofs.Same.{Same, sheets-of-same}
-use Rattle.sameness.proofs.Twins.{Twins, twin-rows, owns, pid-twins}
-use Rattle.rules.specs.Answers.{answers, granted, refused}
-use Rattle.rules.specs.Calls.{getpid, getppid, handle, handle-off, handle-on, natural, poll, within}
-use Rattle.sameness.specs.Events.{at, sheet-of}
-use Rattle.table.specs.Limits.{signals, sigkill, sigstop}
-use Rattle.table.specs.Slots.{process, put}
-use Rattle.rules.specs.Read.{alive, namespace-taken, view}
-use Rattle.rules.specs.Records.{with-signals}
-use Rattle.sameness.specs.Sheet.{row, sheet}
-use Rattle.table.specs.SignalSets.{lowest-signal, with-signal, without-signal}
+use Rattle.rules.specs.Answers.{is-no-room, refused, answers, granted, is-refused}
+use Rattle.sameness.specs.Events.{at, follow, sheet-of, Place, gone, is-inside, outside}
+use Rattle.rules.specs.Read.{namespace-taken, view, seen, alive}
+use Rattle.sameness.specs.Sheet.{sheet, row}
 use Rattle.rules.specs.Sound.{SoundTable}
-use Rattle.rules.specs.Step.{make}
-use Rattle.table.specs.Tests.{_or_}
-use Rattle.table.specs.declared.Answer.the-variants.{Number}
-use Rattle.table.specs.declared.Call.the-variants.{Getpid, Getppid, Handle, Poll}
-use Rattle.table.specs.declared.Refusal.the-variants.{Einval}
+use Rattle.rules.specs.Step.{make, runs}
+use Rattle.table.specs.Tests.{_or_, _and_}
+use Rattle.table.specs.declared.Call.{Call}
+use Rattle.table.specs.declared.Outcome.{Outcome}
 use Rattle.table.specs.declared.Refusal.{Refusal}
 use Rattle.table.specs.declared.Table.{Table}
+use Rattle.rules.specs.Calls.{getpid, getppid, handle, handle-off, handle-on, natural, poll, within}
+use Rattle.table.specs.Limits.{signals, sigkill, sigstop}
+use Rattle.table.specs.Slots.{process, put}
+use Rattle.rules.specs.Records.{with-signals}
+use Rattle.table.specs.SignalSets.{lowest-signal, with-signal, without-signal}
+use Rattle.sameness.specs.Touches.{allowed, touches, touched}
+use Rattle.table.specs.declared.Call.the-variants.{Getpid, Getppid, Handle, Poll}
+use Rattle.table.specs.declared.Answer.the-variants.{Number}
+use Rattle.table.specs.declared.Refusal.the-variants.{Einval}
+
+-- ---- What is to prove of a call made by two running callers with the same number in S
+
+-- S stands at its place, or it was freed
+abbrev pub PlaceStands : Table → Place → Type 0
+PlaceStands t (at s) = So (namespace-taken (view t) s)
+PlaceStands t (gone l) = Unit {0}
+
+-- a call that nobody makes leaves S where it is
+pub follow-self : (t : Table) (p : Place) → PlaceStands t p → follow t t p ≡ p
+unfolding follow
+follow-self t (gone l) h = refl
+follow-self t (at s) h = rw h
+
+-- no room on one table, or the same answer and the same sheet
+abbrev pub Kept : Table → Table → ℕ → ℕ → Outcome → Outcome → Type 0
+Kept t u s r x y =
+    So (is-no-room (x .reply .answer) or is-no-room (y .reply .answer))
+    ⊎ ((x .reply .answer ≡ y .reply .answer) × (sheet-of (x .table) (follow t (x .table) (at s)) ≡ sheet-of (y .table) (follow u (y .table) (at r))))
+
+-- two tables, S alive in both, and two callers, running, with the same number there
+pub record Ready (t u : Table) (s r i j : ℕ) : Type 0 where
+  pub sound-t : SoundTable t
+  pub sound-u : SoundTable u
+  pub pair : Pair (view t) (view u) s r
+  pub twin : Twin (view t) (view u) s r i j
+  pub runs-t : So (runs (view t) i)
+  pub runs-u : So (runs (view u) j)
+
+-- what is left to prove of a call
+unfoldable pub MadeSame : Call → Type 0
+MadeSame c = (t u : Table) (s r i j : ℕ) → Ready t u s r i j → SoundTable (make t i c .table) → SoundTable (make u j c .table) → Kept t u s r (make t i c) (make u j c)
+
+-- a refusal by both
+pub refused-same : (t u : Table) (s r : ℕ) (e : Refusal) → So (namespace-taken (view t) s) → So (namespace-taken (view u) r) → sheet (view t) s ≡ sheet (view u) r → Kept t u s r (refused t e) (refused u e)
+unfolding refused sheet-of
+refused-same t u s r e hs hr q = inr (refl, rw (follow-self t (at s) hs, follow-self u (at r) hr) q)
+
+-- S stands after the call, and the tables are the same to it
+pub stands-same : (t u : Table) {t′ u′ : Table} {s r : ℕ} → SoundTable t′ → SoundTable u′ → So (namespace-taken (view t′) s) → So (namespace-taken (view u′) r) → Same (view t′) (view u′) s r → sheet-of t′ (follow t t′ (at s)) ≡ sheet-of u′ (follow u u′ (at r))
+unfolding follow sheet-of
+stands-same t u {t′} {u′} h g hs hr w = rw (hs, hr) (sheets-of-same (facts t′ h) (facts u′ g) hs hr w)
+
+-- ---- Calls by an outsider that leave who is where: the sheet stays
+
+-- what is to prove of a call made by a running outsider
+unfoldable pub MadeLeaves : Call → Type 0
+MadeLeaves c =
+    (t : Table) (s i : ℕ) → SoundTable t → So (namespace-taken (view t) s) → So (runs (view t) i) → So (allowed t (at s) (outside i c)) → SoundTable (make t i c .table)
+    → sheet-of (make t i c .table) (follow t (make t i c .table) (at s)) ≡ sheet (view t) s
+
+-- the table as it was
+pub as-it-was : (t : Table) (s : ℕ) → So (namespace-taken (view t) s) → sheet-of t (follow t t (at s)) ≡ sheet (view t) s
+unfolding sheet-of
+as-it-was t s h = rw (follow-self t (at s) h)
+
+-- the caller is not of the subtree
+pub outsider : (t : Table) (s i : ℕ) (c : Call) → So (allowed t (at s) (outside i c)) → seen (view t) s i ≡ false
+unfolding allowed is-inside
+outsider t s i c a = isnt _ (left _ _ a)
+
+-- a granted call that is allowed makes no touch
+granted-not : (r b : Bool) → r ≡ false → So (not (not r and b)) → b ≡ false
+unfolding _and_
+granted-not true b e h = absurd (false≢true (sym e))
+granted-not false b e h = isnt b h
+
+-- a granted call that is allowed makes no touch
+pub untouched-made : {t : Table} (s i : ℕ) (c : Call) → SoundTable t → So (runs (view t) i) → So (allowed t (at s) (outside i c)) → (o : Outcome) → make t i c ≡ o → is-refused (o .reply .answer) ≡ false → touched t (o .table) (at s) i c ≡ false
+unfolding allowed touches
+untouched-made {t} s i c h k a o q e =
+    granted-not (is-refused (o .reply .answer)) (touched t (o .table) (at s) i c) e
+    (subst (λ (y : Outcome). So (not (not (is-refused (y .reply .answer)) and touched t (y .table) (at s) i c))) (step-made t i c h k ∙ q) (right _ _ a))
+
+-- S stands, and each row that was there is there, and no other
+pub stands-leaves : {t t′ : Table} {s : ℕ} → SoundTable t → SoundTable t′ → So (namespace-taken (view t) s) → So (namespace-taken (view t′) s) → Same (view t′) (view t) s s → sheet-of t′ (follow t t′ (at s)) ≡ sheet (view t) s
+unfolding follow sheet-of
+stands-leaves {t} {t′} h h′ k k′ w = rw k′ (sheets-of-same (facts t′ h′) (facts t h) k′ k w)
+
+signals-leave : {t : Table} (s i a b : ℕ) → SoundTable t → SoundTable (put t i (with-signals (process t i) a b)) → So (namespace-taken (view t) s) → seen (view t) s i ≡ false → sheet-of (put t i (with-signals (process t i) a b)) (follow t (put t i (with-signals (process t i) a b)) (at s)) ≡ sheet (view t) s
+unfolding namespace-taken
+signals-leave {t} s i a b h g hs o = stands-leaves h g hs hs (same-still (facts t h) (put-still t (facts t h) i (with-signals (process t i) a b) (refl, refl, refl) s o))
+
+pub getpid-leaves : MadeLeaves Getpid
+unfolding MadeLeaves make getpid answers granted
+getpid-leaves t s i h hs k a g = as-it-was t s hs
+
+pub getppid-leaves : MadeLeaves Getppid
+unfolding MadeLeaves make getppid answers granted
+getppid-leaves t s i h hs k a g = as-it-was t s hs
+
+-- handle, and poll
+pub handle-leaves : (z : ℤ) (on : Bool) → MadeLeaves (Handle z on)
+unfolding MadeLeaves make handle handle-on handle-off answers granted refused
+handle-leaves z on t s i h hs k a g =
+    by-test (not (within 1 signals z) or eqb (natural z) sigkill or eqb (natural z) sigstop) (λ e. rw (e, handle) (as-it-was t s hs))
+    (λ e. by-test on
+    (λ q. rw (e, q, handle) (signals-leave s i _ _ h (rw (e, q, handle) at g) hs (outsider t s i (Handle z on) a)))
+    (λ q. rw (e, q, handle) (signals-leave s i _ _ h (rw (e, q, handle) at g) hs (outsider t s i (Handle z on) a))))
+
+pub poll-leaves : MadeLeaves Poll
+unfolding MadeLeaves make poll answers granted
+poll-leaves t s i h hs k a g =
+    by-test (eqb (lowest-signal (process t i .pending)) signals) (λ e. rw (e, poll) (as-it-was t s hs))
+    (λ e. rw (e, poll) (signals-leave s i _ _ h (rw (e, poll) at g) hs (outsider t s i Poll a)))
+
+-- ---- The calls that leave who is where: getpid, getppid, handle, poll, by twin callers
 
 module _ {t u : Table} {s r i j : ℕ} (w : Ready t u s r i j) where
   pub taken-s : So (namespace-taken (view t) s)

@@ -16,8 +16,7 @@ use Rattle.sameness.proofs.Anchor.{root-alive, is-dead-name, name-taken
 use Rattle.sameness.proofs.BirthSame.{birth-same}
 use Rattle.sameness.proofs.Cases.{by-test}
 use Rattle.sameness.proofs.Born.{cradle-stands, Cradles, next-twins}
-use Rattle.sameness.proofs.Calls.{both-refuse, owns-twins, the-rows}
-use Rattle.sameness.proofs.Inside.{Kept, Ready, MadeSame, stands-same}
+use Rattle.sameness.proofs.Calls.{Kept, Ready, MadeSame, stands-same, both-refuse, owns-twins, the-rows}
 use Rattle.sameness.proofs.Readers.{children-names, children-unborn, twin-eqb, children-taken}
 use Rattle.sameness.proofs.Same.{Same}
 use Rattle.sameness.proofs.Twins.{Pair, Twin, Twins, taken-v, taken-u, twins-named}

@@ -1,12 +1,13 @@
--- Demand 3: one induction over the two lists of calls, from what single calls do.
+-- Demand 3: one induction over the two lists of calls, from what single calls do; and its corollary that people will
+-- quote, that nothing is learnt inside of what stands outside.
 use Prim.Native.Nat.{ℕ}
 use native.Mathlib.Omega.{arith}
-use mathlib.Core.Bool.{Bool, true, false, So, false≢true}
+use mathlib.Core.Bool.{Bool, true, false, So, false≢true, true≢false}
 use mathlib.Core.List.{List, _∷_, []}
 use mathlib.Core.Logic.{_⊎_, inl, inr, ⊎-elim}
 use mathlib.Core.Option.{Option, none, some}
 use mathlib.Core.Path.{_≡_, refl, sym, _∙_, ap, subst}
-use borrow.Author.Tests.{eq-eqb, ne-eqb}
+use borrow.Author.Tests.{eq-eqb, ne-eqb, not-true}
 use Rattle.rules.proofs.Keeps.Changes.{keeps-sound, make-sound}
 use Rattle.rules.proofs.Laws.Facts.{facts, seen-taken, seen-below}
 use Rattle.rules.proofs.Laws.Lists.{heads-equal, tails-equal, not-empty}
@@ -15,21 +16,19 @@ use Rattle.rules.proofs.Laws.Steps.{step-made, step-refused, runs-lives}
 use Rattle.rules.proofs.Laws.Tests.{left, right}
 use Rattle.sameness.proofs.Cases.{by-test}
 use Rattle.sameness.proofs.BirthLeaves.{clone-leaves, clone-new-leaves, unshare-leaves}
-use Rattle.sameness.proofs.Calls.{getpid-same, getppid-same, handle-same, poll-same}
+use Rattle.sameness.proofs.Calls.{MadeSame, PlaceStands, follow-self, refused-same, MadeLeaves, getpid-leaves, getppid-leaves, handle-leaves, poll-leaves, as-it-was, getpid-same, getppid-same, handle-same, poll-same}
 use Rattle.sameness.proofs.CloneSame.{clone-same}
 use Rattle.sameness.proofs.EndLeaves.{exit-leaves}
 use Rattle.sameness.proofs.ExitSame.{exit-same}
-use Rattle.sameness.proofs.Inside.{MadeSame, PlaceStands, follow-self, refused-same}
 use Rattle.sameness.proofs.Kill.{kill-same}
 use Rattle.sameness.proofs.KillLeaves.{kill-leaves}
 use Rattle.sameness.proofs.NewNamespaceSame.{clone-new-same, unshare-same}
-use Rattle.sameness.proofs.Outside.{MadeLeaves, getpid-leaves, getppid-leaves, handle-leaves, poll-leaves, as-it-was}
 use Rattle.sameness.proofs.Same.{Callers, find-same, find-none, same-of-sheets, level-lt, row-pid}
 use Rattle.sameness.proofs.Setns.{setns-same, setns-leaves}
 use Rattle.sameness.proofs.Wait.{wait-leaves, wait-same}
 use Rattle.rules.specs.Answers.{is-no-room, refused}
 use Rattle.rules.specs.Claims.{KeepsSound}
-use Rattle.sameness.specs.Claims.{Agree, Observed, OutsideLeaves, Sameness, observations, observe, lacks-room}
+use Rattle.sameness.specs.Claims.{Agree, Observed, OutsideLeaves, Sameness, observations, observe, lacks-room, NothingLearnt, roomy}
 use Rattle.sameness.specs.Events.{Event, Place, answer-of, at, follow, gone, happens, inside, inside-calls, next-place, next-table, outside, sheet-of, slot-of, table-after}
 use Rattle.table.specs.Limits.{process-slots}
 use Rattle.table.specs.Slots.{is-running}
@@ -44,6 +43,9 @@ use Rattle.table.specs.declared.Call.{Call}
 use Rattle.table.specs.declared.Outcome.{Outcome}
 use Rattle.table.specs.declared.Refusal.the-variants.{NotRunning}
 use Rattle.table.specs.declared.Table.{Table}
+use Rattle.table.proofs.Chains.{or-false}
+
+-- ---- Demand 3: one induction over the two lists of calls, from what single calls do
 
 -- ---- each call
 
@@ -280,3 +282,24 @@ pub sameness : Sameness
 unfolding Sameness sheet-of
 sameness t u s r h g a b e es fs i x y =
     both-lists es fs t u (at s) (at r) (record { sound-t = h; sound-u = g; stands-t = alive-taken (view t) (facts t h) s a; stands-u = alive-taken (view u) (facts u g) r b; sheets = e }) i x y
+
+-- ---- The corollary of demand 3 that people will quote: nothing is learnt inside of what stands outside
+
+-- what agrees up to the first "no room" is the same where there is none
+agreed : (os qs : List Observed) → Agree os qs → So (roomy os) → So (roomy qs) → os ≡ qs
+unfolding Agree roomy
+agreed [] [] a h k = refl
+agreed [] (q ∷ qs) a h k = absurd a
+agreed (o ∷ os) [] a h k = absurd a
+agreed (o ∷ os) (q ∷ qs) a h k =
+    let none : (lacks-room o or lacks-room q) ≡ false =
+    or-false (lacks-room o) (lacks-room q) (not-true (lacks-room o) (left _ _ h)) (not-true (lacks-room q) (left _ _ k)) in
+    go (lacks-room o or lacks-room q) none a (λ b. agreed os qs b (right _ _ h) (right _ _ k))
+  where
+    go : (b : Bool) → b ≡ false → (if b then Unit {0} else ((o ≡ q) × Agree os qs)) → (Agree os qs → os ≡ qs) → _≡_ {A = List Observed} (o ∷ os) (q ∷ qs)
+    go true e a f = absurd (true≢false e)
+    go false e a f = ap (λ x. x ∷ os) (a .0) ∙ ap (λ x. q ∷ x) (f (a .1))
+
+pub nothing-learnt : NothingLearnt
+unfolding NothingLearnt Sameness
+nothing-learnt t u s r a b c d e es fs i j k h g = agreed _ _ (sameness t u s r a b c d e es fs i j k) h g

@@ -19,8 +19,8 @@ use Rattle.rules.proofs.Laws.Tests.{no-so, isnt-so, choose, right, both, cases,
 use Rattle.rules.proofs.Laws.Tree.{below-refl}
 use Rattle.sameness.proofs.Freeing.{freed-leaves}
 use Rattle.sameness.proofs.Fallen.{not-seen-stays, fallen-places}
-use Rattle.sameness.proofs.MemberEnd.{member-of}
-use Rattle.sameness.proofs.Outside.{MadeLeaves, as-it-was, outsider, untouched-made}
+use Rattle.sameness.proofs.Ends.{member-of}
+use Rattle.sameness.proofs.Calls.{MadeLeaves, as-it-was, outsider, untouched-made}
 use Rattle.sameness.proofs.Twins.{pid-in-unseen}
 use Rattle.sameness.proofs.Remain.{seen-remain, seen-gone}
 use Rattle.sameness.proofs.Still.{Still, same-still, stands-still, near}

@@ -15,8 +15,7 @@ use Rattle.rules.proofs.Laws.Tests.{false-and, no-so, isnt-so, and-not, choose}
 use Rattle.sameness.proofs.Anchor.{deeper}
 use Rattle.sameness.proofs.Cases.{by-test}
 use Rattle.sameness.proofs.Fallen.{fallen, fallen-places, init-stays}
-use Rattle.sameness.proofs.InitEnd.{both-stay, init-same}
-use Rattle.sameness.proofs.MemberEnd.{member-remain, member-same, member-of}
+use Rattle.sameness.proofs.Ends.{member-remain, member-same, member-of, both-stay, init-same}
 use Rattle.sameness.proofs.Readers.{living-twins, is-init-twins, above-pid}
 use Rattle.sameness.proofs.Remain.{Places, everyone, below-stays, pid-remain, seen-remain, twin-remain}
 use Rattle.sameness.proofs.Same.{Same}

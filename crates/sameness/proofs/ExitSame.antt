@@ -16,11 +16,10 @@ use Rattle.rules.proofs.Laws.Steps.{remainder, runs-lives}
 use Rattle.rules.proofs.Laws.Tests.{isnt-so, right, bool-ext}
 use Rattle.rules.proofs.Laws.Tree.{below-refl}
 use Rattle.sameness.proofs.Cases.{by-test, by-equal}
-use Rattle.sameness.proofs.Calls.{both-refuse, owns-twins, own-lives, taken-s, taken-r}
+use Rattle.sameness.proofs.Calls.{Kept, Ready, MadeSame, both-refuse, owns-twins, own-lives, taken-s, taken-r}
 use Rattle.sameness.proofs.EndSame.{ended-init, end-same, pair-of, Midway}
 use Rattle.sameness.proofs.Freeing.{freed-alike, freed-sheets}
-use Rattle.sameness.proofs.InitEnd.{init-same}
-use Rattle.sameness.proofs.Inside.{Kept, Ready, MadeSame}
+use Rattle.sameness.proofs.Ends.{init-same}
 use Rattle.sameness.proofs.Readers.{is-init-twins}
 use Rattle.sameness.proofs.Same.{Same}
 use Rattle.sameness.proofs.Twins.{pid-in-unseen, top-twins, Pair, Twin, flip-pair, flip-twin, twins-unique, taken-v, taken-u}

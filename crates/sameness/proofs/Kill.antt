@@ -19,10 +19,9 @@ use Rattle.rules.proofs.Laws.Lists.{In, in-map, map-in, ascending-sorted, Sorte
 use Rattle.rules.proofs.Laws.Slots.{pid-unique, alive-taken, living-own-alive, root-only, own-taken}
 use Rattle.rules.proofs.Laws.Tests.{left, right, both, or-true, bool-ext}
 use Rattle.sameness.proofs.Cases.{by-test, by-equal}
-use Rattle.sameness.proofs.Calls.{owns-twins, both-refuse}
+use Rattle.sameness.proofs.Calls.{Ready, MadeSame, owns-twins, both-refuse}
 use Rattle.sameness.proofs.EndSame.{end-same, pair-of, Midway, Onward, Target, from-after, targets-after}
 use Rattle.sameness.proofs.Freeing.{freed-alike}
-use Rattle.sameness.proofs.Inside.{Ready, MadeSame}
 use Rattle.sameness.proofs.Light.{Placed, Shown, shown, same-put, put-other, put-remain}
 use Rattle.sameness.proofs.Readers.{seen-above, twin-eqb, is-init-twins, living-twins}
 use Rattle.sameness.proofs.Same.{seen-listed, listed-seen}

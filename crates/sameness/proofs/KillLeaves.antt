@@ -20,7 +20,7 @@ use Rattle.sameness.proofs.EndSame.{ended-end}
 use Rattle.sameness.proofs.Freeing.{freed-leaves}
 use Rattle.sameness.proofs.Kill.{not-living-put, resumed-placed, action-none}
 use Rattle.sameness.proofs.Light.{Placed}
-use Rattle.sameness.proofs.Outside.{MadeLeaves, as-it-was, untouched-made}
+use Rattle.sameness.proofs.Calls.{MadeLeaves, as-it-was, untouched-made}
 use Rattle.sameness.proofs.Same.{Same, same-trans}
 use Rattle.sameness.proofs.Still.{Still, same-still, stands-still, above-still, put-still}
 use Rattle.rules.specs.Answers.{answers, granted, is-refused, refused}

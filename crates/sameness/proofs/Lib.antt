@@ -12,14 +12,11 @@ pub mod Light
 pub mod Still
 pub mod Freeing
 -- each call, by two callers with the same number in S and by an outsider
-pub mod Inside
-pub mod Outside
 pub mod Calls
 pub mod Setns
 pub mod Wait
-pub mod MemberEnd
 pub mod Fallen
-pub mod InitEnd
+pub mod Ends
 pub mod EndSame
 pub mod ExitSame
 pub mod EndLeaves
@@ -33,7 +30,6 @@ pub mod NewNamespaceSame
 pub mod BirthLeaves
 -- the two lists, and what people will quote of them
 pub mod Demand3
-pub mod Learnt
 -- where it applies, by computation
 pub mod Open
 pub mod Witness

@@ -11,10 +11,9 @@ use Rattle.rules.proofs.Laws.Steps.{runs-lives}
 use Rattle.rules.proofs.Laws.Tests.{or-false-left, or-false-right, or-left}
 use Rattle.sameness.proofs.Cases.{by-test}
 use Rattle.sameness.proofs.Born.{Cradles}
-use Rattle.sameness.proofs.Calls.{both-refuse, owns-twins, own-lives, taken-s, taken-r}
+use Rattle.sameness.proofs.Calls.{Kept, Ready, MadeSame, both-refuse, owns-twins, own-lives, taken-s, taken-r}
 use Rattle.sameness.proofs.CloneSame.{born-kept, no-room-left, no-room-right, one-up}
 use Rattle.sameness.proofs.Freeing.{freed-alike}
-use Rattle.sameness.proofs.Inside.{Kept, Ready, MadeSame}
 use Rattle.sameness.proofs.Light.{shown, same-put}
 use Rattle.sameness.proofs.NewNamespace.{the-namespace, new-name, new-taken, new-still, new-unborn, not-held, same-free}
 use Rattle.sameness.proofs.Same.{same-trans}

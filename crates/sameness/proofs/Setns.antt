@@ -13,11 +13,9 @@ use Rattle.rules.proofs.Laws.Find.{named-seen}
 use Rattle.rules.proofs.Laws.Steps.{runs-lives}
 use Rattle.rules.proofs.Laws.Tests.{or-false-left}
 use Rattle.sameness.proofs.Cases.{by-test}
-use Rattle.sameness.proofs.Calls.{both-refuse, owns-twins}
+use Rattle.sameness.proofs.Calls.{Kept, Ready, MadeSame, MadeLeaves, as-it-was, outsider, both-refuse, owns-twins}
 use Rattle.sameness.proofs.Light.{shown, same-put}
 use Rattle.sameness.proofs.Freeing.{freed-alike, freed-leaves}
-use Rattle.sameness.proofs.Inside.{Kept, Ready, MadeSame}
-use Rattle.sameness.proofs.Outside.{MadeLeaves, as-it-was, outsider}
 use Rattle.sameness.proofs.Readers.{find-twins, ended-twins}
 use Rattle.sameness.proofs.Still.{same-still, put-still}
 use Rattle.sameness.proofs.Twins.{Twin, twin-rows}

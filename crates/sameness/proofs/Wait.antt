@@ -18,12 +18,10 @@ use Rattle.rules.proofs.Laws.Tests.{no-so, zero-or, right, isnt, and-false, tru
 use Rattle.rules.proofs.Laws.Tree.{below-refl}
 use Rattle.sameness.proofs.Cases.{by-test}
 use Rattle.sameness.proofs.Anchor.{init-or-none}
-use Rattle.sameness.proofs.Calls.{both-refuse, both-tell, owns-twins}
+use Rattle.sameness.proofs.Calls.{Kept, Ready, MadeSame, MadeLeaves, as-it-was, untouched-made, both-refuse, both-tell, owns-twins}
 use Rattle.sameness.proofs.Light.{shown}
 use Rattle.sameness.proofs.Freeing.{freed-alike, freed-leaves}
-use Rattle.sameness.proofs.Inside.{Kept, Ready, MadeSame}
 use Rattle.sameness.proofs.Kill.{twin-of-pid}
-use Rattle.sameness.proofs.Outside.{MadeLeaves, as-it-was, untouched-made}
 use Rattle.sameness.proofs.Readers.{twin-eqb, child-twins, seen-above, ended-twins}
 use Rattle.sameness.proofs.Remain.{Remain, Lit, same-remain, pid-in-remain, name-remain, everyone, seen-remain, seen-gone}
 use Rattle.sameness.proofs.Same.{Same}
