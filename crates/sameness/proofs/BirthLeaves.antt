@@ -16,7 +16,7 @@ use Rattle.rules.proofs.Laws.Tests.{no-so, isnt-so, left, right, cases, or-fals
 use Rattle.rules.proofs.Laws.Tree.{below-refl}
 use Rattle.sameness.proofs.Cases.{by-test}
 use Rattle.sameness.proofs.Born.{Room, below-grown, seen-grown, life-born, life-other, bottom, old}
-use Rattle.sameness.proofs.Freeing.{freed-leaves}
+use Rattle.sameness.proofs.Freeing.{after, freed-leaves}
 use Rattle.sameness.proofs.NewNamespace.{new-taken, same-free, new-outside, new-still}
 use Rattle.sameness.proofs.Calls.{MadeLeaves, as-it-was, outsider, stands-leaves, untouched-made}
 use Rattle.sameness.proofs.Readers.{children-taken}
@@ -25,7 +25,7 @@ use Rattle.sameness.proofs.Still.{Still, same-still, stands-still, near
 use Rattle.rules.specs.Answers.{is-refused, refused, answers, granted}
 use Rattle.rules.specs.Births.{birth}
 use Rattle.rules.specs.Calls.{born, clone, clone-new, new-namespace, own-level, set-children, unshare}
-use Rattle.sameness.specs.Events.{at, follow, namespace-inside, sheet-of}
+use Rattle.sameness.specs.Events.{at, namespace-inside}
 use Rattle.table.specs.Limits.{deepest, namespace-slots, process-slots}
 use Rattle.rules.specs.Pids.{free-namespace-slot, free-slot, next-pid}
 use Rattle.table.specs.Slots.{process}
@@ -109,7 +109,7 @@ pub clone-new-leaves : MadeLeaves CloneNew
 unfolding MadeLeaves make clone-new refused
 clone-new-leaves t s i h hs k a g = go (eqb (own-level (view t) i) deepest) refl (eqb (free-slot (view t)) process-slots or eqb (free-namespace-slot (view t)) namespace-slots) refl g
   where
-    go : (x : Bool) → eqb (own-level (view t) i) deepest ≡ x → (b : Bool) → eqb (free-slot (view t)) process-slots or eqb (free-namespace-slot (view t)) namespace-slots ≡ b → SoundTable (clone-new t i .table) → sheet-of (clone-new t i .table) (follow t (clone-new t i .table) (at s)) ≡ sheet (view t) s
+    go : (x : Bool) → eqb (own-level (view t) i) deepest ≡ x → (b : Bool) → eqb (free-slot (view t)) process-slots or eqb (free-namespace-slot (view t)) namespace-slots ≡ b → SoundTable (clone-new t i .table) → after t s (clone-new t i .table) ≡ sheet (view t) s
     go true ea b eb g = rw (ea, clone-new) (as-it-was t s hs)
     go false ea true eb g = rw (ea, eb, clone-new) (as-it-was t s hs)
     go false ea false eb g =

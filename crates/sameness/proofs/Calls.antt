@@ -10,6 +10,7 @@ use Rattle.rules.proofs.Laws.Facts.{facts}
 use Rattle.rules.proofs.Laws.Steps.{step-made, runs-lives}
 use Rattle.rules.proofs.Laws.Tests.{left, isnt, right}
 use Rattle.rules.proofs.Laws.Slots.{living-own-alive, alive-taken}
+use Rattle.sameness.proofs.Freeing.{after}
 use Rattle.sameness.proofs.Same.{Same, sheets-of-same}
 use Rattle.sameness.proofs.Twins.{Pair, Twin, Twins, twin-rows, owns, pid-twins}
 use Rattle.sameness.proofs.Cases.{by-test}
@@ -54,7 +55,7 @@ follow-self t (at s) h = rw h
 abbrev pub Kept : Table → Table → ℕ → ℕ → Outcome → Outcome → Type 0
 Kept t u s r x y =
     So (is-no-room (x .reply .answer) or is-no-room (y .reply .answer))
-    ⊎ ((x .reply .answer ≡ y .reply .answer) × (sheet-of (x .table) (follow t (x .table) (at s)) ≡ sheet-of (y .table) (follow u (y .table) (at r))))
+    ⊎ ((x .reply .answer ≡ y .reply .answer) × (after t s (x .table) ≡ after u r (y .table)))
 
 -- two tables, S alive in both, and two callers, running, with the same number there
 pub record Ready (t u : Table) (s r i j : ℕ) : Type 0 where
@@ -75,7 +76,7 @@ unfolding refused sheet-of
 refused-same t u s r e hs hr q = inr (refl, rw (follow-self t (at s) hs, follow-self u (at r) hr) q)
 
 -- S stands after the call, and the tables are the same to it
-pub stands-same : (t u : Table) {t′ u′ : Table} {s r : ℕ} → SoundTable t′ → SoundTable u′ → So (namespace-taken (view t′) s) → So (namespace-taken (view u′) r) → Same (view t′) (view u′) s r → sheet-of t′ (follow t t′ (at s)) ≡ sheet-of u′ (follow u u′ (at r))
+pub stands-same : (t u : Table) {t′ u′ : Table} {s r : ℕ} → SoundTable t′ → SoundTable u′ → So (namespace-taken (view t′) s) → So (namespace-taken (view u′) r) → Same (view t′) (view u′) s r → after t s t′ ≡ after u r u′
 unfolding follow sheet-of
 stands-same t u {t′} {u′} h g hs hr w = rw (hs, hr) (sheets-of-same (facts t′ h) (facts u′ g) hs hr w)
 
@@ -85,10 +86,10 @@ stands-same t u {t′} {u′} h g hs hr w = rw (hs, hr) (sheets-of-same (facts t
 unfoldable pub MadeLeaves : Call → Type 0
 MadeLeaves c =
     (t : Table) (s i : ℕ) → SoundTable t → So (namespace-taken (view t) s) → So (runs (view t) i) → So (allowed t (at s) (outside i c)) → SoundTable (make t i c .table)
-    → sheet-of (make t i c .table) (follow t (make t i c .table) (at s)) ≡ sheet (view t) s
+    → after t s (make t i c .table) ≡ sheet (view t) s
 
 -- the table as it was
-pub as-it-was : (t : Table) (s : ℕ) → So (namespace-taken (view t) s) → sheet-of t (follow t t (at s)) ≡ sheet (view t) s
+pub as-it-was : (t : Table) (s : ℕ) → So (namespace-taken (view t) s) → after t s t ≡ sheet (view t) s
 unfolding sheet-of
 as-it-was t s h = rw (follow-self t (at s) h)
 
@@ -111,11 +112,11 @@ untouched-made {t} s i c h k a o q e =
     (subst (λ (y : Outcome). So (not (not (is-refused (y .reply .answer)) and touched t (y .table) (at s) i c))) (step-made t i c h k ∙ q) (right _ _ a))
 
 -- S stands, and each row that was there is there, and no other
-pub stands-leaves : {t t′ : Table} {s : ℕ} → SoundTable t → SoundTable t′ → So (namespace-taken (view t) s) → So (namespace-taken (view t′) s) → Same (view t′) (view t) s s → sheet-of t′ (follow t t′ (at s)) ≡ sheet (view t) s
+pub stands-leaves : {t t′ : Table} {s : ℕ} → SoundTable t → SoundTable t′ → So (namespace-taken (view t) s) → So (namespace-taken (view t′) s) → Same (view t′) (view t) s s → after t s t′ ≡ sheet (view t) s
 unfolding follow sheet-of
 stands-leaves {t} {t′} h h′ k k′ w = rw k′ (sheets-of-same (facts t′ h′) (facts t h) k′ k w)
 
-signals-leave : {t : Table} (s i a b : ℕ) → SoundTable t → SoundTable (put t i (with-signals (process t i) a b)) → So (namespace-taken (view t) s) → seen (view t) s i ≡ false → sheet-of (put t i (with-signals (process t i) a b)) (follow t (put t i (with-signals (process t i) a b)) (at s)) ≡ sheet (view t) s
+signals-leave : {t : Table} (s i a b : ℕ) → SoundTable t → SoundTable (put t i (with-signals (process t i) a b)) → So (namespace-taken (view t) s) → seen (view t) s i ≡ false → after t s (put t i (with-signals (process t i) a b)) ≡ sheet (view t) s
 unfolding namespace-taken
 signals-leave {t} s i a b h g hs o = stands-leaves h g hs hs (same-still (facts t h) (put-still t (facts t h) i (with-signals (process t i) a b) (refl, refl, refl) s o))
 

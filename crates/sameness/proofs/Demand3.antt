@@ -9,21 +9,23 @@ use mathlib.Core.Option.{Option, none, some}
 use mathlib.Core.Path.{_≡_, refl, sym, _∙_, ap, subst}
 use borrow.Author.Tests.{eq-eqb, ne-eqb, not-true}
 use Rattle.rules.proofs.Keeps.Changes.{keeps-sound, make-sound}
-use Rattle.rules.proofs.Laws.Facts.{facts, seen-taken, seen-below}
+use Rattle.rules.proofs.Laws.Facts.{facts, seen-below}
 use Rattle.rules.proofs.Laws.Lists.{heads-equal, tails-equal, not-empty}
 use Rattle.rules.proofs.Laws.Slots.{alive-taken, living-own-alive, alive-above, pid-unique}
 use Rattle.rules.proofs.Laws.Steps.{step-made, step-refused, runs-lives}
 use Rattle.rules.proofs.Laws.Tests.{left, right}
 use Rattle.sameness.proofs.Cases.{by-test}
 use Rattle.sameness.proofs.BirthLeaves.{clone-leaves, clone-new-leaves, unshare-leaves}
-use Rattle.sameness.proofs.Calls.{MadeSame, PlaceStands, follow-self, refused-same, MadeLeaves, getpid-leaves, getppid-leaves, handle-leaves, poll-leaves, as-it-was, getpid-same, getppid-same, handle-same, poll-same}
+use Rattle.sameness.proofs.Calls.{Kept, MadeSame, PlaceStands, follow-self, refused-same, MadeLeaves, getpid-leaves, getppid-leaves, handle-leaves, poll-leaves, as-it-was, getpid-same, getppid-same, handle-same, poll-same}
 use Rattle.sameness.proofs.CloneSame.{clone-same}
 use Rattle.sameness.proofs.EndLeaves.{exit-leaves}
 use Rattle.sameness.proofs.ExitSame.{exit-same}
 use Rattle.sameness.proofs.Kill.{kill-same}
 use Rattle.sameness.proofs.KillLeaves.{kill-leaves}
 use Rattle.sameness.proofs.NewNamespaceSame.{clone-new-same, unshare-same}
-use Rattle.sameness.proofs.Same.{Callers, find-same, find-none, same-of-sheets, level-lt, row-pid}
+use Rattle.sameness.proofs.Readers.{find-same, find-none}
+use Rattle.sameness.proofs.Same.{same-of-sheets, level-lt, row-pid}
+use Rattle.sameness.proofs.Twins.{Pair, Twin, taken-v, taken-u}
 use Rattle.sameness.proofs.Setns.{setns-same, setns-leaves}
 use Rattle.sameness.proofs.Wait.{wait-leaves, wait-same}
 use Rattle.rules.specs.Answers.{is-no-room, refused}
@@ -32,8 +34,8 @@ use Rattle.sameness.specs.Claims.{Agree, Observed, OutsideLeaves, Samene
 use Rattle.sameness.specs.Events.{Event, Place, answer-of, at, follow, gone, happens, inside, inside-calls, next-place, next-table, outside, sheet-of, slot-of, table-after}
 use Rattle.table.specs.Limits.{process-slots}
 use Rattle.table.specs.Slots.{is-running}
-use Rattle.rules.specs.Read.{find, namespace-taken, pid-seen, seen, view, alive}
-use Rattle.sameness.specs.Sheet.{Sheet, sheet, Row, row}
+use Rattle.rules.specs.Read.{View, find, namespace-taken, seen, view, alive}
+use Rattle.sameness.specs.Sheet.{sheet, Row, row}
 use Rattle.rules.specs.Sound.{SoundTable}
 use Rattle.rules.specs.Step.{step, runs}
 use Rattle.table.specs.Tests.{_or_, if_then_else_, _and_}
@@ -83,48 +85,29 @@ outside-leaves t s i c h hs a =
     by-test (runs (view t) i) (λ k. rw (step-made t i c h k) (all-outside c t s i h hs k a (make-sound t i c h k)))
     (λ k. rw (step-refused t i c h k) (as-it-was t s hs))
 
--- ---- the facts about single calls
-
--- where S is after a call
-abbrev after : Table → ℕ → ℕ → Call → Sheet
-after t s i c = sheet-of (step t i c .table) (follow t (step t i c .table) (at s))
-
--- An inside call, by the same number in S on both tables: no room on one, or the same answer and the same sheet.
-abbrev InsideSame : Type 0
-InsideSame =
-    (t u : Table) (s r i j : ℕ) (c : Call) → SoundTable t → SoundTable u → So (namespace-taken (view t) s) → So (namespace-taken (view u) r)
-    → sheet (view t) s ≡ sheet (view u) r → So (seen (view t) s i) → So (seen (view u) r j) → pid-seen (view t) s i ≡ pid-seen (view u) r j
-    → So (is-no-room (step t i c .reply .answer) or is-no-room (step u j c .reply .answer))
-    ⊎ ((step t i c .reply .answer ≡ step u j c .reply .answer) × (after t s i c ≡ after u r j c))
-
 runs-alive : {t : Table} (s i : ℕ) → SoundTable t → So (seen (view t) s i) → So (runs (view t) i) → So (alive (view t) s)
 runs-alive {t} s i h k a =
     alive-above (view t) (facts t h) (view t .own i) s (living-own-alive (view t) (facts t h) i (runs-lives t i a)) (seen-below (view t) s i k)
 
-runs-same : {t u : Table} (s r i j : ℕ) → SoundTable t → SoundTable u → So (seen (view t) s i) → So (seen (view u) r j) → row (view t) s i ≡ row (view u) r j → runs (view t) i ≡ runs (view u) j
+runs-same : {v u : View} {s r i j : ℕ} → Twin v u s r i j → row v s i ≡ row u r j → runs v i ≡ runs u j
 unfolding runs row
-runs-same {t} {u} s r i j h g a b e = rw (seen-taken (view t) s i a, seen-taken (view u) r j b) (ap (λ (q : Row). true and is-running (q .state)) e)
+runs-same k e = rw (taken-v k, taken-u k) (ap (λ (q : Row). true and is-running (q .state)) e)
 
-inside-same : InsideSame
+-- An inside call, by the same number in S on both tables: no room on one, or the same answer and the same sheet.
+inside-same : {t u : Table} {s r i j : ℕ} (c : Call) → SoundTable t → SoundTable u → So (namespace-taken (view t) s) → So (namespace-taken (view u) r) → sheet (view t) s ≡ sheet (view u) r → Twin (view t) (view u) s r i j → Kept t u s r (step t i c) (step u j c)
 unfolding MadeSame
-inside-same t u s r i j c h g hs hr e a b n =
+inside-same {t} {u} {s} {r} {i} {j} c h g hs hr e m =
     let w = same-of-sheets (facts t h) (facts u g) e in
+    let (x, n, q) = w .there i (m .seen-v) in
     let rows : row (view t) s i ≡ row (view u) r j =
-    let (x, m, q) = w .there i a in
-    q ∙ ap (row (view u) r) (pid-unique (view u) (facts u g) r x j hr m b (sym (row-pid (view t) (view u) s r i x (level-lt (facts t h) s hs) (level-lt (facts u g) r hr) q) ∙ n)) in
-    let both-run = runs-same s r i j h g a b rows in
+    q ∙ ap (row (view u) r) (pid-unique (view u) (facts u g) r x j hr n (m .seen-u) (sym (row-pid (view t) (view u) s r i x (level-lt (facts t h) s hs) (level-lt (facts u g) r hr) q) ∙ m .pids)) in
+    let both-run = runs-same m rows in
     by-test (runs (view t) i)
-    (λ k. rw (step-made t i c h k, step-made u j c g (sym both-run ∙ k))
-    (all-inside c t u s r i j
-    (record {
-      sound-t = h;
-      sound-u = g;
-      pair = record { facts-v = facts t h; facts-u = facts u g; alive-v = runs-alive s i h a k; alive-u = runs-alive r j g b (sym both-run ∙ k); same = w };
-      twin = record { seen-v = a; seen-u = b; pids = n };
-      runs-t = k;
-      runs-u = sym both-run ∙ k;
-    })
-    (make-sound t i c h k) (make-sound u j c g (sym both-run ∙ k))))
+    (λ k.
+    let l : So (runs (view u) j) = sym both-run ∙ k in
+    let p : Pair (view t) (view u) s r = record { facts-v = facts t h; facts-u = facts u g; alive-v = runs-alive s i h (m .seen-v) k; alive-u = runs-alive r j g (m .seen-u) l; same = w } in
+    rw (step-made t i c h k, step-made u j c g l)
+    (all-inside c t u s r i j (record { sound-t = h; sound-u = g; pair = p; twin = m; runs-t = k; runs-u = l }) (make-sound t i c h k) (make-sound u j c g l)))
     (λ k. rw (step-refused t i c h k, step-refused u j c g (sym both-run ∙ k)) (refused-same t u s r NotRunning hs hr e))
 
 -- ---- the relation that every call keeps
@@ -166,15 +149,11 @@ left-step {t} {p} i c w a =
       sheets = outside-sheet p i c (w .sound-t) (w .stands-t) a ∙ w .sheets;
     }
 
+flip-alike : {t u : Table} {p q : Place} → Alike t p u q → Alike u q t p
+flip-alike w = record { sound-t = w .sound-u; sound-u = w .sound-t; stands-t = w .stands-u; stands-u = w .stands-t; sheets = sym (w .sheets) }
+
 right-step : {t u : Table} {p q : Place} (i : ℕ) (c : Call) → Alike t p u q → So (allowed u q (outside i c)) → Alike t p (next-table u q (outside i c)) (next-place u q (outside i c))
-right-step {u} {q} i c w a =
-    record {
-      sound-t = w .sound-t;
-      sound-u = outside-sound q i c (w .sound-u);
-      stands-t = w .stands-t;
-      stands-u = follow-stands u (next-table u q (outside i c)) q;
-      sheets = w .sheets ∙ sym (outside-sheet q i c (w .sound-u) (w .stands-u) a);
-    }
+right-step i c w a = flip-alike (left-step i c (flip-alike w) a)
 
 -- ---- inside calls
 
@@ -208,18 +187,18 @@ stay {t} {u} {p} {q} w =
 none-named : {t u : Table} {p q : Place} (k : ℕ) (c : Call) → Alike t p u q → slot-of t p k ≡ process-slots → slot-of u q k ≡ process-slots → Between t p u q (happens t p (inside k c)) (happens u q (inside k c))
 none-named {t} {u} {p} {q} k c w e d = rw (nobody t p k c e, nobody u q k c d) (stay w)
 
-one-named : {t u : Table} {s r i j : ℕ} (c : Call) → Alike t (at s) u (at r) → Callers (view t) (view u) s r i j → Between t (at s) u (at r) (some (step t i c)) (some (step u j c))
+one-named : {t u : Table} {s r i j : ℕ} (c : Call) → Alike t (at s) u (at r) → Twin (view t) (view u) s r i j → Between t (at s) u (at r) (some (step t i c)) (some (step u j c))
 unfolding table-after answer-of sheet-of KeepsSound
 one-named {t} {u} {s} {r} {i} {j} c w n =
     ⊎-elim (λ x. inl x)
     (λ x. inr (ap some (x .0), record { sound-t = keeps-sound t i c (w .sound-t); sound-u = keeps-sound u j c (w .sound-u); stands-t = follow-stands t (step t i c .table) (at s); stands-u = follow-stands u (step u j c .table) (at r); sheets = x .1 }))
-    (inside-same t u s r i j c (w .sound-t) (w .sound-u) (w .stands-t) (w .stands-u) (w .sheets) (n .seen-t) (n .seen-u) (n .pids))
+    (inside-same c (w .sound-t) (w .sound-u) (w .stands-t) (w .stands-u) (w .sheets) n)
 
 inside-step : {t u : Table} (p q : Place) (k : ℕ) (c : Call) → Alike t p u q → Between t p u q (happens t p (inside k c)) (happens u q (inside k c))
 unfolding slot-of sheet-of
 inside-step {t} {u} (at s) (at r) k c w =
     ⊎-elim (λ x. none-named k c w (x .0) (x .1))
-    (λ n. rw (somebody t s k c (λ e. omega (arith, n .lt-t, e)), somebody u r k c (λ e. omega (arith, n .lt-u, e))) (one-named c w n))
+    (λ n. rw (somebody t s k c (λ e. omega (arith, facts t (w .sound-t) .in-range _ (taken-v n), e)), somebody u r k c (λ e. omega (arith, facts u (w .sound-u) .in-range _ (taken-u n), e))) (one-named c w n))
     (find-same s r k (facts t (w .sound-t)) (facts u (w .sound-u)) (w .stands-t) (w .stands-u) (w .sheets))
 inside-step {t} (at s) (gone l) k c w = none-named k c w (find-none s k (facts t (w .sound-t)) (ap (λ x. x .rows) (w .sheets))) refl
 inside-step {u} (gone l) (at r) k c w = none-named k c w refl (find-none r k (facts u (w .sound-u)) (ap (λ x. x .rows) (sym (w .sheets))))

@@ -17,7 +17,7 @@ use Rattle.rules.proofs.Laws.Slots.{own-taken, below-same, below-parent, init-o
 use Rattle.rules.proofs.Laws.Steps.{remainder, runs-lives}
 use Rattle.rules.proofs.Laws.Tests.{no-so, isnt-so, choose, right, both, cases, any-intro, isnt}
 use Rattle.rules.proofs.Laws.Tree.{below-refl}
-use Rattle.sameness.proofs.Freeing.{freed-leaves}
+use Rattle.sameness.proofs.Freeing.{after, freed-leaves}
 use Rattle.sameness.proofs.Fallen.{not-seen-stays, fallen-places}
 use Rattle.sameness.proofs.Ends.{member-of}
 use Rattle.sameness.proofs.Calls.{MadeLeaves, as-it-was, outsider, untouched-made}
@@ -27,7 +27,7 @@ use Rattle.sameness.proofs.Still.{Still, same-still, stands-still, near
 use Rattle.rules.specs.Answers.{answers, granted, is-refused, refused}
 use Rattle.rules.specs.Calls.{exit, status}
 use Rattle.rules.specs.Ends.{end}
-use Rattle.sameness.specs.Events.{at, follow, sheet-of}
+use Rattle.sameness.specs.Events.{at}
 use Rattle.rules.specs.Freeing.{freed, kept}
 use Rattle.table.specs.Limits.{namespace-slots}
 use Rattle.table.specs.Slots.{is-alive}
@@ -164,7 +164,7 @@ pub exit-leaves : (z : ℤ) → MadeLeaves (Exit z)
 unfolding MadeLeaves make exit answers granted refused is-refused touched
 exit-leaves z t s i h hs k a g = go (eqb i 0) refl g
   where
-    go : (b : Bool) → eqb i 0 ≡ b → SoundTable (exit t i z .table) → sheet-of (exit t i z .table) (follow t (exit t i z .table) (at s)) ≡ sheet (view t) s
+    go : (b : Bool) → eqb i 0 ≡ b → SoundTable (exit t i z .table) → after t s (exit t i z .table) ≡ sheet (view t) s
     go true q g = rw (q, exit) (as-it-was t s hs)
     go false q g =
         let still = end-still (sane t h) i e li o not-above in

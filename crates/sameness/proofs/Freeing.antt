@@ -18,7 +18,7 @@ use Rattle.sameness.proofs.Twins.{Pair}
 use Rattle.sameness.specs.Events.{at, follow, gone, sheet-of}
 use Rattle.rules.specs.Freeing.{freed, kept}
 use Rattle.rules.specs.Read.{View, all-seen, is-init, namespace-taken, seen, taken, view, alive, init}
-use Rattle.sameness.specs.Sheet.{row, sheet}
+use Rattle.sameness.specs.Sheet.{Sheet, row, sheet}
 use Rattle.rules.specs.Sound.{SoundTable}
 use Rattle.table.specs.Tests.{if_then_else_}
 use Rattle.table.specs.declared.Table.{Table}
@@ -87,8 +87,12 @@ empty-sheet v s l h e = λ z. record { level = e z; rows = ap (map (row v s)) (g
     go [] n = refl
     go (x ∷ xs) n = absurd (n x (inl refl))
 
+-- the sheet of S after a call that took the table t to u
+abbrev pub after : Table → ℕ → Table → Sheet
+after t s u = sheet-of u (follow t u (at s))
+
 -- where S is then, and its sheet
-pub sheet-freed : (t₀ : Table) {t : Table} → Sane t → (s : ℕ) → So (namespace-taken (view t) s) → (kept (view t) s ≡ false → view t .level s ≡ view t₀ .level s) → sheet-of (freed t) (follow t₀ (freed t) (at s)) ≡ sheet (view t) s
+pub sheet-freed : (t₀ : Table) {t : Table} → Sane t → (s : ℕ) → So (namespace-taken (view t) s) → (kept (view t) s ≡ false → view t .level s ≡ view t₀ .level s) → after t₀ s (freed t) ≡ sheet (view t) s
 unfolding follow sheet-of
 sheet-freed t₀ {t} x s h e =
     let f = x .facts in
@@ -99,15 +103,15 @@ sheet-freed t₀ {t} x s h e =
     (λ k. rw (ap (λ (u : View). namespace-taken u s) ev ∙ gone-freed f s k) (sym (empty-sheet (view t) s _ (nobody-freed f s k) (e k))))
 
 -- two tables in the middle of a call that are the same to S: so they are once freed
-pub freed-sheets : (t u : Table) {t₁ u₁ : Table} → Sane t₁ → Sane u₁ → {s r : ℕ} → So (namespace-taken (view t₁) s) → So (namespace-taken (view u₁) r) → (kept (view t₁) s ≡ false → view t₁ .level s ≡ view t .level s) → (kept (view u₁) r ≡ false → view u₁ .level r ≡ view u .level r) → Same (view t₁) (view u₁) s r → sheet-of (freed t₁) (follow t (freed t₁) (at s)) ≡ sheet-of (freed u₁) (follow u (freed u₁) (at r))
+pub freed-sheets : (t u : Table) {t₁ u₁ : Table} → Sane t₁ → Sane u₁ → {s r : ℕ} → So (namespace-taken (view t₁) s) → So (namespace-taken (view u₁) r) → (kept (view t₁) s ≡ false → view t₁ .level s ≡ view t .level s) → (kept (view u₁) r ≡ false → view u₁ .level r ≡ view u .level r) → Same (view t₁) (view u₁) s r → after t s (freed t₁) ≡ after u r (freed u₁)
 freed-sheets t u a b {s} {r} hs hr es er w = sheet-freed t a s hs es ∙ sheets-of-same (a .facts) (b .facts) hs hr w ∙ sym (sheet-freed u b r hr er)
 
 -- and where S lives
-pub freed-alike : (t u : Table) {t₁ u₁ : Table} → Sane t₁ → Sane u₁ → {s r : ℕ} → Pair (view t₁) (view u₁) s r → sheet-of (freed t₁) (follow t (freed t₁) (at s)) ≡ sheet-of (freed u₁) (follow u (freed u₁) (at r))
+pub freed-alike : (t u : Table) {t₁ u₁ : Table} → Sane t₁ → Sane u₁ → {s r : ℕ} → Pair (view t₁) (view u₁) s r → after t s (freed t₁) ≡ after u r (freed u₁)
 freed-alike t u {t₁} {u₁} a b {s} {r} p =
     freed-sheets t u a b (alive-taken (view t₁) (a .facts) s (p .alive-v)) (alive-taken (view u₁) (b .facts) r (p .alive-u))
     (λ k. absurd (no-so k (alive-kept (a .facts) s (p .alive-v)))) (λ k. absurd (no-so k (alive-kept (b .facts) r (p .alive-u)))) (p .same)
 
 -- a table in the middle of an outsider's call that is the same to S as before
-pub freed-leaves : {t t₁ : Table} {s : ℕ} → SoundTable t → Sane t₁ → So (namespace-taken (view t) s) → So (namespace-taken (view t₁) s) → Same (view t₁) (view t) s s → sheet-of (freed t₁) (follow t (freed t₁) (at s)) ≡ sheet (view t) s
+pub freed-leaves : {t t₁ : Table} {s : ℕ} → SoundTable t → Sane t₁ → So (namespace-taken (view t) s) → So (namespace-taken (view t₁) s) → Same (view t₁) (view t) s s → after t s (freed t₁) ≡ sheet (view t) s
 freed-leaves {t} {s} h x hs hs₁ w = sheet-freed t x s hs₁ (λ k. w .levels) ∙ sheets-of-same (x .facts) (facts t h) hs₁ hs w

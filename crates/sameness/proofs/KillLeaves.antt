@@ -17,7 +17,7 @@ use Rattle.rules.proofs.Laws.Tests.{isnt-so, both, or-false-left, or-false-righ
 use Rattle.sameness.proofs.Cases.{by-test}
 use Rattle.sameness.proofs.EndLeaves.{end-still, end-dies, end-back, freed-back, lives-on, not-own}
 use Rattle.sameness.proofs.EndSame.{ended-end}
-use Rattle.sameness.proofs.Freeing.{freed-leaves}
+use Rattle.sameness.proofs.Freeing.{after, freed-leaves}
 use Rattle.sameness.proofs.Kill.{not-living-put, resumed-placed, action-none}
 use Rattle.sameness.proofs.Light.{Placed}
 use Rattle.sameness.proofs.Calls.{MadeLeaves, as-it-was, untouched-made}
@@ -27,7 +27,7 @@ use Rattle.rules.specs.Answers.{answers, granted, is-refused, refused}
 use Rattle.rules.specs.Calls.{kill, names-group, natural, targets, within}
 use Rattle.rules.specs.Delivery.{act, action-on, deliver, deliver-all, with-pending}
 use Rattle.rules.specs.Ends.{end}
-use Rattle.sameness.specs.Events.{at, follow, is-inside, sheet-of}
+use Rattle.sameness.specs.Events.{at, is-inside}
 use Rattle.rules.specs.Freeing.{freed}
 use Rattle.table.specs.Limits.{namespace-slots, signals}
 use Rattle.table.specs.Slots.{process, put}
@@ -189,11 +189,11 @@ kill-leaves z n t s i h hs k a g =
     t₁ : Table
     t₁ = deliver-all t (view t .own i) xs (natural n)
 
-    done : natural n < signals → touched t (freed t₁) (at s) i (Kill z n) ≡ false → SoundTable (freed t₁) → (b : Bool) → eqb (natural n) 0 ≡ b → sheet-of (freed t₁) (follow t (freed t₁) (at s)) ≡ sheet (view t) s
+    done : natural n < signals → touched t (freed t₁) (at s) i (Kill z n) ≡ false → SoundTable (freed t₁) → (b : Bool) → eqb (natural n) 0 ≡ b → after t s (freed t₁) ≡ sheet (view t) s
     done low o g true e =
         let q = all-zero xs t (view t .own i) (natural n) e in
         let w = start (sane t h) hs in
-        subst (λ y. sheet-of (freed y) (follow t (freed y) (at s)) ≡ sheet (view t) s) (sym q) (freed-leaves h (sane t h) hs hs (w .same))
+        subst (λ y. after t s (freed y) ≡ sheet (view t) s) (sym q) (freed-leaves h (sane t h) hs hs (w .same))
     done low o g false e =
         let w : Going t t₁ s =
         all-going (view t .own i) (natural n) low xs (targets-safe (view t) (facts t h) i z) (start (sane t h) hs) (sent (eqb (natural n) 0) (some-of (λ j. is-inside t (at s) j and living (view t) j) xs) e (or-false-left _ _ o))

@@ -1,22 +1,25 @@
 -- What reads the same on two tables that are the same to a living namespace.
 use Prim.Native.Nat.{ℕ, _<_}
 use mathlib.Core.Bool.{Bool, false, So, false≢true, not}
+use mathlib.Core.List.{[]}
 use mathlib.Core.Logic.{_⊎_, inl, inr}
 use mathlib.Core.Path.{_≡_, refl, sym, _∙_, ap, ap₂, subst}
 use borrow.Author.Tests.{eq-eqb, ne-eqb, eqb-true}
 use lib.Dec.{eqb}
 use Rattle.rules.proofs.Laws.Below.{below-trans}
-use Rattle.rules.proofs.Laws.Facts.{Facts, seen-below, lives-taken}
+use Rattle.rules.proofs.Laws.Facts.{seen-taken, Facts, seen-below, lives-taken}
 use Rattle.rules.proofs.Laws.Find.{Found, find-cases}
+use Rattle.rules.proofs.Laws.Lists.{In, in-map}
 use Rattle.rules.proofs.Laws.Slots.{alive-taken, pid-unique, alive-not-unborn}
 use Rattle.rules.proofs.Laws.Tests.{isnt-so, no-so, left, right, both, bool-ext}
 use Rattle.sameness.proofs.Anchor.{below-up, name-unborn, is-unborn-name}
 use Rattle.sameness.proofs.Cases.{by-test}
+use Rattle.sameness.proofs.Same.{same-of-sheets, row-pid, level-lt, seen-listed}
 use Rattle.sameness.proofs.Twins.{Namesakes, parent-seen, parent-twin, taken-v, taken-u, twin-pid-in, Pair, Twin, Twins, flip-pair, flip-twin, twin-rows, twin-there, twin-unique, seen-twins, pid-twins, inits-twin, owns, twins-up}
 use Rattle.table.specs.Limits.{process-slots}
 use Rattle.table.specs.Slots.{is-ended}
-use Rattle.rules.specs.Read.{View, alive, below, child-of, find, is-init, pid-in, seen, living, init, namespace-taken, unborn}
-use Rattle.sameness.specs.Sheet.{Row, row}
+use Rattle.rules.specs.Read.{View, all-seen, alive, below, child-of, find, is-init, pid-in, seen, living, init, namespace-taken, unborn}
+use Rattle.sameness.specs.Sheet.{Row, row, sheet}
 use Rattle.rules.specs.Sound as S
 use Rattle.table.specs.Tests.{_and_, if_then_else_}
 
@@ -92,6 +95,27 @@ module _ {v u : View} {s r : ℕ} (w : Pair v u s r) where
   -- the number in S of the init above a living namespace that is not S
   pub above-pid : {n m : ℕ} → Twins v u s r n m → v .level s < v .level n → pid-in v s (init v (v .up n)) ≡ pid-in u r (init u (u .up m))
   above-pid l h = twin-pid-in (inits-twin w (twins-up w l h))
+
+-- ---- who has a number in S, whether S lives or not
+
+-- a number finds the same row, or nobody
+pub find-same : {v u : View} (s r k : ℕ) → Facts v → Facts u → So (namespace-taken v s) → So (namespace-taken u r) → sheet v s ≡ sheet u r → ((find v s k ≡ process-slots) × (find u r k ≡ process-slots)) ⊎ Twin v u s r (find v s k) (find u r k)
+find-same {v} {u} s r k h g hs hr e = go (find-cases v s k) (find-cases u r k)
+  where
+    go : Found v s k (find v s k) → Found u r k (find u r k) → ((find v s k ≡ process-slots) × (find u r k ≡ process-slots)) ⊎ Twin v u s r (find v s k) (find u r k)
+    go (inl (a, b, c)) (inl (x, y, z)) = inr (record { seen-v = a; seen-u = x; pids = b ∙ sym y })
+    go (inl (a, b, c)) (inr (x, y)) = let (j, m, q) = same-of-sheets h g e .there _ a in absurd (y j (g .in-range j (seen-taken u r j m)) m (sym (row-pid v u s r _ j (level-lt h s hs) (level-lt g r hr) q) ∙ b))
+    go (inr (a, b)) (inl (x, y, z)) = let (i, m, q) = same-of-sheets h g e .back _ x in absurd (b i (h .in-range i (seen-taken v s i m)) m (row-pid v u s r i _ (level-lt h s hs) (level-lt g r hr) q ∙ y))
+    go (inr (a, b)) (inr (x, y)) = inl (a, x)
+
+-- A sheet with no rows has nobody to find.
+pub find-none : {v : View} (s k : ℕ) → Facts v → sheet v s .rows ≡ [] → find v s k ≡ process-slots
+unfolding sheet
+find-none {v} s k h e = go (find-cases v s k)
+  where
+    go : Found v s k (find v s k) → find v s k ≡ process-slots
+    go (inl (a, b, c)) = absurd (subst (In (row v s (find v s k))) e (in-map (row v s) _ (all-seen v s) (seen-listed h s _ a)))
+    go (inr (a, b)) = a
 
 -- ---- the namespaces that twins hold for their children
 

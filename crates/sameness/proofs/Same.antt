@@ -2,17 +2,15 @@
 use Prim.Native.Nat.{ℕ, zero, suc, _+_, _-_, _<_}
 use native.Mathlib.Omega.{arith}
 use mathlib.Core.Bool.{So}
-use mathlib.Core.List.{map, []}
-use mathlib.Core.Logic.{_⊎_, inl, inr}
+use mathlib.Core.List.{map}
 use mathlib.Core.Path.{_≡_, sym, _∙_, ap, subst}
 use lib.ListN.{getD}
 use Rattle.rules.proofs.Laws.Below.{level-deepest}
 use Rattle.rules.proofs.Laws.Facts.{Facts, seen-taken}
-use Rattle.rules.proofs.Laws.Find.{Found, find-cases}
 use Rattle.rules.proofs.Laws.Lists.{In, in-map, map-in, in-ascending, ascending-in, ascending-sorted, Sorted, map-sorted, sorted-unique}
 use Rattle.rules.proofs.Laws.Slots.{pid-unique}
 use Rattle.table.specs.Limits.{levels, process-slots}
-use Rattle.rules.specs.Read.{View, all-seen, namespace-taken, pid-seen, seen, pid-in, is-init, find}
+use Rattle.rules.specs.Read.{View, all-seen, namespace-taken, pid-seen, seen, pid-in, is-init}
 use Rattle.sameness.specs.Sheet.{Row, row, sheet, name}
 use Rattle.table.specs.Tests.{values, if_then_else_}
 
@@ -101,32 +99,3 @@ same-trans a b =
 
 pub row-pid : (v u : View) (s r i j : ℕ) → v .level s < levels → u .level r < levels → row v s i ≡ row u r j → pid-seen v s i ≡ pid-seen u r j
 row-pid v u s r i j l m e = sym (row-key v s i l) ∙ ap key e ∙ row-key u r j m
-
-pub record Callers (v u : View) (s r i j : ℕ) : Type 0 where
-  pub seen-t : So (seen v s i)
-  pub seen-u : So (seen u r j)
-  pub pids : pid-seen v s i ≡ pid-seen u r j
-  pub lt-t : i < process-slots
-  pub lt-u : j < process-slots
-
--- a number finds the same row, or nobody
-pub find-same : {v u : View} (s r k : ℕ) → Facts v → Facts u → So (namespace-taken v s) → So (namespace-taken u r) → sheet v s ≡ sheet u r → ((find v s k ≡ process-slots) × (find u r k ≡ process-slots)) ⊎ Callers v u s r (find v s k) (find u r k)
-find-same {v} {u} s r k h g hs hr e = go (find-cases v s k) (find-cases u r k)
-  where
-    w : Same v u s r
-    w = same-of-sheets h g e
-
-    go : Found v s k (find v s k) → Found u r k (find u r k) → ((find v s k ≡ process-slots) × (find u r k ≡ process-slots)) ⊎ Callers v u s r (find v s k) (find u r k)
-    go (inl (a, b, c)) (inl (x, y, z)) = inr (record { seen-t = a; seen-u = x; pids = b ∙ sym y; lt-t = c; lt-u = z })
-    go (inl (a, b, c)) (inr (x, y)) = let (j, m, q) = w .there _ a in absurd (y j (g .in-range j (seen-taken u r j m)) m (sym (row-pid v u s r _ j (level-lt h s hs) (level-lt g r hr) q) ∙ b))
-    go (inr (a, b)) (inl (x, y, z)) = let (i, m, q) = w .back _ x in absurd (b i (h .in-range i (seen-taken v s i m)) m (row-pid v u s r i _ (level-lt h s hs) (level-lt g r hr) q ∙ y))
-    go (inr (a, b)) (inr (x, y)) = inl (a, x)
-
--- A sheet with no rows has nobody to find.
-pub find-none : {v : View} (s k : ℕ) → Facts v → sheet v s .rows ≡ [] → find v s k ≡ process-slots
-unfolding sheet
-find-none {v} s k h e = go (find-cases v s k)
-  where
-    go : Found v s k (find v s k) → find v s k ≡ process-slots
-    go (inl (a, b, c)) = absurd (subst (In (row v s (find v s k))) e (in-map (row v s) _ (all-seen v s) (seen-listed h s _ a)))
-    go (inr (a, b)) = a

@@ -20,7 +20,7 @@ use Rattle.sameness.proofs.Cases.{by-test}
 use Rattle.sameness.proofs.Anchor.{init-or-none}
 use Rattle.sameness.proofs.Calls.{Kept, Ready, MadeSame, MadeLeaves, as-it-was, untouched-made, both-refuse, both-tell, owns-twins}
 use Rattle.sameness.proofs.Light.{shown}
-use Rattle.sameness.proofs.Freeing.{freed-alike, freed-leaves}
+use Rattle.sameness.proofs.Freeing.{after, freed-alike, freed-leaves}
 use Rattle.sameness.proofs.Kill.{twin-of-pid}
 use Rattle.sameness.proofs.Readers.{twin-eqb, child-twins, seen-above, ended-twins}
 use Rattle.sameness.proofs.Remain.{Remain, Lit, same-remain, pid-in-remain, name-remain, everyone, seen-remain, seen-gone}
@@ -29,7 +29,7 @@ use Rattle.sameness.proofs.Still.{Still, same-still}
 use Rattle.sameness.proofs.Twins.{Pair, Twin, twin-rows, Twins, flip-pair, flip-twin, twin-there, pid-twins, taken-v, taken-u}
 use Rattle.rules.specs.Answers.{granted, answers, is-refused, refused}
 use Rattle.rules.specs.Calls.{first-ended, pid-to, reap, wait}
-use Rattle.sameness.specs.Events.{at, follow, gone, is-inside, sheet-of}
+use Rattle.sameness.specs.Events.{at, gone, is-inside}
 use Rattle.rules.specs.Freeing.{freed}
 use Rattle.table.specs.Fresh.{empty-process}
 use Rattle.table.specs.Limits.{process-slots}
@@ -316,7 +316,7 @@ wait-leaves t s i h hs k a g = go (any process-slots (child-of (view t) i)) refl
     x : ℕ
     x = first-ended (view t) i
 
-    go : (b : Bool) → any process-slots (child-of (view t) i) ≡ b → (z : State) → view t .state x ≡ z → SoundTable (wait t i .table) → sheet-of (wait t i .table) (follow t (wait t i .table) (at s)) ≡ sheet (view t) s
+    go : (b : Bool) → any process-slots (child-of (view t) i) ≡ b → (z : State) → view t .state x ≡ z → SoundTable (wait t i .table) → after t s (wait t i .table) ≡ sheet (view t) s
     go false e z q g = rw (e, wait) (as-it-was t s hs)
     go true e Running q g = rw (e, q, wait) (as-it-was t s hs)
     go true e Stopped q g = rw (e, q, wait) (as-it-was t s hs)
