@@ -15,14 +15,12 @@ use Rattle.rules.proofs.Laws.Slots.{alive-taken, living-own-alive, alive-above,
 use Rattle.rules.proofs.Laws.Steps.{step-made, step-refused, runs-lives}
 use Rattle.rules.proofs.Laws.Tests.{left, right}
 use Rattle.sameness.proofs.Cases.{by-test}
-use Rattle.sameness.proofs.BirthLeaves.{clone-leaves, clone-new-leaves, unshare-leaves}
+use Rattle.sameness.proofs.Clone.{clone-same, clone-new-same, unshare-same, clone-leaves, clone-new-leaves, unshare-leaves}
 use Rattle.sameness.proofs.Calls.{Kept, MadeSame, PlaceStands, follow-self, refused-same, MadeLeaves, getpid-leaves, getppid-leaves, handle-leaves, poll-leaves, as-it-was, getpid-same, getppid-same, handle-same, poll-same}
-use Rattle.sameness.proofs.CloneSame.{clone-same}
 use Rattle.sameness.proofs.EndLeaves.{exit-leaves}
 use Rattle.sameness.proofs.ExitSame.{exit-same}
 use Rattle.sameness.proofs.Kill.{kill-same}
 use Rattle.sameness.proofs.KillLeaves.{kill-leaves}
-use Rattle.sameness.proofs.NewNamespaceSame.{clone-new-same, unshare-same}
 use Rattle.sameness.proofs.Readers.{find-same, find-none}
 use Rattle.sameness.proofs.Same.{same-of-sheets, level-lt, row-pid}
 use Rattle.sameness.proofs.Twins.{Pair, Twin, taken-v, taken-u}

@@ -18,8 +18,7 @@ use Rattle.rules.proofs.Laws.Steps.{remainder, runs-lives}
 use Rattle.rules.proofs.Laws.Tests.{no-so, isnt-so, choose, right, both, cases, any-intro, isnt}
 use Rattle.rules.proofs.Laws.Tree.{below-refl}
 use Rattle.sameness.proofs.Freeing.{after, freed-leaves}
-use Rattle.sameness.proofs.Fallen.{not-seen-stays, fallen-places}
-use Rattle.sameness.proofs.Ends.{member-of}
+use Rattle.sameness.proofs.Ends.{not-seen-stays, fallen-places, member-of}
 use Rattle.sameness.proofs.Calls.{MadeLeaves, as-it-was, outsider, untouched-made}
 use Rattle.sameness.proofs.Twins.{pid-in-unseen}
 use Rattle.sameness.proofs.Remain.{seen-remain, seen-gone}

@@ -14,8 +14,7 @@ use Rattle.rules.proofs.Laws.Slots.{living-own-alive}
 use Rattle.rules.proofs.Laws.Tests.{false-and, no-so, isnt-so, and-not, choose}
 use Rattle.sameness.proofs.Anchor.{deeper}
 use Rattle.sameness.proofs.Cases.{by-test}
-use Rattle.sameness.proofs.Fallen.{fallen, fallen-places, init-stays}
-use Rattle.sameness.proofs.Ends.{member-remain, member-same, member-of, both-stay, init-same}
+use Rattle.sameness.proofs.Ends.{fallen, fallen-places, init-stays, member-remain, member-same, member-of, both-stay, init-same}
 use Rattle.sameness.proofs.Readers.{living-twins, is-init-twins, above-pid}
 use Rattle.sameness.proofs.Remain.{Places, everyone, below-stays, pid-remain, seen-remain, twin-remain}
 use Rattle.sameness.proofs.Same.{Same}

@@ -15,7 +15,6 @@ pub mod Freeing
 pub mod Calls
 pub mod Setns
 pub mod Wait
-pub mod Fallen
 pub mod Ends
 pub mod EndSame
 pub mod ExitSame
@@ -24,10 +23,8 @@ pub mod Kill
 pub mod KillLeaves
 pub mod Born
 pub mod BirthSame
-pub mod CloneSame
 pub mod NewNamespace
-pub mod NewNamespaceSame
-pub mod BirthLeaves
+pub mod Clone
 -- the two lists, and what people will quote of them
 pub mod Demand3
 -- where it applies, by computation
