@@ -206,17 +206,10 @@ module _ {t u : Table} {s r c d : ℕ} (w : Ready t u s r c d) (ot : own-level (
       let b = unshare-sane u (w .sound-u) d (w .runs-u) ou ru in
       inr (
         refl,
-        freed-alike t u a b
-            (record {
-              facts-v = a .facts;
-              facts-u = b .facts;
-              alive-v = new-pair .alive-v;
-              alive-u = new-pair .alive-u;
-              same =
-                  same-put tn un new-pair new-twin (gt .shape-of) (gu .shape-of)
-                  (record { states = z .states; handleds = z .handleds; pendings = z .pendings; marks = refl; childrens = new-name st c rt s ∙ sym (new-name su d ru r) })
-                  (refl, refl, refl) (refl, refl, refl);
-            }),
+        freed-alike t u a b (new-pair .alive-v) (new-pair .alive-u)
+                (same-put tn un new-pair new-twin (gt .shape-of) (gu .shape-of)
+                (record { states = z .states; handleds = z .handleds; pendings = z .pendings; marks = refl; childrens = new-name st c rt s ∙ sym (new-name su d ru r) })
+                (refl, refl, refl) (refl, refl, refl)),
       )
 
   -- ---- clone with a new namespace

@@ -21,7 +21,7 @@ use Rattle.sameness.proofs.Freeing.{after, freed-leaves}
 use Rattle.sameness.proofs.Ends.{not-seen-stays, fallen-places, member-of}
 use Rattle.sameness.proofs.Calls.{MadeLeaves, as-it-was, outsider, untouched-made}
 use Rattle.sameness.proofs.Twins.{pid-in-unseen}
-use Rattle.sameness.proofs.Remain.{seen-remain, seen-gone}
+use Rattle.sameness.proofs.Remain.{seen-same}
 use Rattle.sameness.proofs.Still.{Still, same-still, stands-still, near}
 use Rattle.rules.specs.Answers.{answers, granted, is-refused, refused}
 use Rattle.rules.specs.Calls.{exit, status}
@@ -103,10 +103,6 @@ module _ {v : View} (f : Facts v) (x : ℕ) (e : End) (tx : So (taken v x)) (s :
   not-gone : (i : ℕ) → So (seen v s i) → gone v (v .own x) i ≡ false
   not-gone i k = isnt _ (not-seen-stays v x i (spared i k))
 
-  seen-either : (i : ℕ) (b : Bool) → gone v (v .own x) i ≡ b → seen (subtree-gone v (v .own x) x e) s i ≡ seen v s i
-  seen-either i false q = seen-remain f (fallen-places v x e) s i (ap not q)
-  seen-either i true q = seen-gone f (fallen-places v x e) s i (ap not q) ∙ sym (isnt-so (λ k. no-so (not-gone i k) q))
-
   near-lives : (m : ℕ) → So (near v s m) → below v m (v .own x) ≡ false
   near-lives m h = isnt-so (λ k. ⊎-elim (λ b. disjoint m b k) (λ b. no-so n (below-trans v f s m (v .own x) b k)) (cases _ _ h))
 
@@ -116,7 +112,7 @@ module _ {v : View} (f : Facts v) (x : ℕ) (e : End) (tx : So (taken v x)) (s :
         ups = λ m h. refl;
         levels = λ m h. refl;
         lives = λ m h. rw (near-lives m h);
-        seens = λ i. seen-either i (gone v (v .own x) i) refl;
+        seens = seen-same f (fallen-places v x e) s (λ i k. not-seen-stays v x i (spared i k));
         looks = λ i k. rw (not-gone i k, spared i k);
         pids = λ i l k. rw (not-gone i k);
         parents = λ i k. rw (not-gone i k);

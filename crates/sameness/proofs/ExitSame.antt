@@ -17,7 +17,7 @@ use Rattle.rules.proofs.Laws.Tests.{isnt-so, right, bool-ext}
 use Rattle.rules.proofs.Laws.Tree.{below-refl}
 use Rattle.sameness.proofs.Cases.{by-test, by-equal}
 use Rattle.sameness.proofs.Calls.{Kept, Ready, MadeSame, both-refuse, owns-twins, own-lives, taken-s, taken-r}
-use Rattle.sameness.proofs.EndSame.{ended-init, end-same, pair-of, Midway}
+use Rattle.sameness.proofs.EndSame.{ended-init, end-same, Midway}
 use Rattle.sameness.proofs.Freeing.{freed-alike, freed-sheets}
 use Rattle.sameness.proofs.Ends.{init-same}
 use Rattle.sameness.proofs.Readers.{is-init-twins}
@@ -89,7 +89,7 @@ module _ {t u : Table} {s r c d : ℕ} (w : Ready t u s r c d) (e : End) (ok : S
   unfolding answers granted
   lives-on other h g =
       let (x, move) = end-same e held (w .twin) (w .twin .seen-v) (runs-lives t c (w .runs-t)) ok other in
-      inr (refl, freed-alike t u (x .sane-t) (x .sane-u) (pair-of x))
+      inr (refl, freed-alike t u (x .sane-t) (x .sane-u) (x .alive-s) (x .alive-r) (x .same))
 
   -- S's init ends
   dies : So (is-init (view t) c) → view t .own c ≡ s → (c ≡ 0 → ⊥) → (d ≡ 0 → ⊥) → SoundTable (freed (end t c e)) → SoundTable (freed (end u d e)) → Kept t u s r (answers (freed (end t c e)) 0) (answers (freed (end u d e)) 0)

@@ -14,7 +14,6 @@ use Rattle.rules.proofs.Laws.Tests.{isnt-so, no-so, cases}
 use Rattle.sameness.proofs.Cases.{by-test}
 use Rattle.sameness.proofs.Remain.{Remain, lit, row-remain, seen-remain, pid-in-remain, name-remain, everyone}
 use Rattle.sameness.proofs.Same.{Same, sheets-of-same, listed-seen}
-use Rattle.sameness.proofs.Twins.{Pair}
 use Rattle.sameness.specs.Events.{at, follow, gone, sheet-of}
 use Rattle.rules.specs.Freeing.{freed, kept}
 use Rattle.rules.specs.Read.{View, all-seen, is-init, namespace-taken, seen, taken, view, alive, init}
@@ -107,10 +106,10 @@ pub freed-sheets : (t u : Table) {t₁ u₁ : Table} → Sane t₁ → Sane u₁
 freed-sheets t u a b {s} {r} hs hr es er w = sheet-freed t a s hs es ∙ sheets-of-same (a .facts) (b .facts) hs hr w ∙ sym (sheet-freed u b r hr er)
 
 -- and where S lives
-pub freed-alike : (t u : Table) {t₁ u₁ : Table} → Sane t₁ → Sane u₁ → {s r : ℕ} → Pair (view t₁) (view u₁) s r → after t s (freed t₁) ≡ after u r (freed u₁)
-freed-alike t u {t₁} {u₁} a b {s} {r} p =
-    freed-sheets t u a b (alive-taken (view t₁) (a .facts) s (p .alive-v)) (alive-taken (view u₁) (b .facts) r (p .alive-u))
-    (λ k. absurd (no-so k (alive-kept (a .facts) s (p .alive-v)))) (λ k. absurd (no-so k (alive-kept (b .facts) r (p .alive-u)))) (p .same)
+pub freed-alike : (t u : Table) {t₁ u₁ : Table} (a : Sane t₁) (b : Sane u₁) {s r : ℕ} → So (alive (view t₁) s) → So (alive (view u₁) r) → Same (view t₁) (view u₁) s r → after t s (freed t₁) ≡ after u r (freed u₁)
+freed-alike t u {t₁} {u₁} a b {s} {r} x y w =
+    freed-sheets t u a b (alive-taken (view t₁) (a .facts) s x) (alive-taken (view u₁) (b .facts) r y)
+    (λ k. absurd (no-so k (alive-kept (a .facts) s x))) (λ k. absurd (no-so k (alive-kept (b .facts) r y))) w
 
 -- a table in the middle of an outsider's call that is the same to S as before
 pub freed-leaves : {t t₁ : Table} {s : ℕ} → SoundTable t → Sane t₁ → So (namespace-taken (view t) s) → So (namespace-taken (view t₁) s) → Same (view t₁) (view t) s s → after t s (freed t₁) ≡ sheet (view t) s

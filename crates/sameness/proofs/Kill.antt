@@ -310,5 +310,5 @@ kill-same z n t u s r i j w h g =
     (λ ec.
     let d = kill-after w z (natural n) (natural-low n ea) in
     rw (ea, eb, ec, sym (ap (λ x. eqb x 0) lengths) ∙ ec, kill)
-    (inr (refl, freed-alike t u (d .sane-t) (d .sane-u) (pair-of d))))))
+    (inr (refl, freed-alike t u (d .sane-t) (d .sane-u) (d .alive-s) (d .alive-r) (d .same))))))
     (λ ea. rw (ea, kill) (both-refuse w Einval))

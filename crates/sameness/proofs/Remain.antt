@@ -1,12 +1,12 @@
 -- A change that leaves places: some namespaces, with all above them, and some processes stand as they stood, and the
 -- other processes are gone. So "below", numbers and names stay, and two tables that change so stay the same to S.
 use Prim.Native.Nat.{ℕ, zero, suc, _-_}
-use mathlib.Core.Bool.{Bool, true, false, not, So, false≢true}
+use mathlib.Core.Bool.{Bool, true, false, not, So}
 use mathlib.Core.Path.{_≡_, refl, sym, _∙_, ap, ap₂, fun-ext, subst}
 use lib.Dec.{eqb}
 use Rattle.rules.proofs.Laws.Below.{up-level}
 use Rattle.rules.proofs.Laws.Facts.{Facts}
-use Rattle.rules.proofs.Laws.Tests.{and-false, choose}
+use Rattle.rules.proofs.Laws.Tests.{isnt-so, no-so, and-false, choose}
 use Rattle.sameness.proofs.Cases.{by-test}
 use Rattle.sameness.proofs.Anchor.{anchor}
 use Rattle.sameness.proofs.Same.{Same}
@@ -95,17 +95,17 @@ module _ {v v′ : View} {K Q : ℕ → Bool} (f : Facts v) (w : Places v v′ K
       by-test (taken v i) (λ e. ap₂ _and_ kept (ap (λ x. below v′ x n) (w .owns i h) ∙ below-stays f (w .tree) (v .own i) n (w .own-kept i h e)))
       (λ e. rw (kept ∙ e, e) (and-false (below v′ (v′ .own i) n) ∙ sym (and-false (below v (v .own i) n))))
 
-  pub seen-gone : (n i : ℕ) → Q i ≡ false → seen v′ n i ≡ false
+  seen-gone : (n i : ℕ) → Q i ≡ false → seen v′ n i ≡ false
   unfolding seen
   seen-gone n i h = rw (w .gone i h) (and-false (below v′ (v′ .own i) n))
 
+  -- all whom S sees remaining, it sees the same
+  pub seen-same : (s : ℕ) → ((i : ℕ) → So (seen v s i) → So (Q i)) → (i : ℕ) → seen v′ s i ≡ seen v s i
+  seen-same s h i = by-test (Q i) (seen-remain s i) (λ q. seen-gone s i q ∙ sym (isnt-so (λ k. no-so q (h i k))))
+
   -- who is seen then, remains
   remains : (n i : ℕ) → So (seen v′ n i) → So (Q i)
-  remains n i h = go (Q i) refl
-    where
-      go : (b : Bool) → Q i ≡ b → b ≡ true
-      go true e = refl
-      go false e = absurd (false≢true (sym (seen-gone n i e) ∙ h))
+  remains n i h = by-test (Q i) (λ q. q) (λ q. absurd (no-so (seen-gone n i q) h))
 
   pub pid-remain : (n i : ℕ) → So (K n) → So (Q i) → pid-seen v′ n i ≡ pid-seen v n i
   unfolding pid-seen

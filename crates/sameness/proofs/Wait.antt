@@ -1,6 +1,5 @@
 -- wait: by twin callers, and by an outsider.
 use Prim.Native.Nat.{ℕ, zero, suc, _<_, _≤_}
-use native.Mathlib.Decide.{ℕ-discrete}
 use native.Mathlib.Omega.{arith}
 use mathlib.Core.Bool.{Bool, true, false, not, So, false≢true}
 use mathlib.Core.Logic.{_⊎_, inl, inr, ⊎-elim}
@@ -16,20 +15,20 @@ use Rattle.rules.proofs.Laws.Facts.{Facts, facts, sane}
 use Rattle.rules.proofs.Laws.Slots.{init-living, parent-living, child-seen}
 use Rattle.rules.proofs.Laws.Tests.{no-so, zero-or, right, isnt, and-false, true-and, true-or, false-or-true, false-or-false, true-and-false, isnt-not, left, both, any-elim, any-intro, isnt-so, bool-ext}
 use Rattle.rules.proofs.Laws.Tree.{below-refl}
-use Rattle.sameness.proofs.Cases.{by-test}
+use Rattle.sameness.proofs.Cases.{by-test, by-equal}
 use Rattle.sameness.proofs.Anchor.{init-or-none}
 use Rattle.sameness.proofs.Calls.{Kept, Ready, MadeSame, MadeLeaves, as-it-was, untouched-made, both-refuse, both-tell, owns-twins}
 use Rattle.sameness.proofs.Light.{shown}
 use Rattle.sameness.proofs.Freeing.{after, freed-alike, freed-leaves}
 use Rattle.sameness.proofs.Kill.{twin-of-pid}
 use Rattle.sameness.proofs.Readers.{twin-eqb, child-twins, seen-above, ended-twins}
-use Rattle.sameness.proofs.Remain.{Remain, Lit, same-remain, pid-in-remain, name-remain, everyone, seen-remain, seen-gone}
+use Rattle.sameness.proofs.Remain.{Remain, Lit, same-remain, pid-in-remain, name-remain, everyone, seen-same}
 use Rattle.sameness.proofs.Same.{Same}
 use Rattle.sameness.proofs.Still.{Still, same-still}
-use Rattle.sameness.proofs.Twins.{Pair, Twin, twin-rows, Twins, flip-pair, flip-twin, twin-there, pid-twins, taken-v, taken-u}
+use Rattle.sameness.proofs.Twins.{Pair, Twin, twin-rows, flip-pair, flip-twin, twin-there, pid-twins, taken-v, taken-u}
 use Rattle.rules.specs.Answers.{granted, answers, is-refused, refused}
 use Rattle.rules.specs.Calls.{first-ended, pid-to, reap, wait}
-use Rattle.sameness.specs.Events.{at, gone, is-inside}
+use Rattle.sameness.specs.Events.{gone, is-inside}
 use Rattle.rules.specs.Freeing.{freed}
 use Rattle.table.specs.Fresh.{empty-process}
 use Rattle.table.specs.Limits.{process-slots}
@@ -59,11 +58,7 @@ least-cases p f d zero l = inl (refl, λ i k. absurd (omega arith))
 least-cases p f d (suc n) l = go (least p f d n) (least-cases p f d n (omega arith)) (p n) refl
   where
     extend : (P : ℕ → Type 0) → ((i : ℕ) → i < n → P i) → P n → (i : ℕ) → i < suc n → P i
-    extend P h k i m = at (ℕ-discrete i n)
-      where
-        at : Dec (i ≡ n) → P i
-        at (yes e) = subst P (sym e) k
-        at (no e) = h i (omega arith)
+    extend P h k i m = by-equal i n (λ e. subst P (sym e) k) (λ e. h i (omega arith))
 
     go : (b : ℕ) → Least p f d n b → (c : Bool) → p n ≡ c → Least p f d (suc n) (if p n and (eqb b d or ltb (f n) (f b)) then n else b)
     go b r false e = rw (e, and-false (eqb b d or ltb (f n) (f b))) (stay b r)
@@ -121,12 +116,6 @@ module _ {v : View} (f : Facts v) (x : ℕ) (tx : So (taken v x)) (ex : So (v .e
 -- ---- two tables
 
 module _ {v u : View} {s r : ℕ} (w : Pair v u s r) {x y : ℕ} (k : Twin v u s r x y) (ex : So (v .ended x)) (ey : So (u .ended y)) where
-  tx : So (taken v x)
-  tx = taken-v k
-
-  ty : So (taken u y)
-  ty = taken-u k
-
   both-stay : (i j : ℕ) → Twin v u s r i j → others x i ≡ others y j
   both-stay i j m = ap not (twin-eqb w m k)
 
@@ -134,8 +123,6 @@ module _ {v u : View} {s r : ℕ} (w : Pair v u s r) {x y : ℕ} (k : Twin v u s
   unfolding row
   reap-lit i j m q =
       let q′ = sym (both-stay i j m) ∙ q in
-      let ti = taken-v m in
-      let tj = taken-u m in
       let rows = twin-rows w m in
       let slot = twin-eqb w m k in
       record {
@@ -143,14 +130,14 @@ module _ {v u : View} {s r : ℕ} (w : Pair v u s r) {x y : ℕ} (k : Twin v u s
         handleds = λ z. if slot z then 0 else rows z .handled;
         pendings = λ z. if slot z then 0 else rows z .pending;
         marks = λ z. if slot z then false else rows z .unshared;
-        parents = reap-parent (w .facts-v) x tx ex s i ti q ∙ ap (λ (o : Row). o .parent) rows ∙ sym (reap-parent (w .facts-u) y ty ey r j tj q′);
-        childrens = reap-children (w .facts-v) x tx ex s i q ∙ ap (λ (o : Row). o .children) rows ∙ sym (reap-children (w .facts-u) y ty ey r j q′);
+        parents = reap-parent (w .facts-v) x (taken-v k) ex s i (taken-v m) q ∙ ap (λ (o : Row). o .parent) rows ∙ sym (reap-parent (w .facts-u) y (taken-u k) ey r j (taken-u m) q′);
+        childrens = reap-children (w .facts-v) x (taken-v k) ex s i q ∙ ap (λ (o : Row). o .children) rows ∙ sym (reap-children (w .facts-u) y (taken-u k) ey r j q′);
         lasts = ap (λ (o : Row). o .last) rows;
       }
 
   -- each row that is left is the same on both
   pub same-reap : Same (without v x) (without u y) s r
-  same-reap = same-remain w (reap-remain (w .facts-v) x tx ex) (reap-remain (w .facts-u) y ty ey) refl refl both-stay reap-lit
+  same-reap = same-remain w (reap-remain (w .facts-v) x (taken-v k) ex) (reap-remain (w .facts-u) y (taken-u k) ey) refl refl both-stay reap-lit
 
 -- ---- wait, by twin callers
 
@@ -164,13 +151,18 @@ kid-seen {v} f c i h k =
 abbrev ended-kid : View → ℕ → ℕ → Bool
 ended-kid v c i = child-of v c i and v .ended i
 
-module _ {t u : Table} {s r c d : ℕ} (w : Ready t u s r c d) where
-  tc : So (taken (view t) c)
-  tc = taken-v (w .twin)
+-- its first child that has ended, or none
+abbrev FirstEnded : View → ℕ → ℕ → Type 0
+FirstEnded v c x = Least (ended-kid v c) (pid-to v c) process-slots process-slots x
 
+first-cases : (v : View) (c : ℕ) → FirstEnded v c (first-ended v c)
+unfolding first-ended
+first-cases v c = least-cases (ended-kid v c) (pid-to v c) process-slots process-slots (omega arith)
+
+module _ {t u : Table} {s r c d : ℕ} (w : Ready t u s r c d) where
   -- a child here is a child there
   kid-there : (i : ℕ) → So (child-of (view t) c i) → (j : ℕ) × Twin (view t) (view u) s r i j
-  kid-there i k = twin-there (w .pair) i (seen-above (facts t (w .sound-t)) _ s i (owns-twins w .below-v) (kid-seen (facts t (w .sound-t)) c i tc k))
+  kid-there i k = twin-there (w .pair) i (seen-above (facts t (w .sound-t)) _ s i (owns-twins w .below-v) (kid-seen (facts t (w .sound-t)) c i (taken-v (w .twin)) k))
 
   kid-same : {i j : ℕ} → Twin (view t) (view u) s r i j → child-of (view t) c i ≡ child-of (view u) d j
   kid-same k = child-twins (w .pair) k (w .twin)
@@ -200,28 +192,19 @@ module _ {t u : Table} {s r c d : ℕ} (w : Ready t u s r c d) where
 
   -- the first that has ended is the same on both, or there is none
   pub first-twins : First (first-ended (view t) c) (first-ended (view u) d)
-  unfolding first-ended
-  first-twins = go (least-cases (ended-kid (view t) c) (pid-to (view t) c) process-slots process-slots (omega arith)) (least-cases (ended-kid (view u) d) (pid-to (view u) d) process-slots process-slots (omega arith))
+  first-twins = go (first-cases (view t) c) (first-cases (view u) d)
     where
-      x : ℕ
-      x = least (ended-kid (view t) c) (pid-to (view t) c) process-slots process-slots
-
-      y : ℕ
-      y = least (ended-kid (view u) d) (pid-to (view u) d) process-slots process-slots
-
-      l : Twins (view t) (view u) s r (view t .own c) (view u .own d)
-      l = owns-twins w
-
-      go : Least (ended-kid (view t) c) (pid-to (view t) c) process-slots process-slots x → Least (ended-kid (view u) d) (pid-to (view u) d) process-slots process-slots y → First x y
+      go : {x y : ℕ} → FirstEnded (view t) c x → FirstEnded (view u) d y → First x y
       go (inl (a, b)) (inl (a′, b′)) = inl (a, a′)
-      go (inr (a, b, h)) (inl (a′, b′)) = let (j, m, k, q) = ended-there w x a in absurd (false≢true (sym (b′ j q) ∙ k))
-      go (inl (a, b)) (inr (a′, b′, h′)) = let (i, m, k, q) = ended-there (flip-ready w) y a′ in absurd (false≢true (sym (b i q) ∙ k))
-      go (inr (a, b, h)) (inr (a′, b′, h′)) =
+      go {x} (inr (a, b, h)) (inl (a′, b′)) = let (j, m, k, q) = ended-there w x a in absurd (false≢true (sym (b′ j q) ∙ k))
+      go {y} (inl (a, b)) (inr (a′, b′, h′)) = let (i, m, k, q) = ended-there (flip-ready w) y a′ in absurd (false≢true (sym (b i q) ∙ k))
+      go {x} {y} (inr (a, b, h)) (inr (a′, b′, h′)) =
+          let l = owns-twins w in
           let (j, m, k, q) = ended-there w x a in
           let (i, n, k′, q′) = ended-there (flip-ready w) y a′ in
           let n′ = flip-twin n in
           inr (
-            twin-of-pid (w .pair) l (kid-seen (facts t (w .sound-t)) c x (tc w) (left _ _ a)) (kid-seen (facts u (w .sound-u)) d y (tc (flip-ready w)) (left _ _ a′))
+            twin-of-pid (w .pair) l (kid-seen (facts t (w .sound-t)) c x (taken-v (w .twin)) (left _ _ a)) (kid-seen (facts u (w .sound-u)) d y (taken-u (w .twin)) (left _ _ a′))
                 (omega (arith, h i q′ k′, h′ j q k, pid-twins (w .pair) m l, pid-twins (w .pair) n′ l)),
             right _ _ a,
             right _ _ a′,
@@ -240,14 +223,8 @@ reap-kept {t} {u} {s} {r} w {x} {y} k ex ey (Ended e) z =
     let b = reaped-sane u (sane u (w .sound-u)) y ey in
     inr (
       ap (λ n. Reaped (to-pid n) e) (pid-twins (w .pair) k (owns-twins w)),
-      freed-alike t u a b
-          (record {
-            facts-v = a .facts;
-            facts-u = b .facts;
-            alive-v = w .pair .alive-v;
-            alive-u = w .pair .alive-u;
-            same = subst₂ (λ (v′ u′ : View). Same v′ u′ s r) (sym (reaped-view t (sane t (w .sound-t)) x ex)) (sym (reaped-view u (sane u (w .sound-u)) y ey)) (same-reap (w .pair) k ex ey);
-          }),
+      freed-alike t u a b (w .pair .alive-v) (w .pair .alive-u)
+              (subst₂ (λ (v′ u′ : View). Same v′ u′ s r) (sym (reaped-view t (sane t (w .sound-t)) x ex)) (sym (reaped-view u (sane u (w .sound-u)) y ey)) (same-reap (w .pair) k ex ey)),
     )
 
 -- wait by twin callers
@@ -279,7 +256,7 @@ reap-still {v} f x tx ex {s} o =
       ups = λ n h. refl;
       levels = λ n h. refl;
       lives = λ n h. refl;
-      seens = λ i. either i (others x i) refl;
+      seens = seen-same f (reap-remain f x tx ex .places) s (λ i k. ap not (apart i k));
       looks = λ i k. rw (apart i k);
       pids = λ i l k. rw (apart i k);
       parents = λ i k. rw (apart i k);
@@ -289,24 +266,11 @@ reap-still {v} f x tx ex {s} o =
     apart : (i : ℕ) → So (seen v s i) → eqb i x ≡ false
     apart i k = ne-eqb i x (λ e. no-so o (subst (λ j. So (seen v s j)) e k))
 
-    R : Remain v (without v x) everyone (others x)
-    R = reap-remain f x tx ex
-
-    either : (i : ℕ) (b : Bool) → others x i ≡ b → seen (without v x) s i ≡ seen v s i
-    either i true e = seen-remain f (R .places) s i e
-    either i false e = seen-gone f (R .places) s i e ∙ sym (isnt-so (λ k. no-so (apart i k) (isnt-not (eqb i x) e)))
-
 -- who has ended and is found is there
 first-taken : {t : Table} → SoundTable t → (c : ℕ) → So (view t .ended (first-ended (view t) c)) → So (taken (view t) (first-ended (view t) c))
-unfolding first-ended child-of
-first-taken {t} h c e = go (least-cases (ended-kid (view t) c) (pid-to (view t) c) process-slots process-slots (omega arith))
-  where
-    x : ℕ
-    x = least (ended-kid (view t) c) (pid-to (view t) c) process-slots process-slots
-
-    go : Least (ended-kid (view t) c) (pid-to (view t) c) process-slots process-slots x → So (taken (view t) x)
-    go (inl (a, b)) = absurd (false≢true (sym (ap (λ p. is-ended (p .state)) (List·getD-eq-default (t .processes) no-process (omega (arith, process-count t (h .shape), a)))) ∙ e))
-    go (inr (a, b, m)) = left _ _ (left _ _ a)
+unfolding child-of
+first-taken {t} h c e =
+    ⊎-elim (λ a. absurd (no-so (ap is-ended (no-state h _ (a .0))) e)) (λ a. left _ _ (left _ _ (a .0))) (first-cases (view t) c)
 
 -- wait by an outsider that removes nobody of S
 pub wait-leaves : MadeLeaves Wait
