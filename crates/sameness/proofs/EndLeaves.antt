@@ -2,7 +2,7 @@
 use Prim.Native.Nat.{ℕ, zero, suc, _<_, _≤_}
 use native.Mathlib.Decide.{ℕ-discrete, decLt}
 use native.Mathlib.Omega.{arith}
-use mathlib.Core.Bool.{Bool, true, false, not, So, false≢true}
+use mathlib.Core.Bool.{false, not, So, false≢true}
 use mathlib.Core.Logic.{_⊎_, inl, inr, ⊎-elim}
 use mathlib.Core.Path.{_≡_, refl, sym, _∙_, ap, subst}
 use borrow.Author.Tests.{eqb-true, eqb-false, ne-eqb}
@@ -17,12 +17,13 @@ use Rattle.rules.proofs.Laws.Slots.{own-taken, below-same, below-parent, init-o
 use Rattle.rules.proofs.Laws.Steps.{remainder, runs-lives}
 use Rattle.rules.proofs.Laws.Tests.{no-so, isnt-so, choose, right, both, cases, any-intro, isnt}
 use Rattle.rules.proofs.Laws.Tree.{below-refl}
-use Rattle.sameness.proofs.Freeing.{after, freed-leaves}
+use Rattle.sameness.proofs.Freeing.{freed-still}
 use Rattle.sameness.proofs.Ends.{not-seen-stays, fallen-places, member-of}
+use Rattle.sameness.proofs.Cases.{by-test}
 use Rattle.sameness.proofs.Calls.{MadeLeaves, as-it-was, outsider, untouched-made}
 use Rattle.sameness.proofs.Twins.{pid-in-unseen}
 use Rattle.sameness.proofs.Remain.{seen-same}
-use Rattle.sameness.proofs.Still.{Still, same-still, stands-still, near}
+use Rattle.sameness.proofs.Still.{Still, near}
 use Rattle.rules.specs.Answers.{answers, granted, is-refused, refused}
 use Rattle.rules.specs.Calls.{exit, status}
 use Rattle.rules.specs.Ends.{end}
@@ -31,8 +32,6 @@ use Rattle.rules.specs.Freeing.{freed, kept}
 use Rattle.table.specs.Limits.{namespace-slots}
 use Rattle.table.specs.Slots.{is-alive}
 use Rattle.rules.specs.Read.{View, alive, below, child-of, init, is-init, living, pid-in, seen, taken, view}
-use Rattle.sameness.specs.Sheet.{sheet}
-use Rattle.rules.specs.Sound.{SoundTable}
 use Rattle.rules.specs.Step.{make}
 use Rattle.table.specs.Tests.{if_then_else_}
 use Rattle.sameness.specs.Touches.{ends-above, touched}
@@ -119,21 +118,14 @@ module _ {v : View} (f : Facts v) (x : ℕ) (e : End) (tx : So (taken v x)) (s :
         lasts = λ i k. refl;
       }
 
--- ---- either
-
--- an end leaves all that the sheet of S rests on
-pub end-still : {t : Table} (w : Sane t) (x : ℕ) (e : End) → So (living (view t) x) → {s : ℕ} → seen (view t) s x ≡ false → (So (is-init (view t) x) → below (view t) s (view t .own x) ≡ false) → Still (view t) (view (end t x e)) s
-end-still {t} w x e l {s} o n =
-    let tx = lives-taken (view t) x l in
-    subst (λ u. Still (view t) u s) (sym (end-view t w x e tx))
-    (choose (λ u. Still (view t) u s) (is-init (view t) x) (λ q. init-still (w .facts) x e tx s o (n q)) (λ q. member-still (w .facts) x e (living-own-alive (view t) (w .facts) x l) tx s o))
+-- ---- what lives then
 
 -- an init's namespace lives no more
-pub end-dies : {t : Table} (w : Sane t) (x : ℕ) (e : End) → So (taken (view t) x) → So (is-init (view t) x) → alive (view (end t x e)) (view t .own x) ≡ false
+end-dies : {t : Table} (w : Sane t) (x : ℕ) (e : End) → So (taken (view t) x) → So (is-init (view t) x) → alive (view (end t x e)) (view t .own x) ≡ false
 end-dies {t} w x e tx q = subst (λ (u : View). alive u (view t .own x) ≡ false) (sym (end-view t w x e tx)) (rw (q, below-refl (view t) (view t .own x)))
 
 -- what lives after a change lived before
-pub freed-back : {t : Table} → Sane t → (n : ℕ) → So (alive (view (freed t)) n) → So (alive (view t) n)
+freed-back : {t : Table} → Sane t → (n : ℕ) → So (alive (view (freed t)) n) → So (alive (view t) n)
 freed-back {t} w n = subst (λ (u : View). So (alive u n) → So (alive (view t) n)) (sym (freed-view t (w .shape-of))) (choose (λ l. So (is-alive l) → So (alive (view t) n)) (kept (view t) n) (λ k h. h) (λ k h. absurd (false≢true h)))
 
 pub end-back : {t : Table} → Sane t → (x : ℕ) (e : End) → So (taken (view t) x) → (n : ℕ) → So (alive (view (end t x e)) n) → So (alive (view t) n)
@@ -142,50 +134,39 @@ end-back {t} w x e tx n =
     (choose (λ (u : View). So (alive u n) → So (alive (view t) n)) (is-init (view t) x)
     (λ q. choose (λ l. So (is-alive l) → So (alive (view t) n)) (below (view t) n (view t .own x)) (λ k h. absurd (false≢true h)) (λ k h. h)) (λ q h. h))
 
--- ---- exit
+-- what lives above S in t lives in u
+abbrev pub Above : Table → ℕ → Table → Type 0
+Above t s u = (m : ℕ) → m < namespace-slots → (m ≡ s → ⊥) → So (below (view t) s m) → So (alive (view t) m) → alive (view u) m ≡ false → ⊥
 
--- the own namespace of one outside S is not S
-pub not-own : (t : Table) (s i : ℕ) → So (taken (view t) i) → seen (view t) s i ≡ false → view t .own i ≡ s → ⊥
-unfolding seen
-not-own t s i h o e = false≢true (sym o ∙ both _ _ h (subst (λ n. So (below (view t) (view t .own i) n)) e (below-refl (view t) (view t .own i))))
-
--- no touch: what lives above S lives on
-pub lives-on : (t u : Table) (s : ℕ) → ends-above t u (at s) ≡ false → (n : ℕ) → n < namespace-slots → (n ≡ s → ⊥) → So (below (view t) s n) → So (alive (view t) n) → alive (view u) n ≡ false → ⊥
+-- no touch, then
+pub lives-on : (t u : Table) (s : ℕ) → ends-above t u (at s) ≡ false → Above t s u
 unfolding ends-above
 lives-on t u s h n l o b a k = false≢true (sym h ∙ any-intro _ _ n l (both _ _ (both _ _ (both _ _ (ap not (ne-eqb n s o)) b) a) (ap not k)))
+
+pub lives-freed : (t : Table) {t₁ : Table} (s : ℕ) → Sane t₁ → Above t s (freed t₁) → Above t s t₁
+lives-freed t s w h m l o b a k = h m l o b a (isnt-so (λ y. no-so k (freed-back w m y)))
+
+-- an end leaves all that the sheet of S rests on
+pub end-still : {t : Table} (w : Sane t) (x : ℕ) (e : End) → So (living (view t) x) → (s : ℕ) → seen (view t) s x ≡ false → Above t s (end t x e) → Still (view t) (view (end t x e)) s
+unfolding seen
+end-still {t} w x e l s o h =
+    let f = w .facts in
+    let tx = lives-taken (view t) x l in
+    let lives = living-own-alive (view t) f x l in
+    let other : view t .own x ≡ s → ⊥ = λ q. no-so o (both _ _ tx (subst (λ n. So (below (view t) (view t .own x) n)) q (below-refl (view t) (view t .own x)))) in
+    let not-above : So (is-init (view t) x) → below (view t) s (view t .own x) ≡ false =
+    λ i. isnt-so (λ b. h (view t .own x) (f .in-namespace _ (own-taken (view t) f x tx)) other b lives (end-dies w x e tx i)) in
+    subst (λ u. Still (view t) u s) (sym (end-view t w x e tx))
+    (choose (λ u. Still (view t) u s) (is-init (view t) x) (λ q. init-still f x e tx s o (not-above q)) (λ q. member-still f x e lives tx s o))
 
 -- exit by an outsider
 pub exit-leaves : (z : ℤ) → MadeLeaves (Exit z)
 unfolding MadeLeaves make exit answers granted refused is-refused touched
-exit-leaves z t s i h hs k a g = go (eqb i 0) refl g
-  where
-    go : (b : Bool) → eqb i 0 ≡ b → SoundTable (exit t i z .table) → after t s (exit t i z .table) ≡ sheet (view t) s
-    go true q g = rw (q, exit) (as-it-was t s hs)
-    go false q g =
-        let still = end-still (sane t h) i e li o not-above in
-        rw (q, exit)
-        (freed-leaves h (end-sane t (sane t h) i e li (eqb-false _ _ q) (remainder z)) hs (stands-still (facts t h) still hs) (same-still (facts t h) still))
-      where
-        e : End
-        e = Exited (status z)
-
-        t₁ : Table
-        t₁ = end t i e
-
-        li : So (living (view t) i)
-        li = runs-lives t i k
-
-        o : seen (view t) s i ≡ false
-        o = outsider t s i (Exit z) a
-
-        no-touch : ends-above t (freed t₁) (at s) ≡ false
-        no-touch = untouched-made s i (Exit z) h k a (answers (freed t₁) 0) (rw (q, exit) refl) refl
-
-        own-not : view t .own i ≡ s → ⊥
-        own-not m = not-own t s i (lives-taken (view t) i li) o m
-
-        not-above : So (is-init (view t) i) → below (view t) s (view t .own i) ≡ false
-        not-above m =
-            isnt-so
-            (λ b. lives-on t (freed t₁) s no-touch (view t .own i) (facts t h .in-namespace _ (own-taken (view t) (facts t h) i (lives-taken (view t) i li))) own-not b (living-own-alive (view t) (facts t h) i li)
-            (isnt-so (λ y. false≢true (sym (end-dies (sane t h) i e (lives-taken (view t) i li) m) ∙ freed-back (end-sane t (sane t h) i e li (eqb-false _ _ q) (remainder z)) (view t .own i) y))))
+exit-leaves z t s i h hs k a g =
+    by-test (eqb i 0) (λ q. rw (q, exit) (as-it-was t s hs))
+    (λ q.
+    let e = Exited (status z) in
+    let li = runs-lives t i k in
+    let w = end-sane t (sane t h) i e li (eqb-false _ _ q) (remainder z) in
+    let no-touch = untouched-made s i (Exit z) h k a (answers (freed (end t i e)) 0) (rw (q, exit) refl) refl in
+    rw (q, exit) (freed-still h w hs (end-still (sane t h) i e li s (outsider t s i (Exit z) a) (lives-freed t s w (lives-on t (freed (end t i e)) s no-touch)))))

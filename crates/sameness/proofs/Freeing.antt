@@ -13,6 +13,7 @@ use Rattle.rules.proofs.Laws.Slots.{init-own, alive-taken, init-taken}
 use Rattle.rules.proofs.Laws.Tests.{isnt-so, no-so, cases}
 use Rattle.sameness.proofs.Cases.{by-test}
 use Rattle.sameness.proofs.Remain.{Remain, lit, row-remain, seen-remain, pid-in-remain, name-remain, everyone}
+use Rattle.sameness.proofs.Still.{Still, same-still, stands-still}
 use Rattle.sameness.proofs.Same.{Same, sheets-of-same, listed-seen}
 use Rattle.sameness.specs.Events.{at, follow, gone, sheet-of}
 use Rattle.rules.specs.Freeing.{freed, kept}
@@ -114,3 +115,6 @@ freed-alike t u {t₁} {u₁} a b {s} {r} x y w =
 -- a table in the middle of an outsider's call that is the same to S as before
 pub freed-leaves : {t t₁ : Table} {s : ℕ} → SoundTable t → Sane t₁ → So (namespace-taken (view t) s) → So (namespace-taken (view t₁) s) → Same (view t₁) (view t) s s → after t s (freed t₁) ≡ sheet (view t) s
 freed-leaves {t} {s} h x hs hs₁ w = sheet-freed t x s hs₁ (λ k. w .levels) ∙ sheets-of-same (x .facts) (facts t h) hs₁ hs w
+
+pub freed-still : {t t₁ : Table} {s : ℕ} (h : SoundTable t) → Sane t₁ → So (namespace-taken (view t) s) → Still (view t) (view t₁) s → after t s (freed t₁) ≡ sheet (view t) s
+freed-still {t} h x hs d = freed-leaves h x hs (stands-still (facts t h) d hs) (same-still (facts t h) d)

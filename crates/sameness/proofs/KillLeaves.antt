@@ -12,10 +12,9 @@ use Rattle.rules.proofs.Keeps.End.{end-view}
 use Rattle.rules.proofs.Keeps.Premises.{natural-low, targets-safe}
 use Rattle.rules.proofs.Laws.Facts.{Facts, facts, Sane, sane, lives-taken}
 use Rattle.rules.proofs.Laws.Lists.{some-of-false}
-use Rattle.rules.proofs.Laws.Slots.{own-taken, living-own-alive}
 use Rattle.rules.proofs.Laws.Tests.{isnt-so, both, or-false-left, or-false-right}
 use Rattle.sameness.proofs.Cases.{by-test}
-use Rattle.sameness.proofs.EndLeaves.{end-still, end-dies, end-back, freed-back, lives-on, not-own}
+use Rattle.sameness.proofs.EndLeaves.{Above, end-still, end-back, lives-freed, lives-on}
 use Rattle.sameness.proofs.EndSame.{ended-end}
 use Rattle.sameness.proofs.Freeing.{after, freed-leaves}
 use Rattle.sameness.proofs.Kill.{not-living-put, resumed-placed, action-none}
@@ -29,12 +28,11 @@ use Rattle.rules.specs.Delivery.{act, action-on, deliver, deliver-all, with-pen
 use Rattle.rules.specs.Ends.{end}
 use Rattle.sameness.specs.Events.{at, is-inside}
 use Rattle.rules.specs.Freeing.{freed}
-use Rattle.table.specs.Limits.{namespace-slots, signals}
+use Rattle.table.specs.Limits.{signals}
 use Rattle.table.specs.Slots.{process, put}
-use Rattle.rules.specs.Read.{View, alive, below, is-init, living, namespace-taken, seen, taken, view}
+use Rattle.rules.specs.Read.{View, alive, below, living, namespace-taken, seen, view}
 use Rattle.rules.specs.Records.{with-state}
 use Rattle.sameness.specs.Sheet.{sheet}
-use Rattle.rules.specs.Sound.{SoundTable}
 use Rattle.rules.specs.Step.{make}
 use Rattle.table.specs.Tests.{_and_, _or_, some-of}
 use Rattle.sameness.specs.Touches.{signals-into, touched}
@@ -91,10 +89,6 @@ action-zero v f x n e = rw (e, action-on) refl
 
 -- ---- deliveries
 
--- what lives above S lives on in u
-abbrev Above : Table → ℕ → Table → Type 0
-Above t₀ s u = (m : ℕ) → m < namespace-slots → (m ≡ s → ⊥) → So (below (view t₀) s m) → So (alive (view t₀) m) → alive (view u) m ≡ false → ⊥
-
 module _ {t₀ t : Table} {s : ℕ} (x n : ℕ) (g : Going t₀ t s) (o : seen (view t) s x ≡ false) (l : So (living (view t) x)) where
   f : Facts (view t)
   f = g .sane-now .facts
@@ -104,16 +98,9 @@ module _ {t₀ t : Table} {s : ℕ} (x n : ℕ) (g : Going t₀ t s) (o : seen (
 
   finished : Sane (end t x (Signaled n)) → Above t₀ s (end t x (Signaled n)) → Going t₀ (end t x (Signaled n)) s
   finished w h =
-      onward g w (end-still (g .sane-now) x (Signaled n) l o not-above) (end-back (g .sane-now) x (Signaled n) tx)
+      let tx = lives-taken (view t) x l in
+      onward g w (end-still (g .sane-now) x (Signaled n) l s o (λ m low c b a. h m low c (sym (g .aboves m) ∙ b) (g .backs m a))) (end-back (g .sane-now) x (Signaled n) tx)
       (λ i. subst (λ u. living (view t) i ≡ false → living u i ≡ false) (sym (end-view t (g .sane-now) x (Signaled n) tx)) (ended-end (view t) x (Signaled n) i))
-    where
-      tx : So (taken (view t) x)
-      tx = lives-taken (view t) x l
-
-      not-above : So (is-init (view t) x) → below (view t) s (view t .own x) ≡ false
-      not-above i =
-          isnt-so
-          (λ b. h (view t .own x) (f .in-namespace _ (own-taken (view t) f x tx)) (not-own t s x tx o) (sym (g .aboves (view t .own x)) ∙ b) (g .backs _ (living-own-alive (view t) f x l)) (end-dies (g .sane-now) x (Signaled n) tx i))
 
   applied : (e : Action) → Sane (act t x n e) → Above t₀ s (act t x n e) → Going t₀ (act t x n e) s
   unfolding act with-pending
@@ -180,7 +167,7 @@ kill-leaves z n t s i h hs k a g =
     (λ eb. by-test (eqb (length (targets (view t) i z)) 0)
     (λ ec. rw (ea, eb, ec, kill) (as-it-was t s hs))
     (λ ec. rw (ea, eb, ec, kill)
-    (done (natural-low n ea) (untouched-made s i (Kill z n) h k a (answers (freed t₁) 0) (rw (ea, eb, ec, kill) refl) refl) (rw (ea, eb, ec, kill) at g) (eqb (natural n) 0) refl))))
+    (done (natural-low n ea) (untouched-made s i (Kill z n) h k a (answers (freed t₁) 0) (rw (ea, eb, ec, kill) refl) refl)))))
     (λ ea. rw (ea, kill) (as-it-was t s hs))
   where
     xs : List ℕ
@@ -189,13 +176,14 @@ kill-leaves z n t s i h hs k a g =
     t₁ : Table
     t₁ = deliver-all t (view t .own i) xs (natural n)
 
-    done : natural n < signals → touched t (freed t₁) (at s) i (Kill z n) ≡ false → SoundTable (freed t₁) → (b : Bool) → eqb (natural n) 0 ≡ b → after t s (freed t₁) ≡ sheet (view t) s
-    done low o g true e =
-        let q = all-zero xs t (view t .own i) (natural n) e in
-        let w = start (sane t h) hs in
-        subst (λ y. after t s (freed y) ≡ sheet (view t) s) (sym q) (freed-leaves h (sane t h) hs hs (w .same))
-    done low o g false e =
+    done : natural n < signals → touched t (freed t₁) (at s) i (Kill z n) ≡ false → after t s (freed t₁) ≡ sheet (view t) s
+    done low o =
+        by-test (eqb (natural n) 0)
+        (λ e. subst (λ y. after t s (freed y) ≡ sheet (view t) s) (sym (all-zero xs t (view t .own i) (natural n) e)) (freed-leaves h (sane t h) hs hs (start (sane t h) hs .same)))
+        (λ e.
+        let safe = targets-safe (view t) (facts t h) i z in
+        let w₁ = deliver-all-sane t (sane t h) (view t .own i) (natural n) low xs safe in
         let w : Going t t₁ s =
-        all-going (view t .own i) (natural n) low xs (targets-safe (view t) (facts t h) i z) (start (sane t h) hs) (sent (eqb (natural n) 0) (some-of (λ j. is-inside t (at s) j and living (view t) j) xs) e (or-false-left _ _ o))
-        (λ m l c b d y. lives-on t (freed t₁) s (or-false-right _ _ o) m l c b d (isnt-so (λ v. false≢true (sym y ∙ freed-back (deliver-all-sane t (sane t h) (view t .own i) (natural n) low xs (targets-safe (view t) (facts t h) i z)) m v)))) in
-        freed-leaves h (w .sane-now) hs (w .stands) (w .same)
+        all-going (view t .own i) (natural n) low xs safe (start (sane t h) hs) (sent (eqb (natural n) 0) (some-of (λ j. is-inside t (at s) j and living (view t) j) xs) e (or-false-left _ _ o))
+        (lives-freed t s w₁ (lives-on t (freed t₁) s (or-false-right _ _ o))) in
+        freed-leaves h (w .sane-now) hs (w .stands) (w .same))

@@ -15,9 +15,9 @@ use Rattle.rules.proofs.Laws.Tests.{or-false-left}
 use Rattle.sameness.proofs.Cases.{by-test}
 use Rattle.sameness.proofs.Calls.{Kept, Ready, MadeSame, MadeLeaves, as-it-was, outsider, both-refuse, owns-twins}
 use Rattle.sameness.proofs.Light.{shown, same-put}
-use Rattle.sameness.proofs.Freeing.{freed-alike, freed-leaves}
+use Rattle.sameness.proofs.Freeing.{freed-alike, freed-still}
 use Rattle.sameness.proofs.Readers.{find-twins, ended-twins}
-use Rattle.sameness.proofs.Still.{same-still, put-still}
+use Rattle.sameness.proofs.Still.{put-still}
 use Rattle.sameness.proofs.Twins.{Twin, twin-rows}
 use Rattle.rules.specs.Answers.{answers, granted, refused}
 use Rattle.rules.specs.Calls.{named, set-children, setns}
@@ -85,5 +85,5 @@ unfolding MadeLeaves make setns set-children answers granted refused namespace-t
 setns-leaves z t s i h hs k a g =
     by-test (eqb (named (view t) i z) process-slots or view t .ended (named (view t) i z)) (λ e. rw (e, setns) (as-it-was t s hs))
     (λ e. rw (e, setns)
-    (freed-leaves h (setns-sane t h i _ (process t i .unshared) (runs-lives t i k) (named-seen (view t) i z (eqb-false _ _ (or-false-left _ _ e)))) hs hs
-    (same-still (facts t h) (put-still t (facts t h) i (with-children (process t i) (view t .own (named (view t) i z)) (process t i .unshared)) (refl, refl, refl) s (outsider t s i (Setns z) a)))))
+    (freed-still h (setns-sane t h i _ (process t i .unshared) (runs-lives t i k) (named-seen (view t) i z (eqb-false _ _ (or-false-left _ _ e)))) hs
+    (put-still t (facts t h) i (with-children (process t i) (view t .own (named (view t) i z)) (process t i .unshared)) (refl, refl, refl) s (outsider t s i (Setns z) a))))
