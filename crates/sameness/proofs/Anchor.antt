@@ -1,6 +1,5 @@
 -- The nearest living namespace, and the name that a sheet gives.
-use Prim.Native.Nat.{ℕ, zero, suc, _<_, _≤_}
-use native.Mathlib.Decide.{ℕ-discrete}
+use Prim.Native.Nat.{ℕ, zero, suc, _<_}
 use native.Mathlib.Omega.{arith}
 use mathlib.Core.Bool.{Bool, true, false, So, false≢true}
 use mathlib.Core.Logic.{_⊎_, inl, inr}
@@ -9,7 +8,9 @@ use borrow.Author.Tests.{ne-eqb, eq-eqb}
 use Rattle.rules.proofs.Laws.Below.{up-level, below-level, below-trans}
 use Rattle.rules.proofs.Laws.Facts.{Facts}
 use Rattle.rules.proofs.Laws.Slots.{root-only, up-taken, below-parent, below-same, up-by-below}
+use Rattle.rules.proofs.Laws.Tests.{choose, no-so}
 use Rattle.rules.proofs.Laws.Tree.{below-refl}
+use Rattle.sameness.proofs.Cases.{by-equal}
 use Rattle.table.specs.Limits.{no-slot}
 use Rattle.table.specs.Slots.{init-of, is-alive, is-unborn}
 use Rattle.rules.specs.Read.{View, alive, below, init, namespace-taken, pid-in, unborn, up-by}
@@ -64,19 +65,11 @@ module _ {v : View} (f : Facts v) where
   near-alive : (k n : ℕ) → v .level n ≡ k → So (namespace-taken v n) → So (alive v (nearest-alive v k n))
   unfolding nearest
   near-alive zero n e h = subst (λ m. So (alive v m)) (sym (root-only v f n h e)) root-alive
-  near-alive (suc k) n e h = go (alive v n) refl (near-alive k (v .up n) (up-level v f n k e) (up-taken v f n k e))
-    where
-      go : (b : Bool) → alive v n ≡ b → So (alive v (nearest-alive v k (v .up n))) → So (alive v (elim b [ true ↦ n | false ↦ nearest-alive v k (v .up n) ]))
-      go true a r = a
-      go false a r = r
+  near-alive (suc k) n e h = choose (λ m. So (alive v m)) (alive v n) (λ a. a) (λ a. near-alive k (v .up n) (up-level v f n k e) (up-taken v f n k e))
 
   -- what lies below another is deeper
   pub deeper : (a b : ℕ) → So (below v a b) → (a ≡ b → ⊥) → v .level b < v .level a
-  deeper a b h o = go (ℕ-discrete (v .level a) (v .level b)) (below-level v f a b h)
-    where
-      go : Dec (v .level a ≡ v .level b) → v .level b ≤ v .level a → v .level b < v .level a
-      go (yes q) l = absurd (o (below-same v f a b h q))
-      go (no q) l = omega arith
+  deeper a b h o = by-equal (v .level a) (v .level b) (λ q. absurd (o (below-same v f a b h q))) (λ q. omega (arith, below-level v f a b h))
 
   pub below-up : (a b : ℕ) → So (below v a b) → (a ≡ b → ⊥) → So (below v (v .up a) b)
   below-up a b h o = below-parent v f a b h (deeper a b h o)
@@ -88,21 +81,15 @@ module _ {v : View} (f : Facts v) where
   near-below : (k n : ℕ) → v .level n ≡ k → So (below v n (nearest-alive v k n))
   unfolding nearest
   near-below zero n e = below-refl v n
-  near-below (suc k) n e = go (alive v n) (near-below k (v .up n) (up-level v f n k e))
-    where
-      go : (b : Bool) → So (below v (v .up n) (nearest-alive v k (v .up n))) → So (below v n (elim b [ true ↦ n | false ↦ nearest-alive v k (v .up n) ]))
-      go true r = below-refl v n
-      go false r = below-trans v f n (v .up n) _ (up-below n k e) r
+  near-below (suc k) n e =
+      choose (λ m. So (below v n m)) (alive v n) (λ a. below-refl v n) (λ a. below-trans v f n (v .up n) _ (up-below n k e) (near-below k (v .up n) (up-level v f n k e)))
 
   near-least : (k n m : ℕ) → v .level n ≡ k → So (alive v m) → So (below v n m) → So (below v (nearest-alive v k n) m)
   unfolding nearest
   near-least zero n m e a h = h
-  near-least (suc k) n m e a h = go (alive v n) refl (λ g. near-least k (v .up n) m (up-level v f n k e) a g) (ℕ-discrete (v .level n) (v .level m))
-    where
-      go : (b : Bool) → alive v n ≡ b → (So (below v (v .up n) m) → So (below v (nearest-alive v k (v .up n)) m)) → Dec (v .level n ≡ v .level m) → So (below v (elim b [ true ↦ n | false ↦ nearest-alive v k (v .up n) ]) m)
-      go true x r d = h
-      go false x r (yes q) = absurd (false≢true (sym x ∙ ap (alive v) (below-same v f n m h q) ∙ a))
-      go false x r (no q) = r (below-parent v f n m h (omega (arith, below-level v f n m h)))
+  near-least (suc k) n m e a h =
+      choose (λ x. So (below v x m)) (alive v n) (λ x. h)
+      (λ x. near-least k (v .up n) m (up-level v f n k e) a (below-up n m h (λ q. no-so x (subst (λ y. So (alive v y)) (sym q) a))))
 
   pub anchor-self : (n : ℕ) → So (alive v n) → anchor v n ≡ n
   anchor-self n a = near-self (v .level n) n a

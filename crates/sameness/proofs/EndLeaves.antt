@@ -1,7 +1,5 @@
 -- The end of one outside S, no init above S; exit by an outsider.
-use Prim.Native.Nat.{ℕ, zero, suc, _<_, _≤_}
-use native.Mathlib.Decide.{ℕ-discrete, decLt}
-use native.Mathlib.Omega.{arith}
+use Prim.Native.Nat.{ℕ, zero, suc, _<_}
 use mathlib.Core.Bool.{false, not, So, false≢true}
 use mathlib.Core.Logic.{_⊎_, inl, inr, ⊎-elim}
 use mathlib.Core.Path.{_≡_, refl, sym, _∙_, ap, subst}
@@ -11,15 +9,16 @@ use lib.IntN.{ℤ}
 use Rattle.rules.proofs.Keeps.End.{end-view, end-sane}
 use Rattle.rules.proofs.Keeps.Freed.{freed-view}
 use Rattle.rules.proofs.Keeps.InitEnds.{gone, subtree-gone}
-use Rattle.rules.proofs.Laws.Below.{up-level, below-level, below-trans}
+use Rattle.rules.proofs.Laws.Below.{shallow-below, up-level, below-trans}
 use Rattle.rules.proofs.Laws.Facts.{Facts, facts, Sane, sane, seen-below, lives-taken}
-use Rattle.rules.proofs.Laws.Slots.{own-taken, below-same, below-parent, init-own, living-own-alive}
+use Rattle.rules.proofs.Laws.Slots.{own-taken, init-own, living-own-alive}
 use Rattle.rules.proofs.Laws.Steps.{remainder, runs-lives}
 use Rattle.rules.proofs.Laws.Tests.{no-so, isnt-so, choose, right, both, cases, any-intro, isnt}
 use Rattle.rules.proofs.Laws.Tree.{below-refl}
 use Rattle.sameness.proofs.Freeing.{freed-still}
 use Rattle.sameness.proofs.Ends.{not-seen-stays, fallen-places, member-of}
-use Rattle.sameness.proofs.Cases.{by-test}
+use Rattle.sameness.proofs.Anchor.{below-up}
+use Rattle.sameness.proofs.Cases.{by-test, by-equal}
 use Rattle.sameness.proofs.Calls.{MadeLeaves, as-it-was, outsider, untouched-made}
 use Rattle.sameness.proofs.Twins.{pid-in-unseen}
 use Rattle.sameness.proofs.Remain.{seen-same}
@@ -40,22 +39,12 @@ use Rattle.table.specs.declared.End.the-variants.{Exited}
 use Rattle.table.specs.declared.End.{End}
 use Rattle.table.specs.declared.Table.{Table}
 
--- of two namespaces above one, the deeper lies below the other
-comparable : {v : View} (f : Facts v) (l a b c : ℕ) → v .level a ≡ l → So (below v a b) → So (below v a c) → v .level c ≤ v .level b → So (below v b c)
-comparable {v} f zero a b c e x y m = subst (λ n. So (below v n c)) (below-same v f a b x (omega (arith, below-level v f a b x))) y
-comparable {v} f (suc l) a b c e x y m = go (ℕ-discrete (v .level a) (v .level b)) (λ p q. comparable f l (v .up a) b c (up-level v f a l e) p q m)
-  where
-    go : Dec (v .level a ≡ v .level b) → (So (below v (v .up a) b) → So (below v (v .up a) c) → So (below v b c)) → So (below v b c)
-    go (yes q) r = subst (λ n. So (below v n c)) (below-same v f a b x q) y
-    go (no q) r = let z = below-level v f a b x in r (below-parent v f a b x (omega arith)) (below-parent v f a c y (omega arith))
-
 -- of two namespaces above one, one lies below the other
-pub either-below : {v : View} (f : Facts v) (a b c : ℕ) → So (below v a b) → So (below v a c) → So (below v b c) ⊎ So (below v c b)
-either-below {v} f a b c x y = go (decLt (v .level b) (v .level c))
-  where
-    go : Dec (v .level b < v .level c) → So (below v b c) ⊎ So (below v c b)
-    go (yes l) = inr (comparable f (v .level a) a c b refl y x (omega arith))
-    go (no l) = inl (comparable f (v .level a) a b c refl x y (omega arith))
+either-below : {v : View} (f : Facts v) (l a b c : ℕ) → v .level a ≡ l → So (below v a b) → So (below v a c) → So (below v b c) ⊎ So (below v c b)
+either-below {v} f zero a b c e x y = inl (subst (λ n. So (below v n c)) (shallow-below v a b e x) y)
+either-below {v} f (suc l) a b c e x y =
+    by-equal a b (λ q. inl (subst (λ n. So (below v n c)) q y))
+    (λ q. by-equal a c (λ z. inr (subst (λ n. So (below v n b)) z x)) (λ z. either-below f l (v .up a) b c (up-level v f a l e) (below-up f a b x q) (below-up f a c y z)))
 
 -- ---- not an init
 
@@ -94,7 +83,7 @@ module _ {v : View} (f : Facts v) (x : ℕ) (e : End) (tx : So (taken v x)) (s :
   -- nothing lies in both
   disjoint : (m : ℕ) → So (below v m s) → So (below v m (v .own x)) → ⊥
   unfolding seen
-  disjoint m a b = ⊎-elim (λ k. no-so n k) (λ k. no-so o (both _ _ tx k)) (either-below f m s (v .own x) a b)
+  disjoint m a b = ⊎-elim (λ k. no-so n k) (λ k. no-so o (both _ _ tx k)) (either-below f (v .level m) m s (v .own x) refl a b)
 
   spared : (i : ℕ) → So (seen v s i) → seen v (v .own x) i ≡ false
   spared i k = isnt-so (λ q. disjoint (v .own i) (seen-below v s i k) (seen-below v (v .own x) i q))
