@@ -1,7 +1,6 @@
 -- The end of a process: of a member of its namespace, and of an init, with which its namespace and all below it die.
 -- Of twins on two tables: the tables stay the same to S.
 use Prim.Native.Nat.{ℕ, zero, suc, pred, _<_}
-use native.Mathlib.Decide.{ℕ-discrete}
 use native.Mathlib.Omega.{arith}
 use mathlib.Core.Bool.{Bool, true, false, not, So, false≢true}
 use mathlib.Core.Logic.{⊎-elim}
@@ -11,16 +10,16 @@ use lib.Dec.{eqb}
 use Rattle.rules.proofs.Keeps.InitEnds.{subtree-gone, gone}
 use Rattle.rules.proofs.Laws.Below.{up-level, below-level, below-trans}
 use Rattle.rules.proofs.Laws.Facts.{Facts, seen-taken}
-use Rattle.rules.proofs.Laws.Slots.{below-parent, below-same, alive-up, child-seen, init-own, init-seen}
+use Rattle.rules.proofs.Laws.Slots.{alive-up, child-seen, init-own, init-seen}
 use Rattle.rules.proofs.Laws.Tests.{isnt, isnt-not, isnt-so, no-so, false-and, right, both}
 use Rattle.rules.proofs.Keeps.Changed.{pick}
 use Rattle.rules.proofs.Keeps.MemberEnds.{member-gone}
-use Rattle.sameness.proofs.Anchor.{init-or-none, up-below, name-no-slot}
+use Rattle.sameness.proofs.Anchor.{below-up, init-or-none, up-below, name-no-slot}
 use Rattle.sameness.proofs.Remain.{Places, Tree, everyone, name-stays, pid-in-remain, Remain, Lit, same-remain, name-remain, same-rows, pids-remain}
 use Rattle.sameness.proofs.Readers.{twin-eqb, child-twins, living-twins, children-names, children-unborn, ended-twins, children-taken, unborn-outside, parent-in-twins}
 use Rattle.sameness.proofs.Same.{Same, row-by}
 use Rattle.sameness.proofs.Twins.{Pair, Twin, owns, pid-in-seen, twin-rows, Namesakes, own-names, below-named, level-named, taken-v, taken-u, Twins, seen-twins, twins-level}
-use Rattle.sameness.proofs.Cases.{by-test}
+use Rattle.sameness.proofs.Cases.{by-test, by-equal}
 use Rattle.table.specs.Limits.{no-slot, sigkill}
 use Rattle.table.specs.Slots.{init-of, is-alive}
 use Rattle.rules.specs.Read.{View, alive, below, init, namespace-taken, pid-in, seen, taken, child-of, is-init, living, unborn}
@@ -112,13 +111,11 @@ module _ {v : View} (f : Facts v) (x : ℕ) (e : End) where
     near-in : (k n : ℕ) → v .level n ≡ k → So (below v n (v .own x)) → nearest (fallen v x e .life) (v .up) k n ≡ v .up (v .own x)
     unfolding nearest
     near-in zero n q h = absurd (omega (arith, below-level v f n (v .own x) h))
-    near-in (suc k) n q h = rw (h, nearest) (go (ℕ-discrete (v .level n) (v .level (v .own x))) (λ b. near-in k (v .up n) (up-level v f n k q) b))
-      where
-        go : Dec (v .level n ≡ v .level (v .own x)) → (So (below v (v .up n) (v .own x)) → nearest (fallen v x e .life) (v .up) k (v .up n) ≡ v .up (v .own x)) → nearest (fallen v x e .life) (v .up) k (v .up n) ≡ v .up (v .own x)
-        go (yes q) r =
-            ap (λ y. nearest (fallen v x e .life) (v .up) k (v .up y)) (below-same v f n (v .own x) h q)
-            ∙ near-self k (v .up (v .own x)) (rw up-out (alive-up v f (v .own x) _ a one))
-        go (no q) r = r (below-parent v f n (v .own x) h (omega (arith, below-level v f n (v .own x) h)))
+    near-in (suc k) n q h =
+        rw (h, nearest)
+        (by-equal n (v .own x)
+        (λ z. ap (λ y. nearest (fallen v x e .life) (v .up) k (v .up y)) z ∙ near-self k (v .up (v .own x)) (rw up-out (alive-up v f (v .own x) _ a one)))
+        (λ z. near-in k (v .up n) (up-level v f n k q) (below-up f n (v .own x) h z)))
 
     -- in it they name the init above
     pub name-in : (s n : ℕ) → So (below v n (v .own x)) → So (namespace-taken v n) → name (fallen v x e) s n ≡ dead-at (v .level n) (pid-in v s (init v (v .up (v .own x))))
