@@ -5,7 +5,7 @@ use mathlib.Core.Bool.{Bool, true, false, not, So, false≢true}
 use mathlib.Core.List.{List, _∷_, map, []}
 use mathlib.Core.Logic.{inl, inr}
 use mathlib.Core.Path.{_≡_, refl, sym, _∙_, ap, ap₂, subst}
-use borrow.Author.Tests.{eq-eqb, ne-eqb, eqb-true, le-leb, lt-ltb}
+use borrow.Author.Tests.{eq-eqb, eqb-true, le-leb, lt-ltb}
 use lib.Dec.{eqb}
 use lib.IntN.{ℤ, pos, negsuc}
 use lib.ListN.{length}
@@ -23,10 +23,10 @@ use Rattle.sameness.proofs.Calls.{Ready, MadeSame, owns-twins, both-ref
 use Rattle.sameness.proofs.EndSame.{end-same, pair-of, Midway, Onward, Target, from-after, targets-after}
 use Rattle.sameness.proofs.Freeing.{freed-alike}
 use Rattle.sameness.proofs.Light.{Placed, Shown, shown, same-put, put-other, put-remain}
-use Rattle.sameness.proofs.Readers.{seen-above, twin-eqb, is-init-twins, living-twins}
+use Rattle.sameness.proofs.Readers.{NobodyOrTwins, slot-v, twin-of-pid, seen-above, twin-eqb, is-init-twins, living-twins}
 use Rattle.sameness.proofs.Same.{seen-listed, listed-seen}
-use Rattle.sameness.proofs.Setns.{Named, named-twins}
-use Rattle.sameness.proofs.Twins.{Pair, Twin, Twins, flip-pair, flip-twins, twin-there, seen-twins, pid-twins, owns, twins-unique}
+use Rattle.sameness.proofs.Setns.{named-twins}
+use Rattle.sameness.proofs.Twins.{flip-twin, Pair, Twin, Twins, flip-pair, flip-twins, twin-there, seen-twins, pid-twins, owns, twins-unique}
 use Rattle.rules.specs.Answers.{answers, granted}
 use Rattle.rules.specs.Calls.{named, others, targets, kill, names-group, natural, within}
 use Rattle.rules.specs.Delivery.{act, action-on, default-action, deliver, deliver-all, resumed, with-pending}
@@ -90,17 +90,10 @@ pids-in {v} {u} {s} w {n} {m} l k h =
     (in-map (pid-seen u m) j (all-seen u m) (seen-listed (w .facts-u) m j (sym (seen-twins w p l) ∙ listed-seen v n i a)))
 
 module _ {v u : View} {s r : ℕ} (w : Pair v u s r) where
-  -- two that are seen from twin namespaces with the same number there
-  pub twin-of-pid : {n m i j : ℕ} → Twins v u s r n m → So (seen v n i) → So (seen u m j) → pid-seen v n i ≡ pid-seen u m j → Twin v u s r i j
-  twin-of-pid {n} {m} {i} {j} l a b e =
-      let (x, p) = twin-there w i (seen-above (w .facts-v) n s i (l .below-v) a) in
-      subst (λ y. Twin v u s r i y)
-      (pid-unique u (w .facts-u) m x j (alive-taken u (w .facts-u) m (l .lives-u)) (sym (seen-twins w p l) ∙ a) b (sym (pid-twins w p l) ∙ e)) p
-
   all-seen-twins : {n m : ℕ} → Twins v u s r n m → Along (Twin v u s r) (all-seen v n) (all-seen u m)
   all-seen-twins {n} {m} l =
       along-pids (Twin v u s r) (pid-seen v n) (pid-seen u m) (all-seen v n) (all-seen u m)
-      (λ i j a b e. twin-of-pid l (listed-seen v n i a) (listed-seen u m j b) e)
+      (λ i j a b e. twin-of-pid w l (listed-seen v n i a) (listed-seen u m j b) e)
       (sorted-unique (λ k. k) _ _ (pids-sorted (w .facts-v) n (l .lives-v)) (pids-sorted (w .facts-u) m (l .lives-u)) (pids-in w l) (pids-in (flip-pair w) (flip-twins l)))
 
 -- the targets are pairs of twins
@@ -112,9 +105,9 @@ targets-twins {t} {u} {s} {r} w (negsuc k) =
     (all-seen-twins (w .pair) (owns-twins w))
 targets-twins {t} {u} {s} {r} {i} {j} w (pos k) = go (named-twins w (pos k))
   where
-    go : Named t u s r (named (view t) i (pos k)) (named (view u) j (pos k)) → Along (Twin (view t) (view u) s r) (if eqb (named (view t) i (pos k)) process-slots then [] else named (view t) i (pos k) ∷ []) (if eqb (named (view u) j (pos k)) process-slots then [] else named (view u) j (pos k) ∷ [])
+    go : NobodyOrTwins (view t) (view u) s r (named (view t) i (pos k)) (named (view u) j (pos k)) → Along (Twin (view t) (view u) s r) (if eqb (named (view t) i (pos k)) process-slots then [] else named (view t) i (pos k) ∷ []) (if eqb (named (view u) j (pos k)) process-slots then [] else named (view u) j (pos k) ∷ [])
     go (inl (e, d)) = rw (eq-eqb _ _ e, eq-eqb _ _ d) end-along
-    go (inr (p, l, m)) = rw (ne-eqb (named (view t) i (pos k)) process-slots (λ e. omega (arith, e)), ne-eqb (named (view u) j (pos k)) process-slots (λ e. omega (arith, e))) (more p end-along)
+    go (inr p) = rw (slot-v (w .pair) p, slot-v (flip-pair (w .pair)) (flip-twin p)) (more p end-along)
 
 -- ---- what a signal does
 

@@ -1,5 +1,6 @@
 -- What reads the same on two tables that are the same to a living namespace.
 use Prim.Native.Nat.{ℕ, _<_}
+use native.Mathlib.Omega.{arith}
 use mathlib.Core.Bool.{Bool, false, So, false≢true, not}
 use mathlib.Core.List.{[]}
 use mathlib.Core.Logic.{_⊎_, inl, inr}
@@ -18,10 +19,14 @@ use Rattle.sameness.proofs.Same.{same-of-sheets, row-pid, level-lt, see
 use Rattle.sameness.proofs.Twins.{Namesakes, parent-seen, parent-twin, taken-v, taken-u, twin-pid-in, Pair, Twin, Twins, flip-pair, flip-twin, twin-rows, twin-there, twin-unique, seen-twins, pid-twins, inits-twin, owns, twins-up}
 use Rattle.table.specs.Limits.{process-slots}
 use Rattle.table.specs.Slots.{is-ended}
-use Rattle.rules.specs.Read.{View, all-seen, alive, below, child-of, find, is-init, pid-in, seen, living, init, namespace-taken, unborn}
+use Rattle.rules.specs.Read.{pid-seen, View, all-seen, alive, below, child-of, find, is-init, pid-in, seen, living, init, namespace-taken, unborn}
 use Rattle.sameness.specs.Sheet.{Row, row, sheet}
 use Rattle.rules.specs.Sound as S
 use Rattle.table.specs.Tests.{_and_, if_then_else_}
+
+-- nobody on both tables, or twins
+abbrev pub NobodyOrTwins : View → View → ℕ → ℕ → ℕ → ℕ → Type 0
+NobodyOrTwins v u s r x y = ((x ≡ process-slots) × (y ≡ process-slots)) ⊎ Twin v u s r x y
 
 -- seen from one is seen from all above
 pub seen-above : {v : View} (f : Facts v) (n m i : ℕ) → So (below v n m) → So (seen v n i) → So (seen v m i)
@@ -50,15 +55,19 @@ module _ {v u : View} {s r : ℕ} (w : Pair v u s r) where
       bool-ext _ _ (λ e. eq-eqb j d (twin-unique w a b (eqb-true i c e)))
       (λ e. eq-eqb i c (twin-unique (flip-pair w) (flip-twin a) (flip-twin b) (eqb-true j d e)))
 
-  -- nobody by the number on both, or a pair of twins
-  pub find-twins : {n m : ℕ} (k : ℕ) → Twins v u s r n m → ((find v n k ≡ process-slots) × (find u m k ≡ process-slots)) ⊎ (Twin v u s r (find v n k) (find u m k) × (find v n k < process-slots) × (find u m k < process-slots))
+  -- two that are seen from twin namespaces with the same number there
+  pub twin-of-pid : {n m i j : ℕ} → Twins v u s r n m → So (seen v n i) → So (seen u m j) → pid-seen v n i ≡ pid-seen u m j → Twin v u s r i j
+  twin-of-pid {n} {m} {i} {j} l a b e =
+      let (x, p) = twin-there w i (seen-above (w .facts-v) n s i (l .below-v) a) in
+      subst (λ y. Twin v u s r i y)
+      (pid-unique u (w .facts-u) m x j (alive-taken u (w .facts-u) m (l .lives-u)) (sym (seen-twins w p l) ∙ a) b (sym (pid-twins w p l) ∙ e)) p
+
+  -- a number finds nobody on both, or twins
+  pub find-twins : {n m : ℕ} (k : ℕ) → Twins v u s r n m → NobodyOrTwins v u s r (find v n k) (find u m k)
   find-twins {n} {m} k l = go (find-cases v n k) (find-cases u m k)
     where
-      go : Found v n k (find v n k) → Found u m k (find u m k) → ((find v n k ≡ process-slots) × (find u m k ≡ process-slots)) ⊎ (Twin v u s r (find v n k) (find u m k) × (find v n k < process-slots) × (find u m k < process-slots))
-      go (inl (a, b, c)) (inl (x, y, z)) =
-          let (j, p) = twin-there w (find v n k) (seen-above (w .facts-v) n s _ (l .below-v) a) in
-          let e = pid-unique u (w .facts-u) m j (find u m k) (alive-taken u (w .facts-u) m (l .lives-u)) (sym (seen-twins w p l) ∙ a) x (sym (pid-twins w p l) ∙ b ∙ sym y) in
-          inr (subst (λ q. Twin v u s r (find v n k) q) e p, c, z)
+      go : Found v n k (find v n k) → Found u m k (find u m k) → NobodyOrTwins v u s r (find v n k) (find u m k)
+      go (inl (a, b, c)) (inl (x, y, z)) = inr (twin-of-pid l a x (b ∙ sym y))
       go (inl (a, b, c)) (inr (x, y)) =
           let (j, p) = twin-there w (find v n k) (seen-above (w .facts-v) n s _ (l .below-v) a) in
           absurd (y j (w .facts-u .in-range j (taken-u p)) (sym (seen-twins w p l) ∙ a) (sym (pid-twins w p l) ∙ b))
@@ -67,6 +76,9 @@ module _ {v u : View} {s r : ℕ} (w : Pair v u s r) where
           let q = flip-twin p in
           absurd (b i (w .facts-v .in-range i (taken-v q)) (seen-twins w q l ∙ x) (pid-twins w q l ∙ y))
       go (inr (a, b)) (inr (x, y)) = inl (a, x)
+
+  pub slot-v : {i j : ℕ} → Twin v u s r i j → eqb i process-slots ≡ false
+  slot-v {i} k = ne-eqb i process-slots (λ e. omega (arith, e, w .facts-v .in-range i (taken-v k)))
 
   -- whether a process is the init of its namespace, where that lives
   pub is-init-twins : {i j : ℕ} → Twin v u s r i j → So (alive v (v .own i)) → is-init v i ≡ is-init u j
@@ -99,10 +111,10 @@ module _ {v u : View} {s r : ℕ} (w : Pair v u s r) where
 -- ---- who has a number in S, whether S lives or not
 
 -- a number finds the same row, or nobody
-pub find-same : {v u : View} (s r k : ℕ) → Facts v → Facts u → So (namespace-taken v s) → So (namespace-taken u r) → sheet v s ≡ sheet u r → ((find v s k ≡ process-slots) × (find u r k ≡ process-slots)) ⊎ Twin v u s r (find v s k) (find u r k)
+pub find-same : {v u : View} (s r k : ℕ) → Facts v → Facts u → So (namespace-taken v s) → So (namespace-taken u r) → sheet v s ≡ sheet u r → NobodyOrTwins v u s r (find v s k) (find u r k)
 find-same {v} {u} s r k h g hs hr e = go (find-cases v s k) (find-cases u r k)
   where
-    go : Found v s k (find v s k) → Found u r k (find u r k) → ((find v s k ≡ process-slots) × (find u r k ≡ process-slots)) ⊎ Twin v u s r (find v s k) (find u r k)
+    go : Found v s k (find v s k) → Found u r k (find u r k) → NobodyOrTwins v u s r (find v s k) (find u r k)
     go (inl (a, b, c)) (inl (x, y, z)) = inr (record { seen-v = a; seen-u = x; pids = b ∙ sym y })
     go (inl (a, b, c)) (inr (x, y)) = let (j, m, q) = same-of-sheets h g e .there _ a in absurd (y j (g .in-range j (seen-taken u r j m)) m (sym (row-pid v u s r _ j (level-lt h s hs) (level-lt g r hr) q) ∙ b))
     go (inr (a, b)) (inl (x, y, z)) = let (i, m, q) = same-of-sheets h g e .back _ x in absurd (b i (h .in-range i (seen-taken v s i m)) m (row-pid v u s r i _ (level-lt h s hs) (level-lt g r hr) q ∙ y))

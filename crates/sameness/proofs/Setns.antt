@@ -1,10 +1,9 @@
 -- setns: by twin callers, and by an outsider.
-use Prim.Native.Nat.{ℕ, zero, suc, _<_}
-use native.Mathlib.Omega.{arith}
-use mathlib.Core.Bool.{Bool, true, false, So}
-use mathlib.Core.Logic.{_⊎_, inl, inr}
-use mathlib.Core.Path.{_≡_, refl, sym, ap}
-use borrow.Author.Tests.{eq-eqb, ne-eqb, eqb-false}
+use Prim.Native.Nat.{ℕ, zero, suc}
+use mathlib.Core.Bool.{So}
+use mathlib.Core.Logic.{inl, inr}
+use mathlib.Core.Path.{_∙_, refl, sym, ap}
+use borrow.Author.Tests.{eq-eqb, eqb-false}
 use lib.Dec.{eqb}
 use lib.IntN.{ℤ, pos, negsuc}
 use Rattle.rules.proofs.Keeps.Changes.{setns-sane}
@@ -16,9 +15,9 @@ use Rattle.sameness.proofs.Cases.{by-test}
 use Rattle.sameness.proofs.Calls.{Kept, Ready, MadeSame, MadeLeaves, as-it-was, outsider, both-refuse, owns-twins}
 use Rattle.sameness.proofs.Light.{shown, same-put}
 use Rattle.sameness.proofs.Freeing.{freed-alike, freed-still}
-use Rattle.sameness.proofs.Readers.{find-twins, ended-twins}
+use Rattle.sameness.proofs.Readers.{NobodyOrTwins, find-twins, ended-twins, slot-v}
 use Rattle.sameness.proofs.Still.{put-still}
-use Rattle.sameness.proofs.Twins.{Twin, twin-rows}
+use Rattle.sameness.proofs.Twins.{flip-pair, flip-twin, Twin, twin-rows}
 use Rattle.rules.specs.Answers.{answers, granted, refused}
 use Rattle.rules.specs.Calls.{named, set-children, setns}
 use Rattle.table.specs.Limits.{process-slots}
@@ -32,12 +31,8 @@ use Rattle.table.specs.declared.Call.the-variants.{Setns}
 use Rattle.table.specs.declared.Refusal.the-variants.{Esrch}
 use Rattle.table.specs.declared.Table.{Table}
 
--- nobody by the number on both tables, or a pair of twins
-abbrev pub Named : Table → Table → ℕ → ℕ → ℕ → ℕ → Type 0
-Named t u s r x y = ((x ≡ process-slots) × (y ≡ process-slots)) ⊎ (Twin (view t) (view u) s r x y × (x < process-slots) × (y < process-slots))
-
 -- a number names twins, or nobody
-pub named-twins : {t u : Table} {s r i j : ℕ} → Ready t u s r i j → (z : ℤ) → Named t u s r (named (view t) i z) (named (view u) j z)
+pub named-twins : {t u : Table} {s r i j : ℕ} → Ready t u s r i j → (z : ℤ) → NobodyOrTwins (view t) (view u) s r (named (view t) i z) (named (view u) j z)
 unfolding named
 named-twins w (pos zero) = inl (refl, refl)
 named-twins w (pos (suc k)) = find-twins (w .pair) (suc k) (owns-twins w)
@@ -64,20 +59,14 @@ pub setns-same : (z : ℤ) → MadeSame (Setns z)
 unfolding MadeSame make setns _or_ answers granted
 setns-same z t u s r i j w h g = go (named-twins w z)
   where
-    x : ℕ
-    x = named (view t) i z
-
-    y : ℕ
-    y = named (view u) j z
-
-    either : (a : Twin (view t) (view u) s r x y) → eqb x process-slots ≡ false → eqb y process-slots ≡ false → (b : Bool) → view t .ended x ≡ b → view u .ended y ≡ b → Kept t u s r (setns t i z) (setns u j z)
-    either a ex ey true e d = rw (ex, ey, e, d, setns) (both-refuse w Esrch)
-    either a ex ey false e d = rw (ex, ey, e, d, setns) (set-children-kept w a (named-seen (view t) i z (eqb-false _ _ ex)) (named-seen (view u) j z (eqb-false _ _ ey)))
-
-    go : Named t u s r x y → Kept t u s r (setns t i z) (setns u j z)
-    go (inl (e, d)) = rw (eq-eqb x process-slots e, eq-eqb y process-slots d, setns) (both-refuse w Esrch)
-    go (inr (a, l, m)) =
-        either a (ne-eqb x process-slots (λ e. omega (arith, e))) (ne-eqb y process-slots (λ e. omega (arith, e))) (view t .ended x) refl (sym (ended-twins (w .pair) a))
+    go : NobodyOrTwins (view t) (view u) s r (named (view t) i z) (named (view u) j z) → Kept t u s r (setns t i z) (setns u j z)
+    go (inl (e, d)) = rw (eq-eqb _ _ e, eq-eqb _ _ d, setns) (both-refuse w Esrch)
+    go (inr a) =
+        let ex = slot-v (w .pair) a in
+        let ey = slot-v (flip-pair (w .pair)) (flip-twin a) in
+        let both-ended = ended-twins (w .pair) a in
+        by-test (view t .ended (named (view t) i z)) (λ e. rw (ex, ey, e, sym both-ended ∙ e, setns) (both-refuse w Esrch))
+        (λ e. rw (ex, ey, e, sym both-ended ∙ e, setns) (set-children-kept w a (named-seen (view t) i z (eqb-false _ _ ex)) (named-seen (view u) j z (eqb-false _ _ ey))))
 
 -- by an outsider
 pub setns-leaves : (z : ℤ) → MadeLeaves (Setns z)

@@ -20,8 +20,7 @@ use Rattle.sameness.proofs.Anchor.{init-or-none}
 use Rattle.sameness.proofs.Calls.{Kept, Ready, MadeSame, MadeLeaves, as-it-was, untouched-made, both-refuse, both-tell, owns-twins}
 use Rattle.sameness.proofs.Light.{shown}
 use Rattle.sameness.proofs.Freeing.{after, freed-alike, freed-leaves}
-use Rattle.sameness.proofs.Kill.{twin-of-pid}
-use Rattle.sameness.proofs.Readers.{twin-eqb, child-twins, seen-above, ended-twins}
+use Rattle.sameness.proofs.Readers.{twin-of-pid, twin-eqb, child-twins, seen-above, ended-twins}
 use Rattle.sameness.proofs.Remain.{Remain, Lit, same-remain, pid-in-remain, name-remain, everyone, seen-same}
 use Rattle.sameness.proofs.Same.{Same}
 use Rattle.sameness.proofs.Still.{Still, same-still}
