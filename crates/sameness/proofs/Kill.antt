@@ -17,7 +17,7 @@ use Rattle.rules.proofs.Laws.Facts.{Facts, Sane, sane}
 use Rattle.rules.proofs.Laws.Find.{targets-seen}
 use Rattle.rules.proofs.Laws.Lists.{In, in-map, map-in, ascending-sorted, Sorted, map-sorted, sorted-unique, heads-equal, tails-equal, not-empty}
 use Rattle.rules.proofs.Laws.Slots.{pid-unique, alive-taken, living-own-alive, root-only, own-taken}
-use Rattle.rules.proofs.Laws.Tests.{left, right, both, or-true, bool-ext}
+use Rattle.rules.proofs.Laws.Tests.{choose, left, right, both, or-true, bool-ext}
 use Rattle.sameness.proofs.Cases.{by-test, by-equal}
 use Rattle.sameness.proofs.Calls.{Ready, MadeSame, owns-twins, both-refuse}
 use Rattle.sameness.proofs.EndSame.{end-same, pair-of, Midway, Onward, Target, from-after, targets-after}
@@ -118,10 +118,7 @@ twins-eqb w {a} {b} {n} {m} j k =
 
 pub action-none : (v : View) (f x n : ℕ) → living v x ≡ false → action-on v f x n ≡ Nothing
 unfolding action-on
-action-none v f x n e = go (eqb n 0)
-  where
-    go : (b : Bool) → (if b or not (living v x) then Nothing else (if eqb n 18 then Resume else (if eqb n 9 or eqb n 19 then (if is-init v x and eqb (v .own x) f then Nothing else default-action n) else (if has (v .handled x) n then Pend else (if is-init v x then Nothing else default-action n))))) ≡ Nothing
-    go b = rw (e, or-true b)
+action-none v f x n e = rw (e, or-true (eqb n 0), action-on) refl
 
 -- a signal does the same to two twins
 pub action-twins : {t u : Table} {s r f g : ℕ} → Midway t u s r f g → {x y : ℕ} (n : ℕ) → Twin (view t) (view u) s r x y → action-on (view t) f x n ≡ action-on (view u) g y n
@@ -185,11 +182,7 @@ finish-own v f x n e h q =
 
 pub resumed-placed : (p : Process) → Placed (resumed p) p
 unfolding resumed with-pending
-resumed-placed p = go (has (p .handled) 18)
-  where
-    go : (b : Bool) → Placed (if b then with-pending (with-state p Running) 18 else with-state p Running) p
-    go true = (refl, refl, refl)
-    go false = (refl, refl, refl)
+resumed-placed p = choose (λ q. Placed q p) (has (p .handled) 18) (λ a. (refl, refl, refl)) (λ a. (refl, refl, refl))
 
 resumed-shown : {t u : Table} {s r : ℕ} {p q : Process} → Shown t u s r p q → Shown t u s r (resumed p) (resumed q)
 unfolding resumed with-pending
@@ -217,44 +210,24 @@ module _ {t u : Table} {s r f g : ℕ} (w : Midway t u s r f g) {x y : ℕ} (n :
   z : Shown t u s r (process t x) (process u y)
   z = shown t u (pair-of w) k
 
-  good : (e : Action) → action-on (view t) f x n ≡ e → Good (view t) x n e
-  good e q = subst (Good (view t) x n) q (action-good (view t) x n f (w .sane-t .facts) (root-safe (w .sane-t .facts) f x hx))
-
   acted-t : (e : Action) → Good (view t) x n e → Sane (act t x n e)
   acted-t e a = act-sane t (w .sane-t) x n low e a
 
   acted-u : (e : Action) → Good (view u) y n e → Sane (act u y n e)
   acted-u e a = act-sane u (w .sane-u) y n low e a
 
-  stop-onward : Sane (act t x n Stop) → Sane (act u y n Stop) → Onward t u s r f g (act t x n Stop) (act u y n Stop)
-  unfolding act
-  stop-onward st su =
-      light-onward w k lx (record { states = refl; handleds = z .handleds; pendings = z .pendings; marks = z .marks; childrens = z .childrens }) (refl, refl, refl) (refl, refl, refl) st su
-
-  pend-onward : Sane (act t x n Pend) → Sane (act u y n Pend) → Onward t u s r f g (act t x n Pend) (act u y n Pend)
-  unfolding act with-pending
-  pend-onward st su =
-      light-onward w k lx (record { states = z .states; handleds = z .handleds; pendings = ap (λ q. with-signal q n) (z .pendings); marks = z .marks; childrens = z .childrens }) (refl, refl, refl) (refl, refl, refl) st su
-
-  finish-onward : action-on (view t) f x n ≡ Finish → Onward t u s r f g (end t x (Signaled n)) (end u y (Signaled n))
-  finish-onward e = end-same (Signaled n) w k hx lx (both _ _ (le-leb 1 n (finish-pos (view t) f x n e)) (lt-ltb n signals low)) (finish-own (view t) f x n e)
-
-  resume-action : Onward t u s r f g (act t x n Resume) (act u y n Resume)
-  unfolding act
-  resume-action =
-      light-onward w k lx (resumed-shown z) (resumed-placed (process t x)) (resumed-placed (process u y))
-      (acted-t Resume lx) (acted-u Resume (ly w k lx))
-
-  good-u : Good (view t) x n Pend → Good (view u) y n Pend
-  good-u a = (ly w k lx, subst (λ h. So (has h n)) (z .handleds) (a .1))
-
   action-onward : (e : Action) → action-on (view t) f x n ≡ e → Onward t u s r f g (act t x n e) (act u y n e)
-  unfolding act
+  unfolding act with-pending
   action-onward Nothing e = (w, λ a b h. h)
-  action-onward Resume e = resume-action
-  action-onward Stop e = stop-onward (acted-t Stop lx) (acted-u Stop (ly w k lx))
-  action-onward Finish e = finish-onward e
-  action-onward Pend e = pend-onward (acted-t Pend (good Pend e)) (acted-u Pend (good-u (good Pend e)))
+  action-onward Resume e = light-onward w k lx (resumed-shown z) (resumed-placed (process t x)) (resumed-placed (process u y)) (acted-t Resume lx) (acted-u Resume (ly w k lx))
+  action-onward Stop e =
+      light-onward w k lx (record { states = refl; handleds = z .handleds; pendings = z .pendings; marks = z .marks; childrens = z .childrens })
+      (refl, refl, refl) (refl, refl, refl) (acted-t Stop lx) (acted-u Stop (ly w k lx))
+  action-onward Finish e = end-same (Signaled n) w k hx lx (both _ _ (le-leb 1 n (finish-pos (view t) f x n e)) (lt-ltb n signals low)) (finish-own (view t) f x n e)
+  action-onward Pend e =
+      let a = subst (Good (view t) x n) e (action-good (view t) x n f (w .sane-t .facts) (root-safe (w .sane-t .facts) f x hx)) in
+      light-onward w k lx (record { states = z .states; handleds = z .handleds; pendings = ap (λ q. with-signal q n) (z .pendings); marks = z .marks; childrens = z .childrens })
+      (refl, refl, refl) (refl, refl, refl) (acted-t Pend a) (acted-u Pend (ly w k lx, subst (λ h. So (has h n)) (z .handleds) (a .1)))
 
 module _ (n : ℕ) (low : n < signals) where
   deliver-onward : {t u : Table} {s r f g : ℕ} → Midway t u s r f g → (x y : ℕ) → Target (view t) (view u) s r f x y → Onward t u s r f g (deliver t f x n) (deliver u g y n)
