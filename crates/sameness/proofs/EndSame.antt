@@ -9,10 +9,11 @@ use lib.Dec.{eqb}
 use Rattle.rules.proofs.Keeps.End.{ended-view, end-view, end-sane}
 use Rattle.rules.proofs.Keeps.InitEnds.{gone}
 use Rattle.rules.proofs.Laws.Below.{below-level}
-use Rattle.rules.proofs.Laws.Facts.{Facts, seen-below, lives-taken, Sane}
+use Rattle.rules.proofs.Laws.Facts.{sane, Facts, seen-below, lives-taken, Sane}
 use Rattle.rules.proofs.Laws.Slots.{living-own-alive}
 use Rattle.rules.proofs.Laws.Tests.{false-and, no-so, isnt-so, and-not, choose}
 use Rattle.sameness.proofs.Anchor.{deeper}
+use Rattle.sameness.proofs.Calls.{Ready}
 use Rattle.sameness.proofs.Cases.{by-test}
 use Rattle.sameness.proofs.Ends.{fallen, fallen-places, init-stays, member-remain, member-same, member-of, both-stay, init-same}
 use Rattle.sameness.proofs.Readers.{living-twins, is-init-twins, above-pid}
@@ -39,6 +40,10 @@ pub record Midway (t u : Table) (s r f g : ℕ) : Type 0 where
 
 pub pair-of : {t u : Table} {s r f g : ℕ} → Midway t u s r f g → Pair (view t) (view u) s r
 pair-of w = record { facts-v = w .sane-t .facts; facts-u = w .sane-u .facts; alive-v = w .alive-s; alive-u = w .alive-r; same = w .same }
+
+-- at its start
+pub midway : {t u : Table} {s r f g i j : ℕ} → Ready t u s r i j → Twins (view t) (view u) s r f g → Midway t u s r f g
+midway {t} {u} w l = record { sane-t = sane t (w .sound-t); sane-u = sane u (w .sound-u); alive-s = w .pair .alive-v; alive-r = w .pair .alive-u; same = w .pair .same; from = l }
 
 -- a target on each: twins that the callers see, or nobody that lives
 abbrev pub Target : View → View → ℕ → ℕ → ℕ → ℕ → ℕ → Type 0

@@ -17,7 +17,7 @@ use Rattle.rules.proofs.Laws.Tests.{isnt-so, right, bool-ext}
 use Rattle.rules.proofs.Laws.Tree.{below-refl}
 use Rattle.sameness.proofs.Cases.{by-test, by-equal}
 use Rattle.sameness.proofs.Calls.{Kept, Ready, MadeSame, both-refuse, owns-twins, own-lives, taken-s, taken-r}
-use Rattle.sameness.proofs.EndSame.{ended-init, end-same, Midway}
+use Rattle.sameness.proofs.EndSame.{midway, ended-init, end-same}
 use Rattle.sameness.proofs.Freeing.{freed-alike, freed-sheets}
 use Rattle.sameness.proofs.Ends.{init-same}
 use Rattle.sameness.proofs.Readers.{is-init-twins}
@@ -73,22 +73,11 @@ unfolding namespace-taken
 end-stands f x n e h k = ap (λ l. eqb n 0 or not (eqb l 0)) (end-level f x n e h) ∙ k
 
 module _ {t u : Table} {s r c d : ℕ} (w : Ready t u s r c d) (e : End) (ok : So (kept-end (Ended e))) where
-  held : Midway t u s r s r
-  held =
-      record {
-        sane-t = sane t (w .sound-t);
-        sane-u = sane u (w .sound-u);
-        alive-s = w .pair .alive-v;
-        alive-r = w .pair .alive-u;
-        same = w .pair .same;
-        from = top-twins (w .pair);
-      }
-
   -- S lives on
   lives-on : (So (is-init (view t) c) → view t .own c ≡ s → ⊥) → SoundTable (freed (end t c e)) → SoundTable (freed (end u d e)) → Kept t u s r (answers (freed (end t c e)) 0) (answers (freed (end u d e)) 0)
   unfolding answers granted
   lives-on other h g =
-      let (x, move) = end-same e held (w .twin) (w .twin .seen-v) (runs-lives t c (w .runs-t)) ok other in
+      let (x, move) = end-same e (midway w (top-twins (w .pair))) (w .twin) (w .twin .seen-v) (runs-lives t c (w .runs-t)) ok other in
       inr (refl, freed-alike t u (x .sane-t) (x .sane-u) (x .alive-s) (x .alive-r) (x .same))
 
   -- S's init ends
@@ -98,8 +87,8 @@ module _ {t u : Table} {s r c d : ℕ} (w : Ready t u s r c d) (e : End) (ok : S
       let p = w .pair in
       let tc = taken-v (w .twin) in
       let td = taken-u (w .twin) in
-      let ft = held .sane-t in
-      let fu = held .sane-u in
+      let ft = sane t (w .sound-t) in
+      let fu = sane u (w .sound-u) in
       let id : So (is-init (view u) d) = sym (is-init-twins p (w .twin) (own-lives w)) ∙ ic in
       let od = twins-unique p (owns-twins w) (top-twins p) oc in
       let ls = init-positive (p .facts-v) c s ic oc nc (taken-s w) in

@@ -13,14 +13,14 @@ use Rattle.rules.proofs.Keeps.Changes.{act-sane}
 use Rattle.rules.proofs.Keeps.Deliver.{Good, action-good}
 use Rattle.rules.proofs.Keeps.Premises.{natural-low}
 use Rattle.rules.proofs.Laws.Below.{below-taken, below-level}
-use Rattle.rules.proofs.Laws.Facts.{Facts, Sane, sane}
+use Rattle.rules.proofs.Laws.Facts.{Facts, Sane}
 use Rattle.rules.proofs.Laws.Find.{targets-seen}
 use Rattle.rules.proofs.Laws.Lists.{In, in-map, map-in, ascending-sorted, Sorted, map-sorted, sorted-unique, heads-equal, tails-equal, not-empty}
 use Rattle.rules.proofs.Laws.Slots.{pid-unique, alive-taken, living-own-alive, root-only, own-taken}
 use Rattle.rules.proofs.Laws.Tests.{choose, left, right, both, or-true, bool-ext}
 use Rattle.sameness.proofs.Cases.{by-test, by-equal}
 use Rattle.sameness.proofs.Calls.{Ready, MadeSame, owns-twins, both-refuse}
-use Rattle.sameness.proofs.EndSame.{end-same, pair-of, Midway, Onward, Target, from-after, targets-after}
+use Rattle.sameness.proofs.EndSame.{midway, end-same, pair-of, Midway, Onward, Target, from-after, targets-after}
 use Rattle.sameness.proofs.Freeing.{freed-alike}
 use Rattle.sameness.proofs.Light.{Placed, Shown, shown, same-put, put-other, put-remain}
 use Rattle.sameness.proofs.Readers.{NobodyOrTwins, slot-v, twin-of-pid, seen-above, twin-eqb, is-init-twins, living-twins}
@@ -29,8 +29,7 @@ use Rattle.sameness.proofs.Setns.{named-twins}
 use Rattle.sameness.proofs.Twins.{flip-twin, Pair, Twin, Twins, flip-pair, flip-twins, twin-there, seen-twins, pid-twins, owns, twins-unique}
 use Rattle.rules.specs.Answers.{answers, granted}
 use Rattle.rules.specs.Calls.{named, others, targets, kill, names-group, natural, within}
-use Rattle.rules.specs.Delivery.{act, action-on, default-action, deliver, deliver-all, resumed, with-pending}
-use Rattle.rules.specs.Ends.{end}
+use Rattle.rules.specs.Delivery.{act, action-on, deliver, deliver-all, resumed, with-pending}
 use Rattle.table.specs.Limits.{process-slots, signals}
 use Rattle.table.specs.Slots.{is-ended, pid-at, process, put}
 use Rattle.rules.specs.Read.{View, alive, all-seen, pid-seen, seen, view, below, is-init, living, taken}
@@ -248,19 +247,8 @@ module _ (n : ℕ) (low : n < signals) where
 -- ---- kill, by twin callers, from what an end does
 
 module _ {t u : Table} {s r i j : ℕ} (w : Ready t u s r i j) where
-  held : Midway t u s r (view t .own i) (view u .own j)
-  held =
-      record {
-        sane-t = sane t (w .sound-t);
-        sane-u = sane u (w .sound-u);
-        alive-s = w .pair .alive-v;
-        alive-r = w .pair .alive-u;
-        same = w .pair .same;
-        from = owns-twins w;
-      }
-
   kill-after : (z : ℤ) (n : ℕ) → n < signals → Midway (deliver-all t (view t .own i) (targets (view t) i z) n) (deliver-all u (view u .own j) (targets (view u) j z) n) s r (view t .own i) (view u .own j)
-  kill-after z n low = deliver-all-held n low (targets (view t) i z) held
+  kill-after z n low = deliver-all-held n low (targets (view t) i z) (midway w (owns-twins w))
       (along-with (targets (view t) i z) (λ x y m k. inl (k, targets-seen (view t) i z x m)) (targets-twins w z))
 
 -- kill by twin callers
