@@ -1,4 +1,4 @@
--- The nearest living namespace, and the name that a sheet gives.
+-- On one table: what lies below what, the nearest living namespace, and the name that a sheet gives.
 use Prim.Native.Nat.{ℕ, zero, suc, _<_}
 use native.Mathlib.Omega.{arith}
 use mathlib.Core.Bool.{Bool, true, false, So, false≢true}

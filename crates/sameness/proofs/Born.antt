@@ -1,4 +1,4 @@
--- A birth: the next number, and what is read of the others, on one table and on two that are the same to S.
+-- A birth on one table: what is read of the child and of the others. On two tables: the next number is the same.
 use Prim.Native.Nat.{ℕ, suc, _-_, pred, _<_, _≤_}
 use native.Mathlib.Omega.{arith}
 use mathlib.Core.Bool.{Bool, not, So, true, false, false≢true}

@@ -38,7 +38,7 @@ use Rattle.table.specs.declared.Call.the-variants.{Getpid, Getppid, Handle, Pol
 use Rattle.table.specs.declared.Answer.the-variants.{Number}
 use Rattle.table.specs.declared.Refusal.the-variants.{Einval}
 
--- ---- What is to prove of a call made by two running callers with the same number in S
+-- ---- by two running callers with the same number in S
 
 -- S stands at its place, or it was freed
 abbrev pub PlaceStands : Table → Place → Type 0
@@ -80,7 +80,7 @@ pub stands-same : (t u : Table) {t′ u′ : Table} {s r : ℕ} → SoundTable t
 unfolding follow sheet-of
 stands-same t u {t′} {u′} h g hs hr w = rw (hs, hr) (sheets-of-same (facts t′ h) (facts u′ g) hs hr w)
 
--- ---- Calls by an outsider that leave who is where: the sheet stays
+-- ---- by a running outsider
 
 -- what is to prove of a call made by a running outsider
 unfoldable pub MadeLeaves : Call → Type 0
@@ -143,7 +143,7 @@ poll-leaves t s i h hs k a g =
     by-test (eqb (lowest-signal (process t i .pending)) signals) (λ e. rw (e, poll) (as-it-was t s hs))
     (λ e. rw (e, poll) (signals-leave s i _ _ h (rw (e, poll) at g) hs (outsider t s i Poll a)))
 
--- ---- The calls that leave who is where: getpid, getppid, handle, poll, by twin callers
+-- ---- what twin callers have in common
 
 module _ {t u : Table} {s r i j : ℕ} (w : Ready t u s r i j) where
   pub taken-s : So (namespace-taken (view t) s)

@@ -1,4 +1,4 @@
--- A proof by cases on a test, or on whether two numbers are equal.
+-- Proofs by cases on a test, or on whether two numbers are equal, without a helper for each.
 use Prim.Native.Nat.{ℕ}
 use native.Mathlib.Decide.{ℕ-discrete}
 use mathlib.Core.Bool.{Bool, true, false, So}

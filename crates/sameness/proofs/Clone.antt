@@ -207,12 +207,10 @@ module _ {t u : Table} {s r c d : ℕ} (w : Ready t u s r c d) (ot : own-level (
       inr (
         refl,
         freed-alike t u a b (new-pair .alive-v) (new-pair .alive-u)
-                (same-put tn un new-pair new-twin (gt .shape-of) (gu .shape-of)
-                (record { states = z .states; handleds = z .handleds; pendings = z .pendings; marks = refl; childrens = new-name st c rt s ∙ sym (new-name su d ru r) })
-                (refl, refl, refl) (refl, refl, refl)),
+            (same-put tn un new-pair new-twin (gt .shape-of) (gu .shape-of)
+            (record { states = z .states; handleds = z .handleds; pendings = z .pendings; marks = refl; childrens = new-name st c rt s ∙ sym (new-name su d ru r) })
+            (refl, refl, refl) (refl, refl, refl)),
       )
-
-  -- ---- clone with a new namespace
 
   new-owns : Twins (view tn) (view un) s r (view t .own c) (view u .own d)
   unfolding new-namespace
@@ -236,8 +234,6 @@ module _ {t u : Table} {s r c d : ℕ} (w : Ready t u s r c d) (ot : own-level (
   cloned-kept pt pu h g =
       born-kept w gt gu new-pair new-twin new-cradles (λ i j m y z. not-held st c rt i (taken-v m) ∙ sym (not-held su d ru j (taken-u m)))
       (λ e. pt (sym (same-free t c) ∙ e)) (λ e. pu (sym (same-free u d) ∙ e)) h g
-
--- ---- the two calls
 
 levels-alike : {t u : Table} {s r c d : ℕ} → Ready t u s r c d → own-level (view t) c ≡ own-level (view u) d
 levels-alike w = twins-level (w .pair) (owns-twins w)
@@ -271,7 +267,7 @@ clone-new-same t u s r c d w h g =
     (λ eb′. rw (ea, sym deep ∙ ea, eb, eb′, clone-new)
     (cloned-kept w (eqb-false _ _ ea) (eqb-false _ _ (sym deep ∙ ea)) (eqb-false _ _ (or-false-right _ _ eb)) (eqb-false _ _ (or-false-right _ _ eb′)) (eqb-false _ _ (or-false-left _ _ eb)) (eqb-false _ _ (or-false-left _ _ eb′)) (rw (ea, eb, clone-new) at h) (rw (sym deep ∙ ea, eb′, clone-new) at g)))))
 
--- ---- clone, clone new and unshare by an outsider: the child is born outside S
+-- ---- by an outsider: the child is born outside S
 
 -- a birth in a namespace that is not of S
 module _ {v : View} {n k : ℕ} (room : Room v n k) (c s : ℕ) (o : below v n s ≡ false) where
@@ -336,8 +332,6 @@ clone-leaves t s i h hs k a g =
     rw (ea, eb, clone)
     (stands-leaves h (rw (ea, eb, clone) at g) hs (birth-stands (sane t h) i n tn (eqb-false _ _ eb) s o hs) (birth-leaves (sane t h) i n tn (eqb-false _ _ eb) s o))))
 
--- ---- a fresh namespace
-
 -- clone new
 pub clone-new-leaves : MadeLeaves CloneNew
 unfolding MadeLeaves make clone-new refused
@@ -363,8 +357,6 @@ clone-new-leaves t s i h hs k a g = go (eqb (own-level (view t) i) deepest) refl
 
         room₁ : free-slot (view t₁) ≡ process-slots → ⊥
         room₁ e = eqb-false _ _ (or-false-left _ _ eb) (sym (same-free t i) ∙ e)
-
--- ---- unshare by an outsider
 
 -- unshare
 pub unshare-leaves : MadeLeaves Unshare

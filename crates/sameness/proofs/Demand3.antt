@@ -45,8 +45,6 @@ use Rattle.table.specs.declared.Refusal.the-variants.{NotRunning}
 use Rattle.table.specs.declared.Table.{Table}
 use Rattle.table.proofs.Chains.{or-false}
 
--- ---- Demand 3: one induction over the two lists of calls, from what single calls do
-
 -- ---- each call
 
 -- by two callers with the same number in S, and by an outsider
@@ -260,7 +258,7 @@ unfolding Sameness sheet-of
 sameness t u s r h g a b e es fs i x y =
     both-lists es fs t u (at s) (at r) (record { sound-t = h; sound-u = g; stands-t = alive-taken (view t) (facts t h) s a; stands-u = alive-taken (view u) (facts u g) r b; sheets = e }) i x y
 
--- ---- The corollary of demand 3 that people will quote: nothing is learnt inside of what stands outside
+-- ---- nothing is learnt
 
 -- what agrees up to the first "no room" is the same where there is none
 agreed : (os qs : List Observed) → Agree os qs → So (roomy os) → So (roomy qs) → os ≡ qs

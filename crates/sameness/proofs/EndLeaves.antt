@@ -1,4 +1,4 @@
--- The end of one outside S, no init above S; exit by an outsider.
+-- The end of one outside S that is no init above S leaves the sheet; exit by an outsider.
 use Prim.Native.Nat.{ℕ, zero, suc, _<_}
 use mathlib.Core.Bool.{false, not, So, false≢true}
 use mathlib.Core.Logic.{_⊎_, inl, inr, ⊎-elim}

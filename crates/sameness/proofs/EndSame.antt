@@ -1,4 +1,4 @@
--- The end of two twins, inits or not: what a kill needs of it.
+-- The end of two twins in the middle of a call: the tables stay the same to S, and so do the targets to come.
 use Prim.Native.Nat.{ℕ, _<_}
 use native.Mathlib.Omega.{arith}
 use mathlib.Core.Bool.{So, Bool, false, true, not, false≢true}

@@ -30,7 +30,8 @@ use Rattle.table.specs.declared.Life.the-variants.{Dead}
 use Rattle.table.specs.declared.State.the-variants.{Ended, Running}
 use Rattle.table.specs.declared.End.the-variants.{Signaled}
 
--- ---- The end of an init, on one table: its namespace and all below it die. Who stays keeps his place; a namespace outside keeps its name, and one that died is named by the init above
+-- ---- an init, on one table: who stays keeps his place; a namespace outside keeps its name, and one that died is named
+-- by the init above
 
 -- the view then
 abbrev pub fallen : View → ℕ → End → View
@@ -126,9 +127,7 @@ module _ {v : View} (f : Facts v) (x : ℕ) (e : End) where
         (ap (λ m. pid-in (fallen v x e) s (init (fallen v x e) m)) (near-in (v .level n) n refl h)
         ∙ rw up-out (pid-in-remain f (fallen-places v x e) s (init v (v .up (v .own x))) refl (init-stays (v .up (v .own x)) up-out))))
 
--- ---- The end of two twins on two tables: the tables stay the same to S
-
--- ---- The end of two twins that are no inits: the tables stay the same to S
+-- ---- two twins that are no inits
 
 -- the view then
 abbrev pub member-of : View → ℕ → End → View
@@ -185,9 +184,7 @@ module _ {v u : View} {s r : ℕ} (p : Pair v u s r) {x y : ℕ} (e : End) (k : 
   pub member-same : Same (member-of v x e) (member-of u y e) s r
   member-same = same-remain p (member-remain x e) (member-remain y e) refl refl (λ i j m. refl) (λ i j m q. member-lit m)
 
--- ---- The end of two twin inits: the tables stay the same to S
-
--- ---- two tables
+-- ---- two twin inits
 
 module _ {v u : View} {s r : ℕ} (p : Pair v u s r) {x y : ℕ} (e : End) (k : Twin v u s r x y) (lives : So (alive v (v .own x))) (deep : 0 < v .level (v .own x)) (above : pid-in v s (init v (v .up (v .own x))) ≡ pid-in u r (init u (u .up (u .own y)))) where
   tops : Twins v u s r (v .own x) (u .own y)

@@ -1,4 +1,4 @@
--- What reads the same on two tables that are the same to a living namespace.
+-- What else reads the same of twins: parents, children, who is found by a number, the namespaces for children.
 use Prim.Native.Nat.{ℕ, _<_}
 use native.Mathlib.Omega.{arith}
 use mathlib.Core.Bool.{Bool, false, So, false≢true, not}

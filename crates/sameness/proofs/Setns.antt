@@ -49,9 +49,9 @@ module _ {t u : Table} {s r i j : ℕ} (w : Ready t u s r i j) where
       inr (
         refl,
         freed-alike t u a b (w .pair .alive-v) (w .pair .alive-u)
-                (same-put t u (w .pair) (w .twin) (w .sound-t .shape) (w .sound-u .shape)
-                (record { states = z .states; handleds = z .handleds; pendings = z .pendings; marks = z .marks; childrens = ap (λ (q : Row). q .own) (twin-rows (w .pair) k) })
-                (refl, refl, refl) (refl, refl, refl)),
+            (same-put t u (w .pair) (w .twin) (w .sound-t .shape) (w .sound-u .shape)
+            (record { states = z .states; handleds = z .handleds; pendings = z .pendings; marks = z .marks; childrens = ap (λ (q : Row). q .own) (twin-rows (w .pair) k) })
+            (refl, refl, refl) (refl, refl, refl)),
       )
 
 -- setns by twin callers

@@ -1,4 +1,5 @@
--- Two tables that are the same to a living namespace: what corresponds, and that reading it gives the same.
+-- Two tables that are the same to a living namespace S: twins are processes with the same number in S, and living
+-- namespaces whose inits are such. What lies above and below twins, and what they see, corresponds.
 use Prim.Native.Nat.{ℕ, zero, suc, pred, _+_, _-_, _<_, _≤_}
 use native.Mathlib.Decide.{decLt}
 use native.Mathlib.Omega.{arith}

@@ -223,7 +223,7 @@ reap-kept {t} {u} {s} {r} w {x} {y} k ex ey (Ended e) z =
     inr (
       ap (λ n. Reaped (to-pid n) e) (pid-twins (w .pair) k (owns-twins w)),
       freed-alike t u a b (w .pair .alive-v) (w .pair .alive-u)
-              (subst₂ (λ (v′ u′ : View). Same v′ u′ s r) (sym (reaped-view t (sane t (w .sound-t)) x ex)) (sym (reaped-view u (sane u (w .sound-u)) y ey)) (same-reap (w .pair) k ex ey)),
+          (subst₂ (λ (v′ u′ : View). Same v′ u′ s r) (sym (reaped-view t (sane t (w .sound-t)) x ex)) (sym (reaped-view u (sane u (w .sound-u)) y ey)) (same-reap (w .pair) k ex ey)),
     )
 
 -- wait by twin callers
