@@ -1,14 +1,16 @@
--- The nearest living namespace, and the name that a sheet gives.
-use Prim.Native.Nat.{ℕ, zero, suc}
-use native.Mathlib.Decide.{ℕ-discrete}
+-- On one table: what lies below what, the nearest living namespace, and the name that a sheet gives.
+use Prim.Native.Nat.{ℕ, zero, suc, _<_}
 use native.Mathlib.Omega.{arith}
 use mathlib.Core.Bool.{Bool, true, false, So, false≢true}
+use mathlib.Core.Logic.{_⊎_, inl, inr}
 use mathlib.Core.Path.{_≡_, refl, sym, _∙_, ap, subst}
 use borrow.Author.Tests.{ne-eqb, eq-eqb}
 use Rattle.rules.proofs.Laws.Below.{up-level, below-level, below-trans}
 use Rattle.rules.proofs.Laws.Facts.{Facts}
 use Rattle.rules.proofs.Laws.Slots.{root-only, up-taken, below-parent, below-same, up-by-below}
+use Rattle.rules.proofs.Laws.Tests.{choose, no-so}
 use Rattle.rules.proofs.Laws.Tree.{below-refl}
+use Rattle.sameness.proofs.Cases.{by-equal}
 use Rattle.table.specs.Limits.{no-slot}
 use Rattle.table.specs.Slots.{init-of, is-alive, is-unborn}
 use Rattle.rules.specs.Read.{View, alive, below, init, namespace-taken, pid-in, unborn, up-by}
@@ -39,13 +41,19 @@ is-dead-name (dead-at l k) = true
 is-dead-name unborn-name = false
 is-dead-name no-name = false
 
+abbrev pub name-level : Name → ℕ
+name-level (by-init k) = 0
+name-level (dead-at l k) = l
+name-level unborn-name = 0
+name-level no-name = 0
+
 abbrev pub name-pid : Name → ℕ
 name-pid (by-init k) = k
 name-pid (dead-at l k) = k
 name-pid unborn-name = 0
 name-pid no-name = 0
 
-module _ (v : View) (f : Facts v) where
+module _ {v : View} (f : Facts v) where
   pub root-alive : So (alive v 0)
   root-alive = f .root-alive
 
@@ -57,11 +65,14 @@ module _ (v : View) (f : Facts v) where
   near-alive : (k n : ℕ) → v .level n ≡ k → So (namespace-taken v n) → So (alive v (nearest-alive v k n))
   unfolding nearest
   near-alive zero n e h = subst (λ m. So (alive v m)) (sym (root-only v f n h e)) root-alive
-  near-alive (suc k) n e h = go (alive v n) refl (near-alive k (v .up n) (up-level v f n k e) (up-taken v f n k e))
-    where
-      go : (b : Bool) → alive v n ≡ b → So (alive v (nearest-alive v k (v .up n))) → So (alive v (elim b [ true ↦ n | false ↦ nearest-alive v k (v .up n) ]))
-      go true a r = a
-      go false a r = r
+  near-alive (suc k) n e h = choose (λ m. So (alive v m)) (alive v n) (λ a. a) (λ a. near-alive k (v .up n) (up-level v f n k e) (up-taken v f n k e))
+
+  -- what lies below another is deeper
+  pub deeper : (a b : ℕ) → So (below v a b) → (a ≡ b → ⊥) → v .level b < v .level a
+  deeper a b h o = by-equal (v .level a) (v .level b) (λ q. absurd (o (below-same v f a b h q))) (λ q. omega (arith, below-level v f a b h))
+
+  pub below-up : (a b : ℕ) → So (below v a b) → (a ≡ b → ⊥) → So (below v (v .up a) b)
+  below-up a b h o = below-parent v f a b h (deeper a b h o)
 
   pub up-below : (n k : ℕ) → v .level n ≡ suc k → So (below v n (v .up n))
   unfolding up-by
@@ -70,21 +81,15 @@ module _ (v : View) (f : Facts v) where
   near-below : (k n : ℕ) → v .level n ≡ k → So (below v n (nearest-alive v k n))
   unfolding nearest
   near-below zero n e = below-refl v n
-  near-below (suc k) n e = go (alive v n) (near-below k (v .up n) (up-level v f n k e))
-    where
-      go : (b : Bool) → So (below v (v .up n) (nearest-alive v k (v .up n))) → So (below v n (elim b [ true ↦ n | false ↦ nearest-alive v k (v .up n) ]))
-      go true r = below-refl v n
-      go false r = below-trans v f n (v .up n) _ (up-below n k e) r
+  near-below (suc k) n e =
+      choose (λ m. So (below v n m)) (alive v n) (λ a. below-refl v n) (λ a. below-trans v f n (v .up n) _ (up-below n k e) (near-below k (v .up n) (up-level v f n k e)))
 
   near-least : (k n m : ℕ) → v .level n ≡ k → So (alive v m) → So (below v n m) → So (below v (nearest-alive v k n) m)
   unfolding nearest
   near-least zero n m e a h = h
-  near-least (suc k) n m e a h = go (alive v n) refl (λ g. near-least k (v .up n) m (up-level v f n k e) a g) (ℕ-discrete (v .level n) (v .level m))
-    where
-      go : (b : Bool) → alive v n ≡ b → (So (below v (v .up n) m) → So (below v (nearest-alive v k (v .up n)) m)) → Dec (v .level n ≡ v .level m) → So (below v (elim b [ true ↦ n | false ↦ nearest-alive v k (v .up n) ]) m)
-      go true x r d = h
-      go false x r (yes q) = absurd (false≢true (sym x ∙ ap (alive v) (below-same v f n m h q) ∙ a))
-      go false x r (no q) = r (below-parent v f n m h (omega (arith, below-level v f n m h)))
+  near-least (suc k) n m e a h =
+      choose (λ x. So (below v x m)) (alive v n) (λ x. h)
+      (λ x. near-least k (v .up n) m (up-level v f n k e) a (below-up n m h (λ q. no-so x (subst (λ y. So (alive v y)) (sym q) a))))
 
   pub anchor-self : (n : ℕ) → So (alive v n) → anchor v n ≡ n
   anchor-self n a = near-self (v .level n) n a
@@ -112,6 +117,18 @@ module _ (v : View) (f : Facts v) where
   by-alive s n (Alive i) = refl
   by-alive s n Dead = refl
 
+  by-unborn : (s n : ℕ) (l : Life) → is-unborn-name (name-by v s n l) ≡ is-unborn l
+  unfolding name-by
+  by-unborn s n Unborn = refl
+  by-unborn s n (Alive i) = refl
+  by-unborn s n Dead = refl
+
+  by-level : (s n : ℕ) (l : Life) → is-alive l ≡ false → is-unborn l ≡ false → name-level (name-by v s n l) ≡ v .level n
+  unfolding name-by
+  by-level s n Unborn a b = absurd (false≢true (sym b))
+  by-level s n (Alive i) a b = absurd (false≢true (sym a))
+  by-level s n Dead a b = refl
+
   by-pid : (s n : ℕ) (l : Life) → v .life n ≡ l → is-unborn l ≡ false → name-pid (name-by v s n l) ≡ pid-in v s (init v (anchor v n))
   unfolding name-by
   by-pid s n Unborn e h = absurd (false≢true (sym h))
@@ -121,8 +138,23 @@ module _ (v : View) (f : Facts v) where
   pub name-alive : (s n : ℕ) → So (namespace-taken v n) → is-by-init (name v s n) ≡ alive v n
   name-alive s n h = ap is-by-init (name-taken s n h) ∙ by-alive s n (v .life n)
 
+  pub name-unborn : (s n : ℕ) → So (namespace-taken v n) → is-unborn-name (name v s n) ≡ unborn v n
+  name-unborn s n h = ap is-unborn-name (name-taken s n h) ∙ by-unborn s n (v .life n)
+
+  pub name-level-dead : (s n : ℕ) → So (namespace-taken v n) → alive v n ≡ false → unborn v n ≡ false → name-level (name v s n) ≡ v .level n
+  name-level-dead s n h a b = ap name-level (name-taken s n h) ∙ by-level s n (v .life n) a b
+
   pub name-anchor : (s n : ℕ) → So (namespace-taken v n) → unborn v n ≡ false → name-pid (name v s n) ≡ pid-in v s (init v (anchor v n))
   name-anchor s n h k = ap name-pid (name-taken s n h) ∙ by-pid s n (v .life n) refl k
+
+-- what does not live has no init
+pub init-or-none : (v : View) (n : ℕ) → So (alive v n) ⊎ (init v n ≡ no-slot)
+init-or-none v n = go (v .life n)
+  where
+    go : (l : Life) → So (is-alive l) ⊎ (init-of l ≡ no-slot)
+    go Unborn = inr refl
+    go (Alive i) = inl refl
+    go Dead = inr refl
 
 -- no slot has no name
 pub name-no-slot : (v : View) (s n : ℕ) → n ≡ no-slot → name v s n ≡ no-name

@@ -2,31 +2,30 @@
 use Prim.Native.Nat.{ℕ, zero, suc, _+_, _-_, _<_, _≤_}
 use native.Mathlib.Decide.{ℕ-discrete, decLe}
 use native.Mathlib.Omega.{arith}
-use mathlib.Core.Bool.{Bool, true, false, So, false≢true}
+use mathlib.Core.Bool.{Bool, true, false, not, So, false≢true}
 use mathlib.Core.List.{_∷_}
-use mathlib.Core.Logic.{_⊎_, inl, inr, ⊎-elim}
+use mathlib.Core.Logic.{inl, inr, ⊎-elim}
 use mathlib.Core.Path.{_≡_, refl, sym, _∙_, ap, ap₂, fun-ext, subst}
-use borrow.Author.Tests.{eqb-true, eq-eqb, ne-eqb, le-leb, lt-leb}
+use borrow.Author.Tests.{eqb-false, eqb-true, eq-eqb, ne-eqb, le-leb, lt-leb}
 use lib.Dec.{eqb, leb}
 use Rattle.rules.proofs.Keeps.Birth.{with-born}
-use Rattle.rules.proofs.Laws.Below.{below-level, below-trans}
-use Rattle.rules.proofs.Laws.Facts.{Facts, seen-taken, lives-taken}
-use Rattle.rules.proofs.Laws.Slots.{own-taken, own-not-unborn, alive-taken, alive-not-unborn, init-taken, children-of, init-seen, parent-living, below-parent, below-same}
-use Rattle.rules.proofs.Laws.Tests.{zero-or, no-so, bool-ext}
+use Rattle.rules.proofs.Laws.Below.{below-trans}
+use Rattle.rules.proofs.Laws.Facts.{Facts, lives-taken}
+use Rattle.rules.proofs.Laws.Slots.{init-own, own-not-unborn, alive-not-unborn, init-taken, parent-living}
+use Rattle.rules.proofs.Laws.Tests.{both, zero-or, no-so, bool-ext}
 use Rattle.rules.proofs.Laws.Tree.{below-refl}
-use Rattle.sameness.proofs.Anchor.{is-unborn-name, name-taken, up-below, name-no-slot}
-use Rattle.sameness.proofs.Born.{seen-grown, pid-in-grown, life-born, life-new, name-born, name-other, name-new, old, child-seen, Cradles, cradle-next, next-unborn, next-twins, last-twins}
-use Rattle.sameness.proofs.ExitSame
-use Rattle.sameness.proofs.Readers.{is-init-twins, name-unborn}
+use Rattle.sameness.proofs.Anchor.{below-up, init-or-none, up-below, name-no-slot}
+use Rattle.sameness.proofs.Cases.{by-test}
+use Rattle.sameness.proofs.Born.{Room, cradle-below, seen-grown, pid-in-grown, life-born, life-new, name-born, name-other, name-new, old, child-seen, Cradles, cradle-next, next-unborn, next-twins, last-twins}
+use Rattle.sameness.proofs.Readers.{children-taken, children-unborn, ended-twins, living-twins, is-init-twins}
 use Rattle.sameness.proofs.Same.{Same, row-by}
-use Rattle.sameness.proofs.Twins.{Pair, Twin, Twins, flip-pair, flip-twin, pid-in-seen, twin-rows, twin-there, twins-level, owns, own-alive, below-twins}
-use Rattle.table.specs.Limits.{levels, no-slot, process-slots}
+use Rattle.sameness.proofs.Twins.{inits-twin, top-twins, Pair, Twin, Twins, flip-pair, flip-twin, pid-in-seen, twin-rows, twin-there, twins-level, owns, alive-named, own-names, below-twins, taken-v, taken-u}
+use Rattle.table.specs.Limits.{levels}
 use Rattle.rules.specs.Pids.{next-pid}
-use Rattle.table.specs.Slots.{init-of, is-alive}
-use Rattle.rules.specs.Read.{View, above-at, alive, below, init, is-init, namespace-taken, pid-in, pid-seen, seen, taken, unborn}
-use Rattle.sameness.specs.Sheet.{Name, Row, by-init, dead-at, name, name-by, no-name, row, unborn-name}
+use Rattle.table.specs.Slots.{init-of}
+use Rattle.rules.specs.Read.{View, above-at, alive, below, init, is-init, living, seen, taken, unborn}
+use Rattle.sameness.specs.Sheet.{Row, by-init, name, row}
 use Rattle.table.specs.Tests.{if_then_else_, values}
-use Rattle.table.specs.declared.Life.the-variants.{Unborn, Alive, Dead}
 use Rattle.table.specs.declared.Life.{Life}
 
 values-same : (f g : ℕ → ℕ) (n k : ℕ) → ((l : ℕ) → k ≤ l → l < k + n → f l ≡ g l) → values f n k ≡ values g n k
@@ -37,157 +36,119 @@ values-same f g (suc n) k h = ap₂ _∷_ (h k (omega arith) (omega arith)) (val
 left-pids : (v : View) (c n k i : ℕ) → eqb i k ≡ false → (a b : ℕ) → values (with-born v c n k .pid i) a b ≡ values (v .pid i) a b
 left-pids v c n k i e a b = ap (λ (f : ℕ → ℕ). values f a b) (fun-ext (λ l. rw e))
 
--- a living namespace's name
-alive-name : (v : View) (f : Facts v) (s n : ℕ) → So (alive v n) → So (seen v s (init v n)) → name v s n ≡ by-init (pid-seen v s (init v n))
-unfolding name-by
-alive-name v f s n a h = name-taken v f s n (alive-taken v f n a) ∙ go (v .life n) refl a
-  where
-    go : (x : Life) → v .life n ≡ x → So (is-alive x) → name-by v s n x ≡ by-init (pid-seen v s (init v n))
-    go Unborn e z = absurd (false≢true z)
-    go (Alive i) e z = ap by-init (ap (pid-in v s) (sym (ap init-of e)) ∙ pid-in-seen v s (init v n) h)
-    go Dead e z = absurd (false≢true z)
-
-abbrev is-no-name : Name → Bool
-is-no-name (by-init k) = false
-is-no-name (dead-at l k) = false
-is-no-name unborn-name = false
-is-no-name no-name = true
-
--- a namespace has a name
-named : (v : View) (f : Facts v) (s n : ℕ) → So (namespace-taken v n) → name v s n ≡ no-name → ⊥
-unfolding name-by
-named v f s n h e = false≢true (sym (go (v .life n)) ∙ ap is-no-name (sym (name-taken v f s n h) ∙ e))
-  where
-    go : (x : Life) → is-no-name (name-by v s n x) ≡ false
-    go Unborn = refl
-    go (Alive i) = refl
-    go Dead = refl
-
-not-init : (v : View) (f : Facts v) (i : ℕ) → So (taken v i) → alive v (v .own i) ≡ false → is-init v i ≡ false
+-- of a namespace that does not live nobody is the init
+not-init : {v : View} (f : Facts v) (i : ℕ) → So (taken v i) → alive v (v .own i) ≡ false → is-init v i ≡ false
 unfolding is-init
-not-init v f i h a = ne-eqb (init v (v .own i)) i (λ e. omega (arith, f .in-range i h, sym (go (v .life (v .own i)) a) ∙ e))
-  where
-    go : (x : Life) → is-alive x ≡ false → init-of x ≡ no-slot
-    go Unborn z = refl
-    go (Alive y) z = absurd (false≢true (sym z))
-    go Dead z = refl
+not-init {v} f i h a = ne-eqb (init v (v .own i)) i (λ e. ⊎-elim (no-so a) (λ q. omega (arith, e, q, f .in-range i h)) (init-or-none v (v .own i)))
 
 -- an unborn namespace lies below a living one if its parent does
-unborn-below : (v : View) (f : Facts v) (n o : ℕ) → So (unborn v n) → v .level n ≡ suc (v .level (v .up n)) → So (alive v o) → below v n o ≡ below v (v .up n) o
-unborn-below v f n o h e a =
-    bool-ext _ _ (λ b. below-parent v f n o b (deeper b)) (λ b. below-trans v f n (v .up n) o (up-below v f n _ e) b)
-  where
-    deeper : So (below v n o) → v .level o < v .level n
-    deeper b = lt-of (below-level v f n o b) (λ q. false≢true (sym (alive-not-unborn (v .life o) a) ∙ ap (unborn v) (sym (below-same v f n o b q)) ∙ h))
-      where
-        lt-of : v .level o ≤ v .level n → (v .level n ≡ v .level o → ⊥) → v .level o < v .level n
-        lt-of x y = omega arith
+unborn-below : {v : View} (f : Facts v) (n o : ℕ) → So (unborn v n) → v .level n ≡ suc (v .level (v .up n)) → So (alive v o) → below v n o ≡ below v (v .up n) o
+unborn-below {v} f n o h e a =
+    bool-ext _ _ (λ b. below-up f n o b (λ q. no-so (alive-not-unborn (v .life o) a) (subst (λ x. So (unborn v x)) q h))) (λ b. below-trans v f n (v .up n) o (up-below f n _ e) b)
 
 -- the last number that a row shows then
-shows : (v : View) (f : Facts v) (c n k : ℕ) (nv : taken v k ≡ false) (tn : So (namespace-taken v n)) (i : ℕ) → So (taken v i) → (if is-init (with-born v c n k) i then with-born v c n k .last (with-born v c n k .own i) else 0) ≡ (if is-init v i then (if below v n (v .own i) then next-pid v (v .own i) else v .last (v .own i)) else 0)
+shows : {v : View} {n k : ℕ} (a : Room v n k) (c : ℕ) (i : ℕ) → So (taken v i) → (if is-init (with-born v c n k) i then with-born v c n k .last (with-born v c n k .own i) else 0) ≡ (if is-init v i then (if below v n (v .own i) then next-pid v (v .own i) else v .last (v .own i)) else 0)
 unfolding is-init
-shows v f c n k nv tn i h =
-    rw (ne-eqb i k (old v f c n k nv tn i h))
-    (ap (λ (x : Life). if eqb (init-of x) i then (if below v n (v .own i) then next-pid v (v .own i) else v .last (v .own i)) else 0) (life-born v f c n k nv tn (v .own i) (own-not-unborn v f i h)))
+shows {v} {n} {k} a c i h =
+    rw (ne-eqb i k (old a c i h))
+    (ap (λ (x : Life). if eqb (init-of x) i then (if below v n (v .own i) then next-pid v (v .own i) else v .last (v .own i)) else 0) (life-born a c (v .own i) (own-not-unborn v (a .facts) i h)))
+
+-- nobody's parent was the child
+parent-old : {v : View} {n k : ℕ} (a : Room v n k) (i : ℕ) → So (taken v i) → v .parent i ≡ k → ⊥
+parent-old {v} a i h q =
+    zero-or i (λ z. omega (arith, a .slot, a .facts .root-parent, ap (v .parent) z, q))
+    (λ z. no-so (a .empty) (subst (λ x. So (taken v x)) q (lives-taken v _ (parent-living v (a .facts) i h z))))
 
 -- and the child's row
-in-old : (v : View) (f : Facts v) (c n k : ℕ) (nv : taken v k ≡ false) (tn : So (namespace-taken v n)) (x : ℕ) → So (alive v n) → (if eqb (init (with-born v c n k) n) k then x else 0) ≡ 0
-in-old v f c n k nv tn x h =
-    ap (λ (y : Life). if eqb (init-of y) k then x else 0) (life-born v f c n k nv tn n (alive-not-unborn (v .life n) h))
-    ∙ ap (λ (b : Bool). if b then x else 0) (ne-eqb (init v n) k (old v f c n k nv tn (init v n) (init-taken v f n h)))
+in-old : {v : View} {n k : ℕ} (a : Room v n k) (c : ℕ) (x : ℕ) → So (alive v n) → (if eqb (init (with-born v c n k) n) k then x else 0) ≡ 0
+in-old {v} {n} {k} a c x h =
+    ap (λ (y : Life). if eqb (init-of y) k then x else 0) (life-born a c n (alive-not-unborn (v .life n) h))
+    ∙ ap (λ (b : Bool). if b then x else 0) (ne-eqb (init v n) k (old a c (init v n) (init-taken v (a .facts) n h)))
 
-in-new : (v : View) (f : Facts v) (c n k : ℕ) (nv : taken v k ≡ false) (tn : So (namespace-taken v n)) → So (unborn v n) → (if eqb (init (with-born v c n k) n) k then with-born v c n k .last n else 0) ≡ next-pid v n
-in-new v f c n k nv tn h =
-    ap (λ (x : Life). if eqb (init-of x) k then with-born v c n k .last n else 0) (life-new v f c n k nv tn h)
+in-new : {v : View} {n k : ℕ} (a : Room v n k) (c : ℕ) → So (unborn v n) → (if eqb (init (with-born v c n k) n) k then with-born v c n k .last n else 0) ≡ next-pid v n
+in-new {v} {n} {k} a c h =
+    ap (λ (x : Life). if eqb (init-of x) k then with-born v c n k .last n else 0) (life-new a c h)
     ∙ ap₂ (λ (b d : Bool). if b then (if d then next-pid v n else v .last n) else 0) (eq-eqb k k refl) (below-refl v n)
 
-module _ (v u : View) (s r : ℕ) (w : Pair v u s r) (c d n m k l : ℕ) (tc : Twin v u s r c d) (cradles : Cradles v u s r n m) (tn : So (namespace-taken v n)) (tm : So (namespace-taken u m)) (bn : So (below v n s)) (bm : So (below u m r)) (nv : taken v k ≡ false) (nu : taken u l ≡ false) (kl : k < process-slots) (ll : l < process-slots)
-    (holders : (i j : ℕ) → Twin v u s r i j → So (unborn v n) → eqb (v .children i) n ≡ eqb (u .children j) m) where
+module _ {v u : View} {s r : ℕ} (w : Pair v u s r) {c d : ℕ} {n m k l : ℕ} (a : Room v n k) (b : Room u m l) (tc : Twin v u s r c d) (cradles : Cradles v u s r n m) (holders : (i j : ℕ) → Twin v u s r i j → So (unborn v (v .children i)) → So (unborn u (u .children j)) → eqb (v .children i) n ≡ eqb (u .children j) m) where
   abbrev v′ : View
   v′ = with-born v c n k
 
   abbrev u′ : View
   u′ = with-born u d m l
 
-  tops : Twins v u s r s r
-  tops = ExitSame.tops v u s r w
+  bn : So (below v n s)
+  bn = cradle-below w cradles .0
+
+  bm : So (below u m r)
+  bm = cradle-below w cradles .1
 
   levels-nm : v .level n ≡ u .level m
-  levels-nm = ⊎-elim (λ x. twins-level v u s r w n m x) (λ x. omega (arith, x .level-v, x .level-u, twins-level v u s r w (v .up n) (u .up m) (x .ups))) cradles
+  levels-nm = ⊎-elim (λ x. twins-level w x) (λ x. omega (arith, x .level-v, x .level-u, twins-level w (x .ups))) cradles
 
   unborn-nm : unborn v n ≡ unborn u m
   unborn-nm = ⊎-elim (λ x. alive-not-unborn (v .life n) (x .lives-v) ∙ sym (alive-not-unborn (u .life m) (x .lives-u))) (λ x. x .unborn-v ∙ sym (x .unborn-u)) cradles
 
   -- the names of the namespace that the child is born in, then
   cradle-name : name v′ s n ≡ name u′ r m
-  cradle-name = go (unborn v n) refl
+  unfolding row
+  cradle-name =
+      by-test (unborn v n)
+      (λ h. name-new a c s h bn ∙ ap by-init (next-twins w (top-twins w)) ∙ sym (name-new b d r (sym unborn-nm ∙ h) bm))
+      (λ h. name-born a c s n h ∙ alike h cradles ∙ sym (name-born b d r m (sym unborn-nm ∙ h)))
     where
-      go : (z : Bool) → unborn v n ≡ z → name v′ s n ≡ name u′ r m
-      go true h =
-          name-new v (w .facts-v) c n k nv tn s h bn ∙ ap by-init (next-twins v u s r w s r tops)
-          ∙ sym (name-new u (w .facts-u) d m l nu tm r (sym unborn-nm ∙ h) bm)
-      go false h = name-born v (w .facts-v) c n k nv tn s n tn h ∙ alike cradles ∙ sym (name-born u (w .facts-u) d m l nu tm r m tm (sym unborn-nm ∙ h))
-        where
-          alike : Cradles v u s r n m → name v s n ≡ name u r m
-          alike (inl x) = alive-name v (w .facts-v) s n (x .lives-v) (init-seen v (w .facts-v) n s (x .lives-v) (x .below-v)) ∙ ap by-init (x .inits) ∙ sym (alive-name u (w .facts-u) r m (x .lives-u) (init-seen u (w .facts-u) m r (x .lives-u) (x .below-u)))
-          alike (inr x) = absurd (false≢true (sym h ∙ x .unborn-v))
+      alike : unborn v n ≡ false → Cradles v u s r n m → name v s n ≡ name u r m
+      alike h (inl x) = ap (name v s) (sym (init-own v (w .facts-v) n (x .lives-v))) ∙ ap (λ (o : Row). o .own) (twin-rows w (inits-twin w x)) ∙ ap (name u r) (init-own u (w .facts-u) m (x .lives-u))
+      alike h (inr x) = absurd (false≢true (sym h ∙ x .unborn-v))
 
-  below-cradle : (o o′ : ℕ) → Twins v u s r o o′ → below v n o ≡ below u m o′
-  below-cradle o o′ z =
-      ⊎-elim (λ y. below-twins v u s r w n m o o′ y z)
-      (λ y. unborn-below v (w .facts-v) n o (y .unborn-v) (y .level-v) (z .lives-v) ∙ below-twins v u s r w (v .up n) (u .up m) o o′ (y .ups) z ∙ sym (unborn-below u (w .facts-u) m o′ (y .unborn-u) (y .level-u) (z .lives-u))) cradles
+  below-cradle : {o o′ : ℕ} → Twins v u s r o o′ → below v n o ≡ below u m o′
+  below-cradle {o} {o′} z =
+      ⊎-elim (λ y. below-twins w y z)
+      (λ y. unborn-below (w .facts-v) n o (y .unborn-v) (y .level-v) (z .lives-v) ∙ below-twins w (y .ups) z ∙ sym (unborn-below (w .facts-u) m o′ (y .unborn-u) (y .level-u) (z .lives-u))) cradles
 
-  module _ (i j : ℕ) (x : Twin v u s r i j) where
+  module _ {i j : ℕ} (x : Twin v u s r i j) where
     ti : So (taken v i)
-    ti = seen-taken v s i (x .seen-v)
+    ti = taken-v x
 
     tj : So (taken u j)
-    tj = seen-taken u r j (x .seen-u)
+    tj = taken-u x
 
     oi : i ≡ k → ⊥
-    oi = old v (w .facts-v) c n k nv tn i ti
+    oi = old a c i ti
 
     oj : j ≡ l → ⊥
-    oj = old u (w .facts-u) d m l nu tm j tj
+    oj = old b d j tj
 
     rows : row v s i ≡ row u r j
-    rows = twin-rows v u s r w i j x
+    rows = twin-rows w x
 
     old-children : name v′ s (v .children i) ≡ name u′ r (u .children j)
-    unfolding row
-    old-children = go (children-of v (w .facts-v) i ti) (children-of u (w .facts-u) j tj)
-      where
-        e : name v s (v .children i) ≡ name u r (u .children j)
-        e = ap (λ (o : Row). o .children) rows
-
-        born : So (namespace-taken v (v .children i)) → So (namespace-taken u (u .children j)) → (z : Bool) → unborn v (v .children i) ≡ z → unborn u (u .children j) ≡ z → name v′ s (v .children i) ≡ name u′ r (u .children j)
-        born g h false y y′ = name-born v (w .facts-v) c n k nv tn s (v .children i) g y ∙ e ∙ sym (name-born u (w .facts-u) d m l nu tm r (u .children j) h y′)
-        born g h true y y′ = which (ℕ-discrete n (v .children i)) (ℕ-discrete m (u .children j))
-          where
-            which : Dec (n ≡ v .children i) → Dec (m ≡ u .children j) → name v′ s (v .children i) ≡ name u′ r (u .children j)
-            which (yes q₁) (yes q₂) = ap (name v′ s) (sym q₁) ∙ cradle-name ∙ ap (name u′ r) q₂
-            which (yes q₁) (no q₂) = absurd (q₂ (sym (eqb-true _ _ (sym (holders i j x (ap (unborn v) q₁ ∙ y)) ∙ eq-eqb (v .children i) n (sym q₁)))))
-            which (no q₁) (yes q₂) = absurd (q₁ (sym (eqb-true _ _ (holders i j x (unborn-nm ∙ ap (unborn u) q₂ ∙ y′) ∙ eq-eqb (u .children j) m (sym q₂)))))
-            which (no q₁) (no q₂) = name-other v (w .facts-v) c n k nv tn s (v .children i) g y q₁ ∙ sym (name-other u (w .facts-u) d m l nu tm r (u .children j) h y′ q₂)
-
-        go : So (namespace-taken v (v .children i)) ⊎ (v .children i ≡ no-slot) → So (namespace-taken u (u .children j)) ⊎ (u .children j ≡ no-slot) → name v′ s (v .children i) ≡ name u′ r (u .children j)
-        go (inl g) (inl h) = born g h (unborn v (v .children i)) refl (sym (name-unborn u (w .facts-u) r (u .children j) h) ∙ sym (ap is-unborn-name e) ∙ name-unborn v (w .facts-v) s (v .children i) g)
-        go (inr g) (inr h) = name-no-slot v′ s _ g ∙ sym (name-no-slot u′ r _ h)
-        go (inl g) (inr h) = absurd (named v (w .facts-v) s (v .children i) g (e ∙ name-no-slot u r _ h))
-        go (inr g) (inl h) = absurd (named u (w .facts-u) r (u .children j) h (sym e ∙ name-no-slot v s _ g))
+    unfolding row living
+    old-children =
+        by-test (v .ended i)
+        (λ e. name-no-slot v′ s _ (w .facts-v .ended-bare i ti e .0 .0 .0) ∙ sym (name-no-slot u′ r _ (w .facts-u .ended-bare j tj (sym (ended-twins w x) ∙ e) .0 .0 .0)))
+        (λ e.
+        let li : So (living v i) = both _ _ ti (ap not e) in
+        let lj : So (living u j) = sym (living-twins w x) ∙ li in
+        let both-unborn = children-unborn w x li in
+        by-test (unborn v (v .children i))
+        (λ y.
+        let y′ : So (unborn u (u .children j)) = sym both-unborn ∙ y in
+        let same = holders i j x y y′ in
+        by-test (eqb (v .children i) n)
+        (λ q. ap (name v′ s) (eqb-true _ _ q) ∙ cradle-name ∙ ap (name u′ r) (sym (eqb-true _ _ (sym same ∙ q))))
+        (λ q. name-other a c s _ (children-taken (w .facts-v) i li) y (λ z. eqb-false _ _ q (sym z)) ∙ sym (name-other b d r _ (children-taken (w .facts-u) j lj) y′ (λ z. eqb-false _ _ (sym same ∙ q) (sym z)))))
+        (λ y. name-born a c s (v .children i) y ∙ ap (λ (o : Row). o .children) rows ∙ sym (name-born b d r (u .children j) (sym both-unborn ∙ y))))
 
     old-last : (if is-init v′ i then v′ .last (v′ .own i) else 0) ≡ (if is-init u′ j then u′ .last (u′ .own j) else 0)
     unfolding row
-    old-last = shows v (w .facts-v) c n k nv tn i ti ∙ go (alive v (v .own i)) refl ∙ sym (shows u (w .facts-u) d m l nu tm j tj)
+    old-last = shows a c i ti ∙ go (alive v (v .own i)) refl ∙ sym (shows b d j tj)
       where
         go : (z : Bool) → alive v (v .own i) ≡ z → (if is-init v i then (if below v n (v .own i) then next-pid v (v .own i) else v .last (v .own i)) else 0) ≡ (if is-init u j then (if below u m (u .own j) then next-pid u (u .own j) else u .last (u .own j)) else 0)
         go true h =
-            let o = owns v u s r w i j x h in
-            λ y. if is-init-twins v u s r w i j x h y then (if below-cradle (v .own i) (u .own j) o y then next-twins v u s r w (v .own i) (u .own j) o y else last-twins v u s r w (v .own i) (u .own j) o y) else 0
-        go false h = rw (not-init v (w .facts-v) i ti h, not-init u (w .facts-u) j tj (sym (own-alive v u s r w i j x) ∙ h)) refl
-
-    parent-old : (y : View) (f : Facts y) (e k′ : ℕ) → taken y k′ ≡ false → k′ < process-slots → So (taken y e) → y .parent e ≡ k′ → ⊥
-    parent-old y f e k′ no-one lt t q = zero-or e (λ z. omega (arith, lt, f .root-parent, ap (y .parent) z, q)) (λ z. no-so no-one (subst (λ x. So (taken y x)) q (lives-taken y _ (parent-living y f e t z))))
+            let o = owns w x h in
+            λ y. if is-init-twins w x h y then (if below-cradle o y then next-twins w o y else last-twins w o y) else 0
+        go false h = rw (not-init (w .facts-v) i ti h, not-init (w .facts-u) j tj (sym (alive-named w (own-names w x)) ∙ h)) refl
 
     old-rows : row v′ s i ≡ row u′ r j
     unfolding row
@@ -195,8 +156,8 @@ module _ (v u : View) (s r : ℕ) (w : Pair v u s r) (c d n m k l : ℕ) (tc : T
         let ei = ne-eqb i k oi in
         let ej = ne-eqb j l oj in
         row-by v′ u′ s r i j (left-pids v c n k i ei (levels - v .level s) (v .level s) ∙ ap (λ (o : Row). o .pids) rows ∙ sym (left-pids u d m l j ej (levels - u .level r) (u .level r))) (rw (ei, ej) (ap (λ (o : Row). o .state) rows)) (rw (ei, ej) (ap (λ (o : Row). o .handled) rows)) (rw (ei, ej) (ap (λ (o : Row). o .pending) rows)) (rw (ei, ej) (ap (λ (o : Row). o .unshared) rows))
-        (rw (ei, ej) (pid-in-grown v (w .facts-v) c n k nv tn s (v .parent i) (parent-old v (w .facts-v) i k nv kl ti) ∙ ap (λ (o : Row). o .parent) rows ∙ sym (pid-in-grown u (w .facts-u) d m l nu tm r (u .parent j) (parent-old u (w .facts-u) j l nu ll tj))))
-        (rw (ei, ej) (name-born v (w .facts-v) c n k nv tn s (v .own i) (own-taken v (w .facts-v) i ti) (own-not-unborn v (w .facts-v) i ti) ∙ ap (λ (o : Row). o .own) rows ∙ sym (name-born u (w .facts-u) d m l nu tm r (u .own j) (own-taken u (w .facts-u) j tj) (own-not-unborn u (w .facts-u) j tj))))
+        (rw (ei, ej) (pid-in-grown a c s (v .parent i) (parent-old a i ti) ∙ ap (λ (o : Row). o .parent) rows ∙ sym (pid-in-grown b d r (u .parent j) (parent-old b j tj))))
+        (rw (ei, ej) (name-born a c s (v .own i) (own-not-unborn v (w .facts-v) i ti) ∙ ap (λ (o : Row). o .own) rows ∙ sym (name-born b d r (u .own j) (own-not-unborn u (w .facts-u) j tj))))
         (rw (ei, ej) old-children)
         old-last
 
@@ -207,7 +168,7 @@ module _ (v u : View) (s r : ℕ) (w : Pair v u s r) (c d n m k l : ℕ) (tc : T
       each h x y = rw (eq-eqb k k refl, eq-eqb l l refl) (go (decLe h (v .level n)))
         where
           go : Dec (h ≤ v .level n) → (if leb h (v .level n) then next-pid v (above-at v n h) else 0) ≡ (if leb h (u .level m) then next-pid u (above-at u m h) else 0)
-          go (yes z) = rw (le-leb h (v .level n) z, le-leb h (u .level m) (omega (arith, levels-nm))) (cradle-next v u s r w n m h cradles x z)
+          go (yes z) = rw (le-leb h (v .level n) z, le-leb h (u .level m) (omega (arith, levels-nm))) (cradle-next w n m h cradles x z)
           go (no z) = rw (lt-leb h (v .level n) (omega arith), lt-leb h (u .level m) (omega (arith, levels-nm))) refl
 
   new-last : (if is-init v′ k then v′ .last (v′ .own k) else 0) ≡ (if is-init u′ l then u′ .last (u′ .own l) else 0)
@@ -215,36 +176,32 @@ module _ (v u : View) (s r : ℕ) (w : Pair v u s r) (c d n m k l : ℕ) (tc : T
   new-last = rw (eq-eqb k k refl, eq-eqb l l refl) (go cradles)
     where
       go : Cradles v u s r n m → (if eqb (init v′ n) k then v′ .last n else 0) ≡ (if eqb (init u′ m) l then u′ .last m else 0)
-      go (inl y) = in-old v (w .facts-v) c n k nv tn (v′ .last n) (y .lives-v) ∙ sym (in-old u (w .facts-u) d m l nu tm (u′ .last m) (y .lives-u))
+      go (inl y) = in-old a c (v′ .last n) (y .lives-v) ∙ sym (in-old b d (u′ .last m) (y .lives-u))
       go (inr y) =
-          in-new v (w .facts-v) c n k nv tn (y .unborn-v) ∙ next-unborn v u (w .facts-v) (w .facts-u) n m (y .unborn-v) (y .unborn-u) (y .lasts)
-          ∙ sym (in-new u (w .facts-u) d m l nu tm (y .unborn-u))
+          in-new a c (y .unborn-v) ∙ next-unborn (w .facts-v) (w .facts-u) n m (y .unborn-v) (y .unborn-u) (y .lasts)
+          ∙ sym (in-new b d (y .unborn-u))
 
   new-rows : row v′ s k ≡ row u′ r l
   new-rows =
       let ek = eq-eqb k k refl in
       let el = eq-eqb l l refl in
       row-by v′ u′ s r k l new-pids (rw (ek, el)) (rw (ek, el)) (rw (ek, el)) (rw (ek, el))
-      (rw (ek, el) (pid-in-grown v (w .facts-v) c n k nv tn s c (old v (w .facts-v) c n k nv tn c (seen-taken v s c (tc .seen-v))) ∙ pid-in-seen v s c (tc .seen-v) ∙ tc .pids ∙ sym (pid-in-grown u (w .facts-u) d m l nu tm r d (old u (w .facts-u) d m l nu tm d (seen-taken u r d (tc .seen-u))) ∙ pid-in-seen u r d (tc .seen-u))))
+      (rw (ek, el) (pid-in-grown a c s c (old a c c (taken-v tc)) ∙ pid-in-seen v s c (tc .seen-v) ∙ tc .pids ∙ sym (pid-in-grown b d r d (old b d d (taken-u tc)) ∙ pid-in-seen u r d (tc .seen-u))))
       (rw (ek, el) cradle-name) (rw (ek, el) cradle-name) new-last
 
   -- each row stands as it stood, and the children's rows are the same
   pub birth-same : Same v′ u′ s r
   birth-same =
-      record {
-        levels = w .same .levels;
-        there = λ i h. there-case i h (ℕ-discrete i k);
-        back = λ j h. back-case j h (ℕ-discrete j l);
-      }
+      record { levels = w .same .levels; there = λ i h. there-case i h (ℕ-discrete i k); back = λ j h. back-case j h (ℕ-discrete j l) }
     where
       there-case : (i : ℕ) → So (seen v′ s i) → Dec (i ≡ k) → (j : ℕ) × So (seen u′ r j) × (row v′ s i ≡ row u′ r j)
-      there-case i h (yes e) = (l, child-seen u (w .facts-u) d m l nu tm r bm, ap (row v′ s) e ∙ new-rows)
+      there-case i h (yes e) = (l, child-seen b d r bm, ap (row v′ s) e ∙ new-rows)
       there-case i h (no o) =
-          let (j, x) = twin-there v u s r w i (sym (seen-grown v (w .facts-v) c n k nv tn s i o) ∙ h) in
-          (j, seen-grown u (w .facts-u) d m l nu tm r j (old u (w .facts-u) d m l nu tm j (seen-taken u r j (x .seen-u))) ∙ x .seen-u, old-rows i j x)
+          let (j, x) = twin-there w i (sym (seen-grown a c s i o) ∙ h) in
+          (j, seen-grown b d r j (old b d j (taken-u x)) ∙ x .seen-u, old-rows x)
 
       back-case : (j : ℕ) → So (seen u′ r j) → Dec (j ≡ l) → (i : ℕ) × So (seen v′ s i) × (row v′ s i ≡ row u′ r j)
-      back-case j h (yes e) = (k, child-seen v (w .facts-v) c n k nv tn s bn, new-rows ∙ sym (ap (row u′ r) e))
+      back-case j h (yes e) = (k, child-seen a c s bn, new-rows ∙ sym (ap (row u′ r) e))
       back-case j h (no o) =
-          let (i, x) = twin-there u v r s (flip-pair v u s r w) j (sym (seen-grown u (w .facts-u) d m l nu tm r j o) ∙ h) in
-          (i, seen-grown v (w .facts-v) c n k nv tn s i (old v (w .facts-v) c n k nv tn i (seen-taken v s i (x .seen-u))) ∙ x .seen-u, old-rows i j (flip-twin u v r s j i x))
+          let (i, x) = twin-there (flip-pair w) j (sym (seen-grown b d r j o) ∙ h) in
+          (i, seen-grown a c s i (old a c i (taken-u x)) ∙ x .seen-u, old-rows (flip-twin x))

@@ -1,21 +1,22 @@
--- A birth: the next number, and what is read of the others, on one table and on two that are the same to S.
-use Prim.Native.Nat.{ℕ, suc, _-_, pred, _≤_}
-use native.Mathlib.Decide.{ℕ-discrete}
+-- A birth on one table: what is read of the child and of the others. On two tables: the next number is the same.
+use Prim.Native.Nat.{ℕ, suc, _-_, pred, _<_, _≤_}
 use native.Mathlib.Omega.{arith}
 use mathlib.Core.Bool.{Bool, not, So, true, false, false≢true}
-use mathlib.Core.Logic.{_⊎_, inl, inr}
+use mathlib.Core.Logic.{_⊎_, inl, inr, ⊎-elim}
 use mathlib.Core.Path.{_≡_, refl, sym, _∙_, ap, ap₂, fun-ext, subst}
 use borrow.Author.Tests.{eq-eqb, eqb-true, ne-eqb, le-leb}
 use lib.Dec.{eqb, leb}
 use Rattle.rules.proofs.Keeps.Birth.{with-born, next-fresh}
-use Rattle.rules.proofs.Laws.Below.{above-is, below-level}
+use Rattle.rules.proofs.Laws.Below.{below-level, below-trans, deep-namespace}
 use Rattle.rules.proofs.Laws.Facts.{Facts, seen-taken, seen-below}
-use Rattle.rules.proofs.Laws.Slots.{init-own, below-same, below-up-by, up-by-level, up-by-end, init-taken, no-heirs, own-not-unborn}
+use Rattle.rules.proofs.Laws.Slots.{alive-taken, init-own, below-same, below-up-by, up-by-level, up-by-end, init-taken, no-heirs, own-not-unborn}
 use Rattle.rules.proofs.Laws.Tests.{no-so, isnt-so, left, right, both, any-elim, any-intro, isnt, bool-ext}
 use Rattle.rules.proofs.Laws.Tree.{below-refl}
+use Rattle.sameness.proofs.Cases.{by-equal}
 use Rattle.sameness.proofs.Readers.{seen-above}
-use Rattle.sameness.proofs.Stays.{Stays, name-stays}
-use Rattle.sameness.proofs.Twins.{Pair, Twins, flip-pair, flip-twins, twin-there, twin-rows, seen-twins, pid-twins, inits-twin, pid-in-seen, twins-level, twins-up-by}
+use Rattle.sameness.proofs.Anchor.{init-or-none, up-below}
+use Rattle.sameness.proofs.Remain.{Tree, name-stays}
+use Rattle.sameness.proofs.Twins.{Pair, Twins, flip-pair, flip-twins, twin-there, twin-rows, seen-twins, pid-twins, inits-twin, pid-in-seen, twins-level, twins-up-by, taken-u}
 use Rattle.table.specs.Limits.{greatest-pid, process-slots, restart-pid, no-slot}
 use Rattle.rules.specs.Pids.{free-pid, next-pid}
 use Rattle.table.specs.Slots.{is-unborn}
@@ -27,22 +28,22 @@ use Rattle.table.specs.declared.Life.{Life}
 
 -- ---- the next number in two twin namespaces is the same
 
-held-there : (v u : View) (s r : ℕ) (w : Pair v u s r) (n m k : ℕ) → Twins v u s r n m → So (any process-slots (λ i. seen v n i and eqb (pid-seen v n i) k)) → So (any process-slots (λ j. seen u m j and eqb (pid-seen u m j) k))
-held-there v u s r w n m k l h =
+held-there : {v u : View} {s r : ℕ} (w : Pair v u s r) {n m : ℕ} (k : ℕ) → Twins v u s r n m → So (any process-slots (λ i. seen v n i and eqb (pid-seen v n i) k)) → So (any process-slots (λ j. seen u m j and eqb (pid-seen u m j) k))
+held-there {u} {s} {r} w {n} k l h =
     let (i, b, g) = any-elim _ _ h in
-    let (j, p) = twin-there v u s r w i (seen-above v (w .facts-v) n s i (l .below-v) (left _ _ g)) in
-    any-intro _ _ j (w .facts-u .in-range j (seen-taken u r j (p .seen-u)))
-    (both _ _ (sym (seen-twins v u s r w i j n m p l) ∙ left _ _ g) (eq-eqb _ _ (sym (pid-twins v u s r w i j n m p l) ∙ eqb-true _ _ (right _ _ g))))
+    let (j, p) = twin-there w i (seen-above (w .facts-v) n s i (l .below-v) (left _ _ g)) in
+    any-intro _ _ j (w .facts-u .in-range j (taken-u p))
+    (both _ _ (sym (seen-twins w p l) ∙ left _ _ g) (eq-eqb _ _ (sym (pid-twins w p l) ∙ eqb-true _ _ (right _ _ g))))
 
-module _ (v u : View) (s r : ℕ) (w : Pair v u s r) (n m : ℕ) (l : Twins v u s r n m) where
+module _ {v u : View} {s r : ℕ} (w : Pair v u s r) {n m : ℕ} (l : Twins v u s r n m) where
   pub free-twins : (k : ℕ) → free-pid v n k ≡ free-pid u m k
   unfolding free-pid
-  free-twins k = ap not (bool-ext _ _ (held-there v u s r w n m k l) (held-there u v r s (flip-pair v u s r w) m n k (flip-twins v u s r n m l)))
+  free-twins k = ap not (bool-ext _ _ (held-there w k l) (held-there (flip-pair w) k (flip-twins l)))
 
   -- the last number, from the init's row
   pub last-twins : v .last n ≡ u .last m
   unfolding row is-init
-  last-twins = sym (shows v (w .facts-v) n (l .lives-v)) ∙ ap (λ (q : Row). q .last) (twin-rows v u s r w _ _ (inits-twin v u s r w n m l)) ∙ shows u (w .facts-u) m (l .lives-u)
+  last-twins = sym (shows v (w .facts-v) n (l .lives-v)) ∙ ap (λ (q : Row). q .last) (twin-rows w (inits-twin w l)) ∙ shows u (w .facts-u) m (l .lives-u)
     where
       shows : (x : View) (f : Facts x) (a : ℕ) → So (alive x a) → (if eqb (init x (x .own (init x a))) (init x a) then x .last (x .own (init x a)) else 0) ≡ x .last a
       shows x f a h =
@@ -58,19 +59,27 @@ module _ (v u : View) (s r : ℕ) (w : Pair v u s r) (n m : ℕ) (l : Twins v u 
 -- ---- a birth, on one table: what is read of the others is what it was
 
 -- nothing lies below an unborn namespace but itself
-pub bottom : (v : View) (f : Facts v) (a m : ℕ) → So (below v a m) → So (unborn v m) → a ≡ m
-bottom v f a m b h = go (ℕ-discrete (v .level a) (v .level m))
-  where
-    go : Dec (v .level a ≡ v .level m) → a ≡ m
-    go (yes e) = below-same v f a m b e
-    go (no e) =
-        let d = pred (v .level a - v .level m) in
-        let l = below-level v f a m b in
-        let q : suc d ≡ v .level a - v .level m = omega arith in
-        absurd (no-heirs v f m (up-by (v .up) d a) (v .level m) h (omega (arith, up-by-level v f d a (omega arith))) (sym (up-by-end v f d a) ∙ ap (λ x. up-by (v .up) x a) q ∙ below-up-by v f a m b))
+pub bottom : {v : View} (f : Facts v) (a m : ℕ) → So (below v a m) → So (unborn v m) → a ≡ m
+bottom {v} f a m b h =
+    by-equal (v .level a) (v .level m) (λ e. below-same v f a m b e)
+    (λ e.
+    let d = pred (v .level a - v .level m) in
+    let l = below-level v f a m b in
+    let q : suc d ≡ v .level a - v .level m = omega arith in
+    absurd (no-heirs v f m (up-by (v .up) d a) (v .level m) h (omega (arith, up-by-level v f d a (omega arith))) (sym (up-by-end v f d a) ∙ ap (λ x. up-by (v .up) x a) q ∙ below-up-by v f a m b)))
 
--- a child of c is born at the slot k, which was empty, in the namespace n
-module _ (v : View) (f : Facts v) (c n k : ℕ) (new : taken v k ≡ false) (tn : So (namespace-taken v n)) where
+-- an empty slot k, and a namespace n
+pub record Room (v : View) (n k : ℕ) : Type 0 where
+  pub facts : Facts v
+  pub slot : k < process-slots
+  pub empty : taken v k ≡ false
+  pub stands : So (namespace-taken v n)
+
+-- a child of c is born there
+module _ {v : View} {n k : ℕ} (room : Room v n k) (c : ℕ) where
+  f : Facts v
+  f = room .facts
+
   abbrev v′ : View
   v′ = with-born v c n k
 
@@ -80,7 +89,7 @@ module _ (v : View) (f : Facts v) (c n k : ℕ) (new : taken v k ≡ false) (tn 
 
   -- one in the table is not the new one
   pub old : (i : ℕ) → So (taken v i) → i ≡ k → ⊥
-  old i h e = no-so new (subst (λ j. So (taken v j)) e h)
+  old i h e = no-so (room .empty) (subst (λ j. So (taken v j)) e h)
 
   -- the others are seen as before, with the same numbers
   pub seen-grown : (m i : ℕ) → (i ≡ k → ⊥) → seen v′ m i ≡ seen v m i
@@ -118,29 +127,28 @@ module _ (v : View) (f : Facts v) (c n k : ℕ) (new : taken v k ≡ false) (tn 
       either false = refl
 
   pub life-other : (m : ℕ) → So (unborn v m) → (n ≡ m → ⊥) → v′ .life m ≡ v .life m
-  life-other m h o = ap (λ (b : Bool). if b then (if is-unborn (v .life m) then Alive (record { 0 = k }) else v .life m) else v .life m) not-above
-    where
-      not-above : below v n m ≡ false
-      not-above = isnt-so (λ b. o (bottom v f n m b h))
+  life-other m h o =
+      let not-above : below v n m ≡ false = isnt-so (λ b. o (bottom f n m b h)) in
+      ap (λ (b : Bool). if b then (if is-unborn (v .life m) then Alive (record { 0 = k }) else v .life m) else v .life m) not-above
 
   pub life-new : So (unborn v n) → v′ .life n ≡ Alive (record { 0 = k })
   life-new h = ap₂ (λ (a b : Bool). if a then (if b then Alive (record { 0 = k }) else v .life n) else v .life n) (below-refl v n) h
-
-  -- above one that is not unborn none is
-  up-born : (m j : ℕ) → v .level m ≡ suc j → unborn v (v .up m) ≡ false
-  up-born m j e = isnt-so (λ h. no-heirs v f (v .up m) m j h e refl)
 
   -- ---- names
 
   abbrev born : ℕ → Bool
   born m = not (unborn v m)
 
-  stays-born : Stays v v′ born
-  stays-born = record { ups = λ m h. refl; levels = λ m h. refl; lives = λ m h. life-born m (isnt (unborn v m) h); up-kept = λ m j h e. ap not (up-born m j e) }
+  born-tree : Tree v v′ born
+  born-tree = record { ups = λ m h. refl; levels = λ m h. refl; up-kept = λ m j h e. ap not (isnt-so (λ q. no-heirs v f (v .up m) m j q e refl)) }
+
+  -- no init is the child
+  init-old : (m : ℕ) → init v m ≡ k → ⊥
+  init-old m e = ⊎-elim (λ a. old _ (init-taken v f m a) e) (λ q. omega (arith, q, e, room .slot)) (init-or-none v m)
 
   -- a namespace that was born keeps its name, an unborn one keeps it or is born
-  pub name-born : (s m : ℕ) → So (namespace-taken v m) → unborn v m ≡ false → name v′ s m ≡ name v s m
-  name-born s m ht h = name-stays v v′ born f stays-born s (λ a k l. pid-in-grown s (init v a) (old _ (init-taken v f a l))) m (ap not h) ht
+  pub name-born : (s m : ℕ) → unborn v m ≡ false → name v′ s m ≡ name v s m
+  name-born s m h = name-stays f born-tree (λ a k. life-born a (isnt (unborn v a) k)) s (λ a k. pid-in-grown s (init v a) (init-old a)) m (ap not h)
 
   pub name-other : (s m : ℕ) → So (namespace-taken v m) → So (unborn v m) → (n ≡ m → ⊥) → name v′ s m ≡ unborn-name
   unfolding name name-by
@@ -154,26 +162,25 @@ module _ (v : View) (f : Facts v) (c n k : ℕ) (new : taken v k ≡ false) (tn 
   pub name-new : (s : ℕ) → So (unborn v n) → So (below v n s) → name v′ s n ≡ by-init (next-pid v s)
   unfolding name name-by
   name-new s h b =
-      rw (ne-eqb n no-slot (λ e. omega (arith, f .in-namespace n tn)), life-new h)
+      rw (ne-eqb n no-slot (λ e. omega (arith, f .in-namespace n (room .stands))), life-new h)
       (ap by-init (pid-in-seen v′ s k (child-seen s b) ∙ child-pid-in s b))
 
 -- ---- the numbers that two newborns get from S's level down are the same
 
 -- nobody is seen from an unborn namespace
-unborn-unseen : (v : View) (f : Facts v) (n i : ℕ) → So (unborn v n) → So (seen v n i) → ⊥
-unborn-unseen v f n i h k = no-so (own-not-unborn v f i (seen-taken v n i k)) (subst (λ m. So (unborn v m)) (sym (bottom v f (v .own i) n (seen-below v n i k) h)) h)
+unborn-unseen : {v : View} (f : Facts v) (n i : ℕ) → So (unborn v n) → So (seen v n i) → ⊥
+unborn-unseen {v} f n i h k = no-so (own-not-unborn v f i (seen-taken v n i k)) (subst (λ m. So (unborn v m)) (sym (bottom f (v .own i) n (seen-below v n i k) h)) h)
 
-unborn-free : (v : View) (f : Facts v) (n k : ℕ) → So (unborn v n) → So (free-pid v n k)
+unborn-free : {v : View} (f : Facts v) (n k : ℕ) → So (unborn v n) → So (free-pid v n k)
 unfolding free-pid
-unborn-free v f n k h = ap not (bool-ext held false (λ a. let (i, l, g) = any-elim _ _ a in absurd (unborn-unseen v f n i h (left _ _ g))) (λ a. absurd (false≢true a)))
-  where
-    held : Bool
-    held = any process-slots (λ i. seen v n i and eqb (pid-seen v n i) k)
+unborn-free {v} f n k h =
+    let held = any process-slots (λ i. seen v n i and eqb (pid-seen v n i) k) in
+    ap not (bool-ext held false (λ a. let (i, l, g) = any-elim _ _ a in absurd (unborn-unseen f n i h (left _ _ g))) (λ a. absurd (false≢true a)))
 
-pub next-unborn : (v u : View) (f : Facts v) (g : Facts u) (n m : ℕ) → So (unborn v n) → So (unborn u m) → v .last n ≡ u .last m → next-pid v n ≡ next-pid u m
+pub next-unborn : {v u : View} (f : Facts v) (g : Facts u) (n m : ℕ) → So (unborn v n) → So (unborn u m) → v .last n ≡ u .last m → next-pid v n ≡ next-pid u m
 unfolding next-pid
-next-unborn v u f g n m h k e =
-    ap₂ (λ (x : ℕ → Bool) (a : ℕ). let y = lowest x (greatest-pid - a) (suc a) in let q = lowest x (suc greatest-pid - restart-pid) restart-pid in if leb y greatest-pid then y else q) (fun-ext (λ i. unborn-free v f n i h ∙ sym (unborn-free u g m i k))) e
+next-unborn f g n m h k e =
+    ap₂ (λ (x : ℕ → Bool) (a : ℕ). let y = lowest x (greatest-pid - a) (suc a) in let q = lowest x (suc greatest-pid - restart-pid) restart-pid in if leb y greatest-pid then y else q) (fun-ext (λ i. unborn-free f n i h ∙ sym (unborn-free g m i k))) e
 
 -- where two children are born: in twin namespaces, or in unborn ones below twin namespaces
 pub record Unborns (v u : View) (s r n m : ℕ) : Type 0 where
@@ -187,25 +194,31 @@ pub record Unborns (v u : View) (s r n m : ℕ) : Type 0 where
 abbrev pub Cradles : View → View → ℕ → ℕ → ℕ → ℕ → Type 0
 Cradles v u s r n m = Twins v u s r n m ⊎ Unborns v u s r n m
 
--- the numbers that two newborns get from S's level down are the same
-pub cradle-next : (v u : View) (s r : ℕ) (w : Pair v u s r) (n m l : ℕ) → Cradles v u s r n m → v .level s ≤ l → l ≤ v .level n → next-pid v (above-at v n l) ≡ next-pid u (above-at u m l)
-unfolding above-at up-by
-cradle-next v u s r w n m l (inl k) a b =
-    next-twins v u s r w (up-by (v .up) (v .level n - l) n) (up-by (u .up) (u .level m - l) m)
-    (subst (λ x. Twins v u s r (up-by (v .up) (v .level n - l) n) (up-by (u .up) (x - l) m)) (twins-level v u s r w n m k) (twins-up-by v u s r w (v .level n - l) n m k (omega arith)))
-cradle-next v u s r w n m l (inr k) a b = go (ℕ-discrete l (v .level n))
-  where
-    levels : v .level n ≡ u .level m
-    levels = omega (arith, k .level-v, k .level-u, twins-level v u s r w (v .up n) (u .up m) (k .ups))
+-- they lie below S, and stand
+pub cradle-below : {v u : View} {s r n m : ℕ} (w : Pair v u s r) → Cradles v u s r n m → So (below v n s) × So (below u m r)
+cradle-below w (inl k) = (k .below-v, k .below-u)
+cradle-below {v} {u} {n} {m} w (inr k) = (below-trans v (w .facts-v) n (v .up n) _ (up-below (w .facts-v) n _ (k .level-v)) (k .ups .below-v), below-trans u (w .facts-u) m (u .up m) _ (up-below (w .facts-u) m _ (k .level-u)) (k .ups .below-u))
 
-    go : Dec (l ≡ v .level n) → next-pid v (up-by (v .up) (v .level n - l) n) ≡ next-pid u (up-by (u .up) (u .level m - l) m)
-    go (yes e) =
-        let x : v .level n - l ≡ 0 = omega arith in
-        let y : u .level m - l ≡ 0 = omega (arith, levels) in
-        ap (λ z. next-pid v (up-by (v .up) z n)) x ∙ next-unborn v u (w .facts-v) (w .facts-u) n m (k .unborn-v) (k .unborn-u) (k .lasts) ∙ sym (ap (λ z. next-pid u (up-by (u .up) z m)) y)
-    go (no e) =
-        let x : v .level n - l ≡ suc (v .level (v .up n) - l) = omega (arith, k .level-v) in
-        let y : u .level m - l ≡ suc (v .level (v .up n) - l) = omega (arith, levels, k .level-v) in
-        ap (λ z. next-pid v (up-by (v .up) z n)) x
-        ∙ next-twins v u s r w _ _ (twins-up-by v u s r w (v .level (v .up n) - l) (v .up n) (u .up m) (k .ups) (omega arith))
-        ∙ sym (ap (λ z. next-pid u (up-by (u .up) z m)) y)
+pub cradle-stands : {v u : View} {s r n m : ℕ} (w : Pair v u s r) → Cradles v u s r n m → So (namespace-taken v n) × So (namespace-taken u m)
+cradle-stands {v} {u} {n} {m} w (inl k) = (alive-taken v (w .facts-v) n (k .lives-v), alive-taken u (w .facts-u) m (k .lives-u))
+cradle-stands {v} {u} {n} {m} w (inr k) = (deep-namespace v n _ (k .level-v), deep-namespace u m _ (k .level-u))
+
+-- the numbers that two newborns get from S's level down are the same
+pub cradle-next : {v u : View} {s r : ℕ} (w : Pair v u s r) (n m l : ℕ) → Cradles v u s r n m → v .level s ≤ l → l ≤ v .level n → next-pid v (above-at v n l) ≡ next-pid u (above-at u m l)
+unfolding above-at up-by
+cradle-next {v} {u} {s} {r} w n m l (inl k) a b =
+    next-twins w
+    (subst (λ x. Twins v u s r (up-by (v .up) (v .level n - l) n) (up-by (u .up) (x - l) m)) (twins-level w k) (twins-up-by w (v .level n - l) k (omega arith)))
+cradle-next {v} {u} w n m l (inr k) a b =
+    let levels : v .level n ≡ u .level m = omega (arith, k .level-v, k .level-u, twins-level w (k .ups)) in
+    by-equal l (v .level n)
+    (λ e.
+    let x : v .level n - l ≡ 0 = omega arith in
+    let y : u .level m - l ≡ 0 = omega (arith, levels) in
+    ap (λ z. next-pid v (up-by (v .up) z n)) x ∙ next-unborn (w .facts-v) (w .facts-u) n m (k .unborn-v) (k .unborn-u) (k .lasts) ∙ sym (ap (λ z. next-pid u (up-by (u .up) z m)) y))
+    (λ e.
+    let x : v .level n - l ≡ suc (v .level (v .up n) - l) = omega (arith, k .level-v) in
+    let y : u .level m - l ≡ suc (v .level (v .up n) - l) = omega (arith, levels, k .level-v) in
+    ap (λ z. next-pid v (up-by (v .up) z n)) x
+    ∙ next-twins w (twins-up-by w (v .level (v .up n) - l) (k .ups) (omega arith))
+    ∙ sym (ap (λ z. next-pid u (up-by (u .up) z m)) y))

@@ -1,39 +1,39 @@
--- Demand 3: one induction over the two lists of calls, from what single calls do.
+-- Demand 3: one induction over the two lists of calls, from what single calls do; and its corollary that people will
+-- quote, that nothing is learnt inside of what stands outside.
 use Prim.Native.Nat.{ℕ}
 use native.Mathlib.Omega.{arith}
-use mathlib.Core.Bool.{Bool, true, false, So, false≢true}
+use mathlib.Core.Bool.{Bool, true, false, So, false≢true, true≢false}
 use mathlib.Core.List.{List, _∷_, []}
 use mathlib.Core.Logic.{_⊎_, inl, inr, ⊎-elim}
 use mathlib.Core.Option.{Option, none, some}
 use mathlib.Core.Path.{_≡_, refl, sym, _∙_, ap, subst}
-use borrow.Author.Tests.{eq-eqb, ne-eqb}
+use borrow.Author.Tests.{eq-eqb, ne-eqb, not-true}
 use Rattle.rules.proofs.Keeps.Changes.{keeps-sound, make-sound}
-use Rattle.rules.proofs.Laws.Facts.{facts, seen-taken, seen-below}
+use Rattle.rules.proofs.Laws.Facts.{facts, seen-below}
 use Rattle.rules.proofs.Laws.Lists.{heads-equal, tails-equal, not-empty}
 use Rattle.rules.proofs.Laws.Slots.{alive-taken, living-own-alive, alive-above, pid-unique}
 use Rattle.rules.proofs.Laws.Steps.{step-made, step-refused, runs-lives}
 use Rattle.rules.proofs.Laws.Tests.{left, right}
-use Rattle.sameness.proofs.BirthLeaves.{clone-leaves, clone-new-leaves, unshare-leaves}
-use Rattle.sameness.proofs.Calls.{getpid-same, getppid-same, handle-same, poll-same}
-use Rattle.sameness.proofs.CloneSame.{clone-same}
+use Rattle.sameness.proofs.Cases.{by-test}
+use Rattle.sameness.proofs.Clone.{clone-same, clone-new-same, unshare-same, clone-leaves, clone-new-leaves, unshare-leaves}
+use Rattle.sameness.proofs.Calls.{Kept, MadeSame, PlaceStands, follow-self, refused-same, MadeLeaves, getpid-leaves, getppid-leaves, handle-leaves, poll-leaves, as-it-was, getpid-same, getppid-same, handle-same, poll-same}
 use Rattle.sameness.proofs.EndLeaves.{exit-leaves}
 use Rattle.sameness.proofs.ExitSame.{exit-same}
-use Rattle.sameness.proofs.Inside.{MadeSame, Kept, PlaceStands, follow-self, refused-same}
 use Rattle.sameness.proofs.Kill.{kill-same}
 use Rattle.sameness.proofs.KillLeaves.{kill-leaves}
-use Rattle.sameness.proofs.NewNamespaceSame.{clone-new-same, unshare-same}
-use Rattle.sameness.proofs.Outside.{MadeLeaves, getpid-leaves, getppid-leaves, handle-leaves, poll-leaves, as-it-was}
-use Rattle.sameness.proofs.Same.{Callers, find-same, find-none, Same, same-of-sheets, level-lt, row-pid}
+use Rattle.sameness.proofs.Readers.{find-same, find-none}
+use Rattle.sameness.proofs.Same.{same-of-sheets, level-lt, row-pid}
+use Rattle.sameness.proofs.Twins.{Pair, Twin, taken-v, taken-u}
 use Rattle.sameness.proofs.Setns.{setns-same, setns-leaves}
 use Rattle.sameness.proofs.Wait.{wait-leaves, wait-same}
 use Rattle.rules.specs.Answers.{is-no-room, refused}
 use Rattle.rules.specs.Claims.{KeepsSound}
-use Rattle.sameness.specs.Claims.{Agree, Observed, OutsideLeaves, Sameness, observations, observe, lacks-room}
+use Rattle.sameness.specs.Claims.{Agree, Observed, OutsideLeaves, Sameness, observations, observe, lacks-room, NothingLearnt, roomy}
 use Rattle.sameness.specs.Events.{Event, Place, answer-of, at, follow, gone, happens, inside, inside-calls, next-place, next-table, outside, sheet-of, slot-of, table-after}
 use Rattle.table.specs.Limits.{process-slots}
 use Rattle.table.specs.Slots.{is-running}
-use Rattle.rules.specs.Read.{find, namespace-taken, pid-seen, seen, view, alive}
-use Rattle.sameness.specs.Sheet.{Sheet, sheet, Row, row}
+use Rattle.rules.specs.Read.{View, find, namespace-taken, seen, view, alive}
+use Rattle.sameness.specs.Sheet.{sheet, Row, row}
 use Rattle.rules.specs.Sound.{SoundTable}
 use Rattle.rules.specs.Step.{step, runs}
 use Rattle.table.specs.Tests.{_or_, if_then_else_, _and_}
@@ -43,6 +43,7 @@ use Rattle.table.specs.declared.Call.{Call}
 use Rattle.table.specs.declared.Outcome.{Outcome}
 use Rattle.table.specs.declared.Refusal.the-variants.{NotRunning}
 use Rattle.table.specs.declared.Table.{Table}
+use Rattle.table.proofs.Chains.{or-false}
 
 -- ---- each call
 
@@ -76,64 +77,34 @@ all-outside Poll = poll-leaves
 -- an outside call that makes no touch leaves the sheet
 pub outside-leaves : OutsideLeaves
 unfolding OutsideLeaves MadeLeaves happens table-after refused
-outside-leaves t s i c h hs a = go (runs (view t) i) refl
-  where
-    go : (b : Bool) → runs (view t) i ≡ b → sheet-of (step t i c .table) (follow t (step t i c .table) (at s)) ≡ sheet (view t) s
-    go true k = rw (step-made t i c h k) (all-outside c t s i h hs k a (make-sound t i c h k))
-    go false k = rw (step-refused t i c h k) (as-it-was t s hs)
+outside-leaves t s i c h hs a =
+    by-test (runs (view t) i) (λ k. rw (step-made t i c h k) (all-outside c t s i h hs k a (make-sound t i c h k)))
+    (λ k. rw (step-refused t i c h k) (as-it-was t s hs))
 
--- ---- the facts about single calls
-
--- where S is after a call
-abbrev after : Table → ℕ → ℕ → Call → Sheet
-after t s i c = sheet-of (step t i c .table) (follow t (step t i c .table) (at s))
-
--- An inside call, by the same number in S on both tables: no room on one, or the same answer and the same sheet.
-abbrev InsideSame : Type 0
-InsideSame =
-    (t u : Table) (s r i j : ℕ) (c : Call) → SoundTable t → SoundTable u → So (namespace-taken (view t) s) → So (namespace-taken (view u) r)
-    → sheet (view t) s ≡ sheet (view u) r → So (seen (view t) s i) → So (seen (view u) r j) → pid-seen (view t) s i ≡ pid-seen (view u) r j
-    → So (is-no-room (step t i c .reply .answer) or is-no-room (step u j c .reply .answer))
-    ⊎ ((step t i c .reply .answer ≡ step u j c .reply .answer) × (after t s i c ≡ after u r j c))
-
-runs-alive : (t : Table) (s i : ℕ) → SoundTable t → So (seen (view t) s i) → So (runs (view t) i) → So (alive (view t) s)
-runs-alive t s i h k a =
+runs-alive : {t : Table} (s i : ℕ) → SoundTable t → So (seen (view t) s i) → So (runs (view t) i) → So (alive (view t) s)
+runs-alive {t} s i h k a =
     alive-above (view t) (facts t h) (view t .own i) s (living-own-alive (view t) (facts t h) i (runs-lives t i a)) (seen-below (view t) s i k)
 
-runs-same : (t u : Table) (s r i j : ℕ) → SoundTable t → SoundTable u → So (seen (view t) s i) → So (seen (view u) r j) → row (view t) s i ≡ row (view u) r j → runs (view t) i ≡ runs (view u) j
+runs-same : {v u : View} {s r i j : ℕ} → Twin v u s r i j → row v s i ≡ row u r j → runs v i ≡ runs u j
 unfolding runs row
-runs-same t u s r i j h g a b e =
-    rw (seen-taken (view t) s i a, seen-taken (view u) r j b) (ap (λ (q : Row). true and is-running (q .state)) e)
+runs-same k e = rw (taken-v k, taken-u k) (ap (λ (q : Row). true and is-running (q .state)) e)
 
-inside-same : InsideSame
+-- An inside call, by the same number in S on both tables: no room on one, or the same answer and the same sheet.
+inside-same : {t u : Table} {s r i j : ℕ} (c : Call) → SoundTable t → SoundTable u → So (namespace-taken (view t) s) → So (namespace-taken (view u) r) → sheet (view t) s ≡ sheet (view u) r → Twin (view t) (view u) s r i j → Kept t u s r (step t i c) (step u j c)
 unfolding MadeSame
-inside-same t u s r i j c h g hs hr e a b n = go (runs (view t) i) refl
-  where
-    w : Same (view t) (view u) s r
-    w = same-of-sheets (view t) (view u) s r (facts t h) (facts u g) e
-
-    rows : row (view t) s i ≡ row (view u) r j
-    rows =
-        let (x, m, q) = w .there i a in
-        q ∙ ap (row (view u) r) (pid-unique (view u) (facts u g) r x j hr m b (sym (row-pid (view t) (view u) s r i x (level-lt (view t) (facts t h) s hs) (level-lt (view u) (facts u g) r hr) q) ∙ n))
-
-    both-run : runs (view t) i ≡ runs (view u) j
-    both-run = runs-same t u s r i j h g a b rows
-
-    go : (z : Bool) → runs (view t) i ≡ z → Kept t u s r (step t i c) (step u j c)
-    go true k =
-        rw (step-made t i c h k, step-made u j c g (sym both-run ∙ k))
-        (all-inside c t u s r i j
-        (record {
-          sound-t = h;
-          sound-u = g;
-          pair = record { facts-v = facts t h; facts-u = facts u g; alive-v = runs-alive t s i h a k; alive-u = runs-alive u r j g b (sym both-run ∙ k); same = w };
-          twin = record { seen-v = a; seen-u = b; pids = n };
-          runs-t = k;
-          runs-u = sym both-run ∙ k;
-        })
-        (make-sound t i c h k) (make-sound u j c g (sym both-run ∙ k)))
-    go false k = rw (step-refused t i c h k, step-refused u j c g (sym both-run ∙ k)) (refused-same t u s r NotRunning hs hr e)
+inside-same {t} {u} {s} {r} {i} {j} c h g hs hr e m =
+    let w = same-of-sheets (facts t h) (facts u g) e in
+    let (x, n, q) = w .there i (m .seen-v) in
+    let rows : row (view t) s i ≡ row (view u) r j =
+    q ∙ ap (row (view u) r) (pid-unique (view u) (facts u g) r x j hr n (m .seen-u) (sym (row-pid (view t) (view u) s r i x (level-lt (facts t h) s hs) (level-lt (facts u g) r hr) q) ∙ m .pids)) in
+    let both-run = runs-same m rows in
+    by-test (runs (view t) i)
+    (λ k.
+    let l : So (runs (view u) j) = sym both-run ∙ k in
+    let p : Pair (view t) (view u) s r = record { facts-v = facts t h; facts-u = facts u g; alive-v = runs-alive s i h (m .seen-v) k; alive-u = runs-alive r j g (m .seen-u) l; same = w } in
+    rw (step-made t i c h k, step-made u j c g l)
+    (all-inside c t u s r i j (record { sound-t = h; sound-u = g; pair = p; twin = m; runs-t = k; runs-u = l }) (make-sound t i c h k) (make-sound u j c g l)))
+    (λ k. rw (step-refused t i c h k, step-refused u j c g (sym both-run ∙ k)) (refused-same t u s r NotRunning hs hr e))
 
 -- ---- the relation that every call keeps
 
@@ -155,34 +126,30 @@ follow-stands t u (at s) = go (namespace-taken (view u) s) refl
 
 -- ---- outside calls
 
-outside-sheet : (t : Table) (p : Place) (i : ℕ) (c : Call) → SoundTable t → PlaceStands t p → So (allowed t p (outside i c)) → sheet-of (next-table t p (outside i c)) (next-place t p (outside i c)) ≡ sheet-of t p
+outside-sheet : {t : Table} (p : Place) (i : ℕ) (c : Call) → SoundTable t → PlaceStands t p → So (allowed t p (outside i c)) → sheet-of (next-table t p (outside i c)) (next-place t p (outside i c)) ≡ sheet-of t p
 unfolding OutsideLeaves sheet-of follow
-outside-sheet t (at s) i c h k a = outside-leaves t s i c h k a
-outside-sheet t (gone l) i c h k a = refl
+outside-sheet {t} (at s) i c h k a = outside-leaves t s i c h k a
+outside-sheet (gone l) i c h k a = refl
 
-outside-sound : (t : Table) (p : Place) (i : ℕ) (c : Call) → SoundTable t → SoundTable (next-table t p (outside i c))
+outside-sound : {t : Table} (p : Place) (i : ℕ) (c : Call) → SoundTable t → SoundTable (next-table t p (outside i c))
 unfolding happens table-after KeepsSound
-outside-sound t p i c h = keeps-sound t i c h
+outside-sound {t} p i c h = keeps-sound t i c h
 
-left-step : (t u : Table) (p q : Place) (i : ℕ) (c : Call) → Alike t p u q → So (allowed t p (outside i c)) → Alike (next-table t p (outside i c)) (next-place t p (outside i c)) u q
-left-step t u p q i c w a =
+left-step : {t u : Table} {p q : Place} (i : ℕ) (c : Call) → Alike t p u q → So (allowed t p (outside i c)) → Alike (next-table t p (outside i c)) (next-place t p (outside i c)) u q
+left-step {t} {p} i c w a =
     record {
-      sound-t = outside-sound t p i c (w .sound-t);
+      sound-t = outside-sound p i c (w .sound-t);
       sound-u = w .sound-u;
       stands-t = follow-stands t (next-table t p (outside i c)) p;
       stands-u = w .stands-u;
-      sheets = outside-sheet t p i c (w .sound-t) (w .stands-t) a ∙ w .sheets;
+      sheets = outside-sheet p i c (w .sound-t) (w .stands-t) a ∙ w .sheets;
     }
 
-right-step : (t u : Table) (p q : Place) (i : ℕ) (c : Call) → Alike t p u q → So (allowed u q (outside i c)) → Alike t p (next-table u q (outside i c)) (next-place u q (outside i c))
-right-step t u p q i c w a =
-    record {
-      sound-t = w .sound-t;
-      sound-u = outside-sound u q i c (w .sound-u);
-      stands-t = w .stands-t;
-      stands-u = follow-stands u (next-table u q (outside i c)) q;
-      sheets = w .sheets ∙ sym (outside-sheet u q i c (w .sound-u) (w .stands-u) a);
-    }
+flip-alike : {t u : Table} {p q : Place} → Alike t p u q → Alike u q t p
+flip-alike w = record { sound-t = w .sound-u; sound-u = w .sound-t; stands-t = w .stands-u; stands-u = w .stands-t; sheets = sym (w .sheets) }
+
+right-step : {t u : Table} {p q : Place} (i : ℕ) (c : Call) → Alike t p u q → So (allowed u q (outside i c)) → Alike t p (next-table u q (outside i c)) (next-place u q (outside i c))
+right-step i c w a = flip-alike (left-step i c (flip-alike w) a)
 
 -- ---- inside calls
 
@@ -207,31 +174,31 @@ Between t p u q x y =
     ⊎ ((answer-of x ≡ answer-of y) × Alike (table-after t x) (follow t (table-after t x) p) (table-after u y) (follow u (table-after u y) q))
 
 -- nobody: all stays
-stay : (t u : Table) (p q : Place) → Alike t p u q → Between t p u q none none
+stay : {t u : Table} {p q : Place} → Alike t p u q → Between t p u q none none
 unfolding table-after
-stay t u p q w =
+stay {t} {u} {p} {q} w =
     inr
     (refl, record { sound-t = w .sound-t; sound-u = w .sound-u; stands-t = rw (follow-self t p (w .stands-t)) (w .stands-t); stands-u = rw (follow-self u q (w .stands-u)) (w .stands-u); sheets = rw (follow-self t p (w .stands-t), follow-self u q (w .stands-u)) (w .sheets) })
 
-none-named : (t u : Table) (p q : Place) (k : ℕ) (c : Call) → Alike t p u q → slot-of t p k ≡ process-slots → slot-of u q k ≡ process-slots → Between t p u q (happens t p (inside k c)) (happens u q (inside k c))
-none-named t u p q k c w e d = rw (nobody t p k c e, nobody u q k c d) (stay t u p q w)
+none-named : {t u : Table} {p q : Place} (k : ℕ) (c : Call) → Alike t p u q → slot-of t p k ≡ process-slots → slot-of u q k ≡ process-slots → Between t p u q (happens t p (inside k c)) (happens u q (inside k c))
+none-named {t} {u} {p} {q} k c w e d = rw (nobody t p k c e, nobody u q k c d) (stay w)
 
-one-named : (t u : Table) (s r i j : ℕ) (c : Call) → Alike t (at s) u (at r) → Callers (view t) (view u) s r i j → Between t (at s) u (at r) (some (step t i c)) (some (step u j c))
+one-named : {t u : Table} {s r i j : ℕ} (c : Call) → Alike t (at s) u (at r) → Twin (view t) (view u) s r i j → Between t (at s) u (at r) (some (step t i c)) (some (step u j c))
 unfolding table-after answer-of sheet-of KeepsSound
-one-named t u s r i j c w n =
+one-named {t} {u} {s} {r} {i} {j} c w n =
     ⊎-elim (λ x. inl x)
     (λ x. inr (ap some (x .0), record { sound-t = keeps-sound t i c (w .sound-t); sound-u = keeps-sound u j c (w .sound-u); stands-t = follow-stands t (step t i c .table) (at s); stands-u = follow-stands u (step u j c .table) (at r); sheets = x .1 }))
-    (inside-same t u s r i j c (w .sound-t) (w .sound-u) (w .stands-t) (w .stands-u) (w .sheets) (n .seen-t) (n .seen-u) (n .pids))
+    (inside-same c (w .sound-t) (w .sound-u) (w .stands-t) (w .stands-u) (w .sheets) n)
 
-inside-step : (t u : Table) (p q : Place) (k : ℕ) (c : Call) → Alike t p u q → Between t p u q (happens t p (inside k c)) (happens u q (inside k c))
+inside-step : {t u : Table} (p q : Place) (k : ℕ) (c : Call) → Alike t p u q → Between t p u q (happens t p (inside k c)) (happens u q (inside k c))
 unfolding slot-of sheet-of
-inside-step t u (at s) (at r) k c w =
-    ⊎-elim (λ x. none-named t u (at s) (at r) k c w (x .0) (x .1))
-    (λ n. rw (somebody t s k c (λ e. omega (arith, n .lt-t, e)), somebody u r k c (λ e. omega (arith, n .lt-u, e))) (one-named t u s r _ _ c w n))
-    (find-same (view t) (view u) s r k (facts t (w .sound-t)) (facts u (w .sound-u)) (w .stands-t) (w .stands-u) (w .sheets))
-inside-step t u (at s) (gone l) k c w = none-named t u (at s) (gone l) k c w (find-none (view t) s k (facts t (w .sound-t)) (ap (λ x. x .rows) (w .sheets))) refl
-inside-step t u (gone l) (at r) k c w = none-named t u (gone l) (at r) k c w refl (find-none (view u) r k (facts u (w .sound-u)) (ap (λ x. x .rows) (sym (w .sheets))))
-inside-step t u (gone l) (gone m) k c w = none-named t u (gone l) (gone m) k c w refl refl
+inside-step {t} {u} (at s) (at r) k c w =
+    ⊎-elim (λ x. none-named k c w (x .0) (x .1))
+    (λ n. rw (somebody t s k c (λ e. omega (arith, facts t (w .sound-t) .in-range _ (taken-v n), e)), somebody u r k c (λ e. omega (arith, facts u (w .sound-u) .in-range _ (taken-u n), e))) (one-named c w n))
+    (find-same s r k (facts t (w .sound-t)) (facts u (w .sound-u)) (w .stands-t) (w .stands-u) (w .sheets))
+inside-step {t} (at s) (gone l) k c w = none-named k c w (find-none s k (facts t (w .sound-t)) (ap (λ x. x .rows) (w .sheets))) refl
+inside-step {u} (gone l) (at r) k c w = none-named k c w refl (find-none r k (facts u (w .sound-u)) (ap (λ x. x .rows) (sym (w .sheets))))
+inside-step (gone l) (gone m) k c w = none-named k c w refl refl
 
 -- ---- the two lists
 
@@ -245,12 +212,12 @@ unfolding inside-calls untouched observations observe Agree _or_ lacks-room
 last t u p q [] w e a b = ((λ i. record { answer = none; sheet = w .sheets i }), tt)
 last t u p q (inside k c ∷ fs) w e a b = absurd (not-empty (k, c) (inside-calls fs) (sym e))
 last t u p q (outside i c ∷ fs) w e a b =
-    last t (next-table u q (outside i c)) p (next-place u q (outside i c)) fs (right-step t u p q i c w (left _ _ b)) e a (right _ _ b)
+    last t (next-table u q (outside i c)) p (next-place u q (outside i c)) fs (right-step i c w (left _ _ b)) e a (right _ _ b)
 
 -- both begin with an inside call
 both-inside : (k : ℕ) (c : Call) (es fs : List Event) → ((t u : Table) (p q : Place) (fs : List Event) → Goal t p es u q fs) → (t u : Table) (p q : Place) → Goal t p (inside k c ∷ es) u q (inside k c ∷ fs)
 unfolding inside-calls untouched observations observe Agree lacks-room
-both-inside k c es fs rest t u p q w e a b = go (full x or full y) refl (inside-step t u p q k c w)
+both-inside k c es fs rest t u p q w e a b = go (full x or full y) refl (inside-step p q k c w)
   where
     x : Option Outcome
     x = happens t p (inside k c)
@@ -272,12 +239,12 @@ first k c es rest t u p q (inside l d ∷ fs) w e a b =
     subst (λ x. Goal t p (inside k c ∷ es) u q (inside (x .0) (x .1) ∷ fs)) (heads-equal (k, c) (l, d) (inside-calls es) (inside-calls fs) e)
     (both-inside k c es fs rest t u p q) w e a b
 first k c es rest t u p q (outside i d ∷ fs) w e a b =
-    first k c es rest t (next-table u q (outside i d)) p (next-place u q (outside i d)) fs (right-step t u p q i d w (left _ _ b)) e a (right _ _ b)
+    first k c es rest t (next-table u q (outside i d)) p (next-place u q (outside i d)) fs (right-step i d w (left _ _ b)) e a (right _ _ b)
 
 -- it begins with an outside one
 outside-first : (t u : Table) (p q : Place) (i : ℕ) (c : Call) (es fs : List Event) → Goal (next-table t p (outside i c)) (next-place t p (outside i c)) es u q fs → Goal t p (outside i c ∷ es) u q fs
 unfolding inside-calls untouched observations observe
-outside-first t u p q i c es fs rest w e a b = rest (left-step t u p q i c w (left _ _ a)) e (right _ _ a) b
+outside-first t u p q i c es fs rest w e a b = rest (left-step i c w (left _ _ a)) e (right _ _ a) b
 
 both-lists : (es fs : List Event) (t u : Table) (p q : Place) → Goal t p es u q fs
 both-lists [] fs t u p q = last t u p q fs
@@ -290,3 +257,24 @@ pub sameness : Sameness
 unfolding Sameness sheet-of
 sameness t u s r h g a b e es fs i x y =
     both-lists es fs t u (at s) (at r) (record { sound-t = h; sound-u = g; stands-t = alive-taken (view t) (facts t h) s a; stands-u = alive-taken (view u) (facts u g) r b; sheets = e }) i x y
+
+-- ---- nothing is learnt
+
+-- what agrees up to the first "no room" is the same where there is none
+agreed : (os qs : List Observed) → Agree os qs → So (roomy os) → So (roomy qs) → os ≡ qs
+unfolding Agree roomy
+agreed [] [] a h k = refl
+agreed [] (q ∷ qs) a h k = absurd a
+agreed (o ∷ os) [] a h k = absurd a
+agreed (o ∷ os) (q ∷ qs) a h k =
+    let none : (lacks-room o or lacks-room q) ≡ false =
+    or-false (lacks-room o) (lacks-room q) (not-true (lacks-room o) (left _ _ h)) (not-true (lacks-room q) (left _ _ k)) in
+    go (lacks-room o or lacks-room q) none a (λ b. agreed os qs b (right _ _ h) (right _ _ k))
+  where
+    go : (b : Bool) → b ≡ false → (if b then Unit {0} else ((o ≡ q) × Agree os qs)) → (Agree os qs → os ≡ qs) → _≡_ {A = List Observed} (o ∷ os) (q ∷ qs)
+    go true e a f = absurd (true≢false e)
+    go false e a f = ap (λ x. x ∷ os) (a .0) ∙ ap (λ x. q ∷ x) (f (a .1))
+
+pub nothing-learnt : NothingLearnt
+unfolding NothingLearnt Sameness
+nothing-learnt t u s r a b c d e es fs i j k h g = agreed _ _ (sameness t u s r a b c d e es fs i j k) h g

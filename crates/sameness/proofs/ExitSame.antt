@@ -9,22 +9,20 @@ use borrow.Author.Tests.{eqb-true, eqb-false, eq-eqb}
 use lib.Dec.{eqb}
 use lib.IntN.{ℤ}
 use Rattle.rules.proofs.Keeps.End.{end-sane, end-tree, end-view}
-use Rattle.rules.proofs.Keeps.InitEnds.{subtree-gone}
 use Rattle.rules.proofs.Laws.Below.{below-level, up-level}
-use Rattle.rules.proofs.Laws.Facts.{Facts, Sane, sane, seen-taken, seen-below}
-use Rattle.rules.proofs.Laws.Slots.{alive-taken, init-pid, init-own, root-only, pid-unique, alive-up, init-seen}
+use Rattle.rules.proofs.Laws.Facts.{Facts, Sane, sane, seen-below}
+use Rattle.rules.proofs.Laws.Slots.{alive-taken, init-own, root-only, pid-unique, alive-up, init-seen}
 use Rattle.rules.proofs.Laws.Steps.{remainder, runs-lives}
-use Rattle.rules.proofs.Laws.Tests.{right, bool-ext}
+use Rattle.rules.proofs.Laws.Tests.{isnt-so, right, bool-ext}
 use Rattle.rules.proofs.Laws.Tree.{below-refl}
-use Rattle.sameness.proofs.Calls.{both-refuse, owns-twins, own-lives, taken-s, taken-r}
-use Rattle.sameness.proofs.EndSame.{end-same, pair-of, Midway}
+use Rattle.sameness.proofs.Cases.{by-test, by-equal}
+use Rattle.sameness.proofs.Calls.{Kept, Ready, MadeSame, both-refuse, owns-twins, own-lives, taken-s, taken-r}
+use Rattle.sameness.proofs.EndSame.{midway, ended-init, end-same}
 use Rattle.sameness.proofs.Freeing.{freed-alike, freed-sheets}
-use Rattle.sameness.proofs.InitEnd.{init-same}
-use Rattle.sameness.proofs.Inside.{Kept, Ready, MadeSame}
-use Rattle.sameness.proofs.MemberEnd.{member-of}
-use Rattle.sameness.proofs.Readers.{is-init-twins, pid-in-unseen}
+use Rattle.sameness.proofs.Ends.{init-same}
+use Rattle.sameness.proofs.Readers.{is-init-twins}
 use Rattle.sameness.proofs.Same.{Same}
-use Rattle.sameness.proofs.Twins.{Pair, Twin, Twins, flip-pair, flip-twin, twins-unique}
+use Rattle.sameness.proofs.Twins.{pid-in-unseen, top-twins, Pair, Twin, flip-pair, flip-twin, twins-unique, taken-v, taken-u}
 use Rattle.rules.specs.Answers.{answers, granted}
 use Rattle.rules.specs.Calls.{exit, status}
 use Rattle.rules.specs.Ends.{end}
@@ -33,7 +31,7 @@ use Rattle.rules.specs.Freeing.{freed}
 use Rattle.rules.specs.Read.{View, alive, init, is-init, namespace-taken, pid-in, pid-seen, seen, view, taken}
 use Rattle.rules.specs.Sound.{SoundTable, kept-end}
 use Rattle.rules.specs.Step.{make}
-use Rattle.table.specs.Tests.{_or_, if_then_else_}
+use Rattle.table.specs.Tests.{_or_}
 use Rattle.table.specs.declared.Call.the-variants.{Exit}
 use Rattle.table.specs.declared.End.the-variants.{Exited}
 use Rattle.table.specs.declared.End.{End}
@@ -41,139 +39,86 @@ use Rattle.table.specs.declared.Refusal.the-variants.{Ebusy}
 use Rattle.table.specs.declared.State.the-variants.{Ended}
 use Rattle.table.specs.declared.Table.{Table}
 
--- S and S
-pub tops : (v u : View) (s r : ℕ) (w : Pair v u s r) → Twins v u s r s r
-tops v u s r w =
-    record { lives-v = w .alive-v; lives-u = w .alive-u; below-v = below-refl v s; below-u = below-refl u r; inits = init-pid v (w .facts-v) s (w .alive-v) ∙ sym (init-pid u (w .facts-u) r (w .alive-u)) }
-
 -- the root init calls inside S only if S is the root
-zero-there : (v u : View) (s r : ℕ) (w : Pair v u s r) (i j : ℕ) → Twin v u s r i j → i ≡ 0 → j ≡ 0
+zero-there : {v u : View} {s r : ℕ} (w : Pair v u s r) {i j : ℕ} → Twin v u s r i j → i ≡ 0 → j ≡ 0
 unfolding pid-seen
-zero-there v u s r w i j k z =
+zero-there {v} {u} {s} {r} w {i} {j} k z =
+    let level-s : v .level s ≡ 0 = omega (arith, below-level v (w .facts-v) (v .own i) s (seen-below v s i (k .seen-v)), ap (λ x. v .level (v .own x)) z ∙ ap (v .level) (w .facts-v .root-own) ∙ w .facts-v .root-level) in
+    let r-root : r ≡ 0 = root-only u (w .facts-u) r (alive-taken u (w .facts-u) r (w .alive-u)) (omega (arith, w .same .levels, level-s)) in
+    let one = ap₂ (λ x y. v .pid x y) z level-s ∙ w .facts-v .root-pid in
+    let one′ = ap (λ x. u .pid 0 x) (ap (u .level) r-root ∙ w .facts-u .root-level) ∙ w .facts-u .root-pid in
+    let zero-seen = subst₂ (λ x y. So (seen u x y)) (sym r-root) (w .facts-u .root-init) (init-seen u (w .facts-u) 0 0 (subst (λ x. So (alive u x)) r-root (w .alive-u)) (below-refl u 0)) in
     pid-unique u (w .facts-u) r j 0 (alive-taken u (w .facts-u) r (w .alive-u)) (k .seen-u) zero-seen (sym (k .pids) ∙ one ∙ sym one′)
-  where
-    level-s : v .level s ≡ 0
-    level-s = omega (arith, below-level v (w .facts-v) (v .own i) s (seen-below v s i (k .seen-v)), ap (λ x. v .level (v .own x)) z ∙ ap (v .level) (w .facts-v .root-own) ∙ w .facts-v .root-level)
-
-    r-root : r ≡ 0
-    r-root = root-only u (w .facts-u) r (alive-taken u (w .facts-u) r (w .alive-u)) (omega (arith, w .same .levels, level-s))
-
-    one : v .pid i (v .level s) ≡ 1
-    one = ap₂ (λ x y. v .pid x y) z level-s ∙ w .facts-v .root-pid
-
-    one′ : u .pid 0 (u .level r) ≡ 1
-    one′ = ap (λ x. u .pid 0 x) (ap (u .level) r-root ∙ w .facts-u .root-level) ∙ w .facts-u .root-pid
-
-    zero-seen : So (seen u r 0)
-    zero-seen = subst₂ (λ x y. So (seen u x y)) (sym r-root) (w .facts-u .root-init) (init-seen u (w .facts-u) 0 0 (subst (λ x. So (alive u x)) r-root (w .alive-u)) (below-refl u 0))
 
 -- the init of the namespace above S is not seen from S
-above-zero : (v : View) (f : Facts v) (s : ℕ) → So (alive v s) → 0 < v .level s → pid-in v s (init v (v .up s)) ≡ 0
+above-zero : {v : View} (f : Facts v) (s n : ℕ) → So (alive v s) → 0 < v .level s → n ≡ s → pid-in v s (init v (v .up n)) ≡ 0
 unfolding seen
-above-zero v f s a l =
-    pid-in-unseen v f s (init v (v .up s))
-    (bool-ext _ _ (λ h. absurd (omega (arith, below-level v f _ s (right _ _ h), ap (v .level) (init-own v f (v .up s) (alive-up v f s _ a e)), up-level v f s _ e))) (λ h. absurd (false≢true h)))
-  where
-    e : v .level s ≡ suc (pred (v .level s))
-    e = omega arith
-
-unseen-above : (v : View) (f : Facts v) (s n : ℕ) → So (alive v s) → n ≡ s → 0 < v .level s → pid-in v s (init v (v .up n)) ≡ 0
-unseen-above v f s n a e l = ap (λ x. pid-in v s (init v (v .up x))) e ∙ above-zero v f s a l
+above-zero {v} f s n a l q =
+    let e : v .level s ≡ suc (pred (v .level s)) = omega arith in
+    ap (λ x. pid-in v s (init v (v .up x))) q
+    ∙ pid-in-unseen f s (init v (v .up s)) (isnt-so (λ h. omega (arith, below-level v f _ s (right _ _ h), ap (v .level) (init-own v f (v .up s) (alive-up v f s _ a e)), up-level v f s _ e)))
 
 -- an init that is not the root's is of a namespace below the root
-init-positive : (v : View) (f : Facts v) (c s : ℕ) → So (is-init v c) → v .own c ≡ s → (c ≡ 0 → ⊥) → So (namespace-taken v s) → 0 < v .level s
+init-positive : {v : View} (f : Facts v) (c s : ℕ) → So (is-init v c) → v .own c ≡ s → (c ≡ 0 → ⊥) → So (namespace-taken v s) → 0 < v .level s
 unfolding is-init
-init-positive v f c s i o n h = lt-of (λ z. n (sym (eqb-true _ _ i) ∙ ap (init v) (o ∙ root-only v f s h z) ∙ f .root-init))
-  where
-    lt-of : (v .level s ≡ 0 → ⊥) → 0 < v .level s
-    lt-of k = omega arith
+init-positive {v} f c s i o n h =
+    by-equal (v .level s) 0 (λ z. absurd (n (sym (eqb-true _ _ i) ∙ ap (init v) (o ∙ root-only v f s h z) ∙ f .root-init))) (λ z. omega arith)
 
--- a namespace that keeps its level stands on
-stands-as : (v u : View) (n : ℕ) → u .level n ≡ v .level n → So (namespace-taken v n) → So (namespace-taken u n)
+-- an end leaves the levels, so a namespace that stood stands
+end-level : {t : Table} (f : Sane t) (x n : ℕ) (e : End) → So (taken (view t) x) → view (end t x e) .level n ≡ view t .level n
+end-level {t} f x n e h = ap (λ (l : ℕ → ℕ). l n) (end-tree t f x e h .1)
+
+end-stands : {t : Table} (f : Sane t) (x n : ℕ) (e : End) → So (taken (view t) x) → So (namespace-taken (view t) n) → So (namespace-taken (view (end t x e)) n)
 unfolding namespace-taken
-stands-as v u n e h = ap (λ x. eqb n 0 or not (eqb x 0)) e ∙ h
+end-stands f x n e h k = ap (λ l. eqb n 0 or not (eqb l 0)) (end-level f x n e h) ∙ k
 
-module _ (t u : Table) (s r c d : ℕ) (w : Ready t u s r c d) (e : End) (ok : So (kept-end (Ended e))) where
-  held : Midway t u s r s r
-  held =
-      record {
-        sane-t = sane t (w .sound-t);
-        sane-u = sane u (w .sound-u);
-        alive-s = w .pair .alive-v;
-        alive-r = w .pair .alive-u;
-        same = w .pair .same;
-        from = tops (view t) (view u) s r (w .pair);
-      }
-
+module _ {t u : Table} {s r c d : ℕ} (w : Ready t u s r c d) (e : End) (ok : So (kept-end (Ended e))) where
   -- S lives on
   lives-on : (So (is-init (view t) c) → view t .own c ≡ s → ⊥) → SoundTable (freed (end t c e)) → SoundTable (freed (end u d e)) → Kept t u s r (answers (freed (end t c e)) 0) (answers (freed (end u d e)) 0)
   unfolding answers granted
   lives-on other h g =
-      let (x, move) = end-same t u s r s r c d e held (w .twin) (w .twin .seen-v) (runs-lives t c (w .runs-t)) ok other in
-      inr (refl, freed-alike t u _ _ (x .sane-t) (x .sane-u) s r (pair-of (end t c e) (end u d e) s r s r x))
+      let (x, move) = end-same e (midway w (top-twins (w .pair))) (w .twin) (w .twin .seen-v) (runs-lives t c (w .runs-t)) ok other in
+      inr (refl, freed-alike t u (x .sane-t) (x .sane-u) (x .alive-s) (x .alive-r) (x .same))
 
   -- S's init ends
   dies : So (is-init (view t) c) → view t .own c ≡ s → (c ≡ 0 → ⊥) → (d ≡ 0 → ⊥) → SoundTable (freed (end t c e)) → SoundTable (freed (end u d e)) → Kept t u s r (answers (freed (end t c e)) 0) (answers (freed (end u d e)) 0)
   unfolding answers granted
-  dies ic oc nc nd h g = inr (refl, freed-sheets t u (end t c e) (end u d e) ft fu s r (stands t (held .sane-t) c s tc (taken-s t u s r c d w)) (stands u (held .sane-u) d r td (taken-r t u s r c d w)) (λ k. ap (λ (l : ℕ → ℕ). l s) (end-tree t (held .sane-t) c e tc .1)) (λ k. ap (λ (l : ℕ → ℕ). l r) (end-tree u (held .sane-u) d e td .1)) same)
-    where
-      p : Pair (view t) (view u) s r
-      p = w .pair
-
-      tc : So (taken (view t) c)
-      tc = seen-taken (view t) s c (w .twin .seen-v)
-
-      td : So (taken (view u) d)
-      td = seen-taken (view u) r d (w .twin .seen-u)
-
-      ft : Sane (end t c e)
-      ft = end-sane t (held .sane-t) c e (runs-lives t c (w .runs-t)) nc ok
-
-      fu : Sane (end u d e)
-      fu = end-sane u (held .sane-u) d e (runs-lives u d (w .runs-u)) nd ok
-
-      stands : (z : Table) (f : Sane z) (x n : ℕ) → So (taken (view z) x) → So (namespace-taken (view z) n) → So (namespace-taken (view (end z x e)) n)
-      stands z f x n tx k = stands-as (view z) (view (end z x e)) n (ap (λ (l : ℕ → ℕ). l n) (end-tree z f x e tx .1)) k
-
-      same : Same (view (end t c e)) (view (end u d e)) s r
-      same =
-          subst₂ (λ (a b : View). Same a b s r) (sym (end-view t (held .sane-t) c e tc)) (sym (end-view u (held .sane-u) d e td))
-          (subst₂ (λ (a b : Bool). Same (if a then subtree-gone (view t) (view t .own c) c e else member-of (view t) c e) (if b then subtree-gone (view u) (view u .own d) d e else member-of (view u) d e) s r) (sym ic) (sym id)
-          (init-same (view t) (view u) s r p c d e (w .twin) (own-lives t u s r c d w) positive (unseen-above (view t) (p .facts-v) s (view t .own c) (p .alive-v) oc positive-s ∙ sym (unseen-above (view u) (p .facts-u) r (view u .own d) (p .alive-u) od positive-r))))
-        where
-          id : So (is-init (view u) d)
-          id = sym (is-init-twins (view t) (view u) s r p c d (w .twin) (own-lives t u s r c d w)) ∙ ic
-
-          od : view u .own d ≡ r
-          od = twins-unique (view t) (view u) s r p _ _ s r (owns-twins t u s r c d w) (tops (view t) (view u) s r p) oc
-
-          positive-s : 0 < view t .level s
-          positive-s = init-positive (view t) (p .facts-v) c s ic oc nc (taken-s t u s r c d w)
-
-          positive-r : 0 < view u .level r
-          positive-r = omega (arith, positive-s, p .same .levels)
-
-          positive : 0 < view t .level (view t .own c)
-          positive = omega (arith, positive-s, ap (view t .level) oc)
+  dies ic oc nc nd h g =
+      let p = w .pair in
+      let tc = taken-v (w .twin) in
+      let td = taken-u (w .twin) in
+      let ft = sane t (w .sound-t) in
+      let fu = sane u (w .sound-u) in
+      let id : So (is-init (view u) d) = sym (is-init-twins p (w .twin) (own-lives w)) ∙ ic in
+      let od = twins-unique p (owns-twins w) (top-twins p) oc in
+      let ls = init-positive (p .facts-v) c s ic oc nc (taken-s w) in
+      let lr : 0 < view u .level r = omega (arith, ls, p .same .levels) in
+      let lc : 0 < view t .level (view t .own c) = omega (arith, ls, ap (view t .level) oc) in
+      let same : Same (view (end t c e)) (view (end u d e)) s r =
+      subst₂ (λ (a b : View). Same a b s r) (sym (end-view t ft c e tc ∙ ended-init (view t) c e ic)) (sym (end-view u fu d e td ∙ ended-init (view u) d e id))
+      (init-same p e (w .twin) (own-lives w) lc (above-zero (p .facts-v) s (view t .own c) (p .alive-v) ls oc ∙ sym (above-zero (p .facts-u) r (view u .own d) (p .alive-u) lr od))) in
+      inr (
+        refl,
+        freed-sheets t u (end-sane t ft c e (runs-lives t c (w .runs-t)) nc ok) (end-sane u fu d e (runs-lives u d (w .runs-u)) nd ok)
+            (end-stands ft c s e tc (taken-s w)) (end-stands fu d r e td (taken-r w)) (λ k. end-level ft c s e tc) (λ k. end-level fu d r e td) same,
+      )
 
 -- exit by twin callers
 pub exit-same : (z : ℤ) → MadeSame (Exit z)
 unfolding MadeSame make exit answers granted
-exit-same z t u s r c d w h g = go (eqb c 0) refl
+exit-same z t u s r c d w h g =
+    by-test (eqb c 0) (λ n. rw (n, sym zeros ∙ n, exit) (both-refuse w Ebusy))
+    (λ n. rw (n, sym zeros ∙ n, exit) (ends n (ℕ-discrete (view t .own c) s) (is-init (view t) c) refl (rw (n, exit) at h) (rw (sym zeros ∙ n, exit) at g)))
   where
     zeros : eqb c 0 ≡ eqb d 0
     zeros =
-        bool-ext _ _ (λ e. eq-eqb d 0 (zero-there (view t) (view u) s r (w .pair) c d (w .twin) (eqb-true c 0 e)))
-        (λ e. eq-eqb c 0 (zero-there (view u) (view t) r s (flip-pair (view t) (view u) s r (w .pair)) d c (flip-twin (view t) (view u) s r c d (w .twin)) (eqb-true d 0 e)))
+        bool-ext _ _ (λ e. eq-eqb d 0 (zero-there (w .pair) (w .twin) (eqb-true c 0 e)))
+        (λ e. eq-eqb c 0 (zero-there (flip-pair (w .pair)) (flip-twin (w .twin)) (eqb-true d 0 e)))
 
     e : End
     e = Exited (status z)
 
     ends : eqb c 0 ≡ false → Dec (view t .own c ≡ s) → (b : Bool) → is-init (view t) c ≡ b → SoundTable (freed (end t c e)) → SoundTable (freed (end u d e)) → Kept t u s r (answers (freed (end t c e)) 0) (answers (freed (end u d e)) 0)
-    ends n (yes o) true i a b = dies t u s r c d w e (remainder z) i o (eqb-false c 0 n) (eqb-false d 0 (sym zeros ∙ n)) a b
-    ends n (yes o) false i a b = lives-on t u s r c d w e (remainder z) (λ j q. false≢true (sym i ∙ j)) a b
-    ends n (no o) i j a b = lives-on t u s r c d w e (remainder z) (λ j q. o q) a b
-
-    go : (b : Bool) → eqb c 0 ≡ b → Kept t u s r (exit t c z) (exit u d z)
-    go true n = rw (n, sym zeros ∙ n, exit) (both-refuse t u s r c d w Ebusy)
-    go false n = rw (n, sym zeros ∙ n, exit) (ends n (ℕ-discrete (view t .own c) s) (is-init (view t) c) refl (rw (n, exit) at h) (rw (sym zeros ∙ n, exit) at g))
+    ends n (yes o) true i a b = dies w e (remainder z) i o (eqb-false c 0 n) (eqb-false d 0 (sym zeros ∙ n)) a b
+    ends n (yes o) false i a b = lives-on w e (remainder z) (λ j q. false≢true (sym i ∙ j)) a b
+    ends n (no o) i j a b = lives-on w e (remainder z) (λ j q. o q) a b

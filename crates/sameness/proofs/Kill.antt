@@ -1,38 +1,35 @@
 -- kill, by twin callers: the same targets in the same order, and the same to each.
 use Prim.Native.Nat.{ℕ, suc, _<_, _≤_}
-use native.Mathlib.Decide.{ℕ-discrete}
 use native.Mathlib.Omega.{arith}
 use mathlib.Core.Bool.{Bool, true, false, not, So, false≢true}
 use mathlib.Core.List.{List, _∷_, map, []}
 use mathlib.Core.Logic.{inl, inr}
-use mathlib.Core.Path.{_≡_, refl, sym, _∙_, ap, ap₂, subst, subst₂}
-use borrow.Author.Tests.{eq-eqb, ne-eqb, eqb-true, le-leb, lt-ltb}
+use mathlib.Core.Path.{_≡_, refl, sym, _∙_, ap, ap₂, subst}
+use borrow.Author.Tests.{eq-eqb, eqb-true, le-leb, lt-ltb}
 use lib.Dec.{eqb}
 use lib.IntN.{ℤ, pos, negsuc}
 use lib.ListN.{length}
-use Rattle.rules.proofs.Keeps.Changed.{process-count}
 use Rattle.rules.proofs.Keeps.Changes.{act-sane}
 use Rattle.rules.proofs.Keeps.Deliver.{Good, action-good}
 use Rattle.rules.proofs.Keeps.Premises.{natural-low}
 use Rattle.rules.proofs.Laws.Below.{below-taken, below-level}
-use Rattle.rules.proofs.Laws.Facts.{Facts, Sane, lives-taken, sane}
+use Rattle.rules.proofs.Laws.Facts.{Facts, Sane}
 use Rattle.rules.proofs.Laws.Find.{targets-seen}
 use Rattle.rules.proofs.Laws.Lists.{In, in-map, map-in, ascending-sorted, Sorted, map-sorted, sorted-unique, heads-equal, tails-equal, not-empty}
 use Rattle.rules.proofs.Laws.Slots.{pid-unique, alive-taken, living-own-alive, root-only, own-taken}
-use Rattle.rules.proofs.Laws.Tests.{left, right, both, or-true, bool-ext}
-use Rattle.sameness.proofs.Calls.{owns-twins, Shown, shown, same-put, both-refuse}
-use Rattle.sameness.proofs.EndSame.{end-same, pair-of, Midway, Onward, Target}
+use Rattle.rules.proofs.Laws.Tests.{choose, left, right, both, or-true, bool-ext}
+use Rattle.sameness.proofs.Cases.{by-test, by-equal}
+use Rattle.sameness.proofs.Calls.{Ready, MadeSame, owns-twins, both-refuse}
+use Rattle.sameness.proofs.EndSame.{midway, end-same, pair-of, Midway, Onward, Target, from-after, targets-after}
 use Rattle.sameness.proofs.Freeing.{freed-alike}
-use Rattle.sameness.proofs.Inside.{Ready, Kept, MadeSame}
-use Rattle.sameness.proofs.Light.{relight, Placed, put-light, put-other}
-use Rattle.sameness.proofs.Readers.{seen-above, twin-eqb, is-init-twins, living-twins}
+use Rattle.sameness.proofs.Light.{Placed, Shown, shown, same-put, put-other, put-remain}
+use Rattle.sameness.proofs.Readers.{NobodyOrTwins, slot-v, twin-of-pid, seen-above, twin-eqb, is-init-twins, living-twins}
 use Rattle.sameness.proofs.Same.{seen-listed, listed-seen}
-use Rattle.sameness.proofs.Setns.{Named, named-twins}
-use Rattle.sameness.proofs.Twins.{Pair, Twin, Twins, flip-pair, flip-twins, twin-there, seen-twins, pid-twins, owns, twins-unique}
+use Rattle.sameness.proofs.Setns.{named-twins}
+use Rattle.sameness.proofs.Twins.{flip-twin, Pair, Twin, Twins, flip-pair, flip-twins, twin-there, seen-twins, pid-twins, owns, twins-unique}
 use Rattle.rules.specs.Answers.{answers, granted}
 use Rattle.rules.specs.Calls.{named, others, targets, kill, names-group, natural, within}
-use Rattle.rules.specs.Delivery.{act, action-on, default-action, deliver, deliver-all, resumed, with-pending}
-use Rattle.rules.specs.Ends.{end}
+use Rattle.rules.specs.Delivery.{act, action-on, deliver, deliver-all, resumed, with-pending}
 use Rattle.table.specs.Limits.{process-slots, signals}
 use Rattle.table.specs.Slots.{is-ended, pid-at, process, put}
 use Rattle.rules.specs.Read.{View, alive, all-seen, pid-seen, seen, view, below, is-init, living, taken}
@@ -52,164 +49,112 @@ use Rattle.table.specs.declared.Table.{Table}
 -- ---- whom a kill finds: pairs of twins, in the same order
 
 -- two lists, related place by place
-abbrev pub Along : (ℕ → ℕ → Type 0) → List ℕ → List ℕ → Type 0
-Along R [] [] = Unit {0}
-Along R [] (y ∷ ys) = ⊥
-Along R (x ∷ xs) [] = ⊥
-Along R (x ∷ xs) (y ∷ ys) = R x y × Along R xs ys
+data Along (R : ℕ → ℕ → Type 0) : List ℕ → List ℕ → Type 0 where
+  end-along : Along R [] []
+  more : {x y : ℕ} {xs ys : List ℕ} → R x y → Along R xs ys → Along R (x ∷ xs) (y ∷ ys)
 
-pub along-length : (R : ℕ → ℕ → Type 0) (xs ys : List ℕ) → Along R xs ys → length xs ≡ length ys
-along-length R [] [] h = refl
-along-length R [] (y ∷ ys) h = absurd h
-along-length R (x ∷ xs) [] h = absurd h
-along-length R (x ∷ xs) (y ∷ ys) h = ap suc (along-length R xs ys (h .1))
+along-length : {R : ℕ → ℕ → Type 0} {xs ys : List ℕ} → Along R xs ys → length xs ≡ length ys
+along-length end-along = refl
+along-length (more r h) = ap suc (along-length h)
 
-along-only : (R : ℕ → ℕ → Type 0) (p q : ℕ → Bool) → ((x y : ℕ) → R x y → p x ≡ q y) → (xs ys : List ℕ) → Along R xs ys → Along R (only p xs) (only q ys)
+along-only : {R : ℕ → ℕ → Type 0} (p q : ℕ → Bool) → ((x y : ℕ) → R x y → p x ≡ q y) → {xs ys : List ℕ} → Along R xs ys → Along R (only p xs) (only q ys)
 unfolding only
-along-only R p q e [] [] h = tt
-along-only R p q e [] (y ∷ ys) h = absurd h
-along-only R p q e (x ∷ xs) [] h = absurd h
-along-only R p q e (x ∷ xs) (y ∷ ys) h = go (p x) (q y) (e x y (h .0)) (along-only R p q e xs ys (h .1))
-  where
-    go : (a b : Bool) → a ≡ b → Along R (only p xs) (only q ys) → Along R (elim a [ true ↦ x ∷ only p xs | false ↦ only p xs ]) (elim b [ true ↦ y ∷ only q ys | false ↦ only q ys ])
-    go true true e r = (h .0, r)
-    go true false e r = absurd (false≢true (sym e))
-    go false true e r = absurd (false≢true e)
-    go false false e r = r
+along-only p q e end-along = end-along
+along-only p q e (more {x = x} {y = y} r h) =
+    by-test (p x) (λ a. rw (a, sym (e x y r) ∙ a, only) (more r (along-only p q e h))) (λ a. rw (a, sym (e x y r) ∙ a, only) (along-only p q e h))
+
+along-with : {R S : ℕ → ℕ → Type 0} (xs : List ℕ) {ys : List ℕ} → ((x y : ℕ) → In x xs → R x y → S x y) → Along R xs ys → Along S xs ys
+along-with [] h end-along = end-along
+along-with (x ∷ xs) h (more r k) = more (h _ _ (inl refl) r) (along-with xs (λ a b m r. h a b (inr m) r) k)
 
 -- lists with the same numbers, place by place
 along-pids : (R : ℕ → ℕ → Type 0) (f g : ℕ → ℕ) (xs ys : List ℕ) → ((x y : ℕ) → In x xs → In y ys → f x ≡ g y → R x y) → map f xs ≡ map g ys → Along R xs ys
-along-pids R f g [] [] h e = tt
+along-pids R f g [] [] h e = end-along
 along-pids R f g [] (y ∷ ys) h e = absurd (not-empty (g y) (map g ys) (sym e))
 along-pids R f g (x ∷ xs) [] h e = absurd (not-empty (f x) (map f xs) e)
 along-pids R f g (x ∷ xs) (y ∷ ys) h e =
-    (h x y (inl refl) (inl refl) (heads-equal _ _ _ _ e), along-pids R f g xs ys (λ a b m k. h a b (inr m) (inr k)) (tails-equal _ _ _ _ e))
+    more (h x y (inl refl) (inl refl) (heads-equal _ _ _ _ e)) (along-pids R f g xs ys (λ a b m k. h a b (inr m) (inr k)) (tails-equal _ _ _ _ e))
 
-pids-sorted : (v : View) (f : Facts v) (n : ℕ) → So (alive v n) → Sorted (λ k. k) (map (pid-seen v n) (all-seen v n))
+pids-sorted : {v : View} (f : Facts v) (n : ℕ) → So (alive v n) → Sorted (λ k. k) (map (pid-seen v n) (all-seen v n))
 unfolding all-seen
-pids-sorted v f n a =
+pids-sorted {v} f n a =
     map-sorted (pid-seen v n) (pid-seen v n) (λ k. k) (all-seen v n) (λ i m. refl)
     (ascending-sorted (seen v n) (pid-seen v n) process-slots (λ i j l m p q e. omega (arith, pid-unique v f n i j (alive-taken v f n a) p q e)))
 
-pids-in : (v u : View) (s r : ℕ) (w : Pair v u s r) (n m : ℕ) → Twins v u s r n m → (k : ℕ) → In k (map (pid-seen v n) (all-seen v n)) → In k (map (pid-seen u m) (all-seen u m))
-pids-in v u s r w n m l k h =
+pids-in : {v u : View} {s r : ℕ} (w : Pair v u s r) {n m : ℕ} → Twins v u s r n m → (k : ℕ) → In k (map (pid-seen v n) (all-seen v n)) → In k (map (pid-seen u m) (all-seen u m))
+pids-in {v} {u} {s} w {n} {m} l k h =
     let (i, a, e) = map-in (pid-seen v n) k (all-seen v n) h in
-    let (j, p) = twin-there v u s r w i (seen-above v (w .facts-v) n s i (l .below-v) (listed-seen v n i a)) in
-    subst (λ x. In x (map (pid-seen u m) (all-seen u m))) (sym (e ∙ pid-twins v u s r w i j n m p l))
-    (in-map (pid-seen u m) j (all-seen u m) (seen-listed u (w .facts-u) m j (sym (seen-twins v u s r w i j n m p l) ∙ listed-seen v n i a)))
+    let (j, p) = twin-there w i (seen-above (w .facts-v) n s i (l .below-v) (listed-seen v n i a)) in
+    subst (λ x. In x (map (pid-seen u m) (all-seen u m))) (sym (e ∙ pid-twins w p l))
+    (in-map (pid-seen u m) j (all-seen u m) (seen-listed (w .facts-u) m j (sym (seen-twins w p l) ∙ listed-seen v n i a)))
 
-module _ (v u : View) (s r : ℕ) (w : Pair v u s r) where
-  -- two that are seen from twin namespaces with the same number there
-  pub twin-of-pid : (n m i j : ℕ) → Twins v u s r n m → So (seen v n i) → So (seen u m j) → pid-seen v n i ≡ pid-seen u m j → Twin v u s r i j
-  twin-of-pid n m i j l a b e =
-      let (x, p) = twin-there v u s r w i (seen-above v (w .facts-v) n s i (l .below-v) a) in
-      subst (λ y. Twin v u s r i y)
-      (pid-unique u (w .facts-u) m x j (alive-taken u (w .facts-u) m (l .lives-u)) (sym (seen-twins v u s r w i x n m p l) ∙ a) b (sym (pid-twins v u s r w i x n m p l) ∙ e)) p
-
-  pub all-seen-twins : (n m : ℕ) → Twins v u s r n m → Along (Twin v u s r) (all-seen v n) (all-seen u m)
-  all-seen-twins n m l =
+module _ {v u : View} {s r : ℕ} (w : Pair v u s r) where
+  all-seen-twins : {n m : ℕ} → Twins v u s r n m → Along (Twin v u s r) (all-seen v n) (all-seen u m)
+  all-seen-twins {n} {m} l =
       along-pids (Twin v u s r) (pid-seen v n) (pid-seen u m) (all-seen v n) (all-seen u m)
-      (λ i j a b e. twin-of-pid n m i j l (listed-seen v n i a) (listed-seen u m j b) e)
-      (sorted-unique (λ k. k) _ _ (pids-sorted v (w .facts-v) n (l .lives-v)) (pids-sorted u (w .facts-u) m (l .lives-u)) (pids-in v u s r w n m l) (pids-in u v r s (flip-pair v u s r w) m n (flip-twins v u s r n m l)))
+      (λ i j a b e. twin-of-pid w l (listed-seen v n i a) (listed-seen u m j b) e)
+      (sorted-unique (λ k. k) _ _ (pids-sorted (w .facts-v) n (l .lives-v)) (pids-sorted (w .facts-u) m (l .lives-u)) (pids-in w l) (pids-in (flip-pair w) (flip-twins l)))
 
 -- the targets are pairs of twins
-pub targets-twins : (t u : Table) (s r i j : ℕ) → Ready t u s r i j → (z : ℤ) → Along (Twin (view t) (view u) s r) (targets (view t) i z) (targets (view u) j z)
+targets-twins : {t u : Table} {s r i j : ℕ} → Ready t u s r i j → (z : ℤ) → Along (Twin (view t) (view u) s r) (targets (view t) i z) (targets (view u) j z)
 unfolding targets others
-targets-twins t u s r i j w (negsuc k) =
-    along-only (Twin (view t) (view u) s r) _ _
-    (λ x y p. ap₂ (λ (a b : Bool). not a and not b) (twin-eqb (view t) (view u) s r (w .pair) x y i j p (w .twin)) (ap (λ n. eqb n 1) (pid-twins (view t) (view u) s r (w .pair) x y _ _ p (owns-twins t u s r i j w))))
-    _ _ (all-seen-twins (view t) (view u) s r (w .pair) _ _ (owns-twins t u s r i j w))
-targets-twins t u s r i j w (pos k) = go (named-twins t u s r i j w (pos k))
+targets-twins {t} {u} {s} {r} w (negsuc k) =
+    along-only _ _
+    (λ x y p. ap₂ (λ (a b : Bool). not a and not b) (twin-eqb (w .pair) p (w .twin)) (ap (λ n. eqb n 1) (pid-twins (w .pair) p (owns-twins w))))
+    (all-seen-twins (w .pair) (owns-twins w))
+targets-twins {t} {u} {s} {r} {i} {j} w (pos k) = go (named-twins w (pos k))
   where
-    go : Named t u s r (named (view t) i (pos k)) (named (view u) j (pos k)) → Along (Twin (view t) (view u) s r) (if eqb (named (view t) i (pos k)) process-slots then [] else named (view t) i (pos k) ∷ []) (if eqb (named (view u) j (pos k)) process-slots then [] else named (view u) j (pos k) ∷ [])
-    go (inl (e, d)) = rw (eq-eqb _ _ e, eq-eqb _ _ d) tt
-    go (inr (p, l, m)) = rw (ne-eqb (named (view t) i (pos k)) process-slots (λ e. omega (arith, e)), ne-eqb (named (view u) j (pos k)) process-slots (λ e. omega (arith, e))) (p, tt)
-
--- all of them are seen
-
-pub along-with : (R S : ℕ → ℕ → Type 0) (xs ys : List ℕ) → ((x y : ℕ) → In x xs → R x y → S x y) → Along R xs ys → Along S xs ys
-along-with R S [] [] h k = k
-along-with R S [] (y ∷ ys) h k = k
-along-with R S (x ∷ xs) [] h k = k
-along-with R S (x ∷ xs) (y ∷ ys) h k = (h x y (inl refl) (k .0), along-with R S xs ys (λ a b m r. h a b (inr m) r) (k .1))
+    go : NobodyOrTwins (view t) (view u) s r (named (view t) i (pos k)) (named (view u) j (pos k)) → Along (Twin (view t) (view u) s r) (if eqb (named (view t) i (pos k)) process-slots then [] else named (view t) i (pos k) ∷ []) (if eqb (named (view u) j (pos k)) process-slots then [] else named (view u) j (pos k) ∷ [])
+    go (inl (e, d)) = rw (eq-eqb _ _ e, eq-eqb _ _ d) end-along
+    go (inr p) = rw (slot-v (w .pair) p, slot-v (flip-pair (w .pair)) (flip-twin p)) (more p end-along)
 
 -- ---- what a signal does
 
-twins-eqb : (v u : View) (s r : ℕ) (w : Pair v u s r) (a b n m : ℕ) → Twins v u s r a b → Twins v u s r n m → eqb a n ≡ eqb b m
-twins-eqb v u s r w a b n m j k =
-    bool-ext _ _ (λ e. eq-eqb b m (twins-unique v u s r w a b n m j k (eqb-true a n e)))
-    (λ e. eq-eqb a n (twins-unique u v r s (flip-pair v u s r w) b a m n (flip-twins v u s r a b j) (flip-twins v u s r n m k) (eqb-true b m e)))
+twins-eqb : {v u : View} {s r : ℕ} (w : Pair v u s r) {a b n m : ℕ} → Twins v u s r a b → Twins v u s r n m → eqb a n ≡ eqb b m
+twins-eqb w {a} {b} {n} {m} j k =
+    bool-ext _ _ (λ e. eq-eqb b m (twins-unique w j k (eqb-true a n e)))
+    (λ e. eq-eqb a n (twins-unique (flip-pair w) (flip-twins j) (flip-twins k) (eqb-true b m e)))
 
 pub action-none : (v : View) (f x n : ℕ) → living v x ≡ false → action-on v f x n ≡ Nothing
 unfolding action-on
-action-none v f x n e = go (eqb n 0)
-  where
-    go : (b : Bool) → (if b or not (living v x) then Nothing else (if eqb n 18 then Resume else (if eqb n 9 or eqb n 19 then (if is-init v x and eqb (v .own x) f then Nothing else default-action n) else (if has (v .handled x) n then Pend else (if is-init v x then Nothing else default-action n))))) ≡ Nothing
-    go b = rw (e, or-true b)
+action-none v f x n e = rw (e, or-true (eqb n 0), action-on) refl
 
 -- a signal does the same to two twins
-pub action-twins : (t u : Table) (s r f g : ℕ) → Midway t u s r f g → (x y n : ℕ) → Twin (view t) (view u) s r x y → action-on (view t) f x n ≡ action-on (view u) g y n
+pub action-twins : {t u : Table} {s r f g : ℕ} → Midway t u s r f g → {x y : ℕ} (n : ℕ) → Twin (view t) (view u) s r x y → action-on (view t) f x n ≡ action-on (view u) g y n
 unfolding action-on
-action-twins t u s r f g w x y n k = go (living (view t) x) refl
-  where
-    p : Pair (view t) (view u) s r
-    p = pair-of t u s r f g w
+action-twins {t} {u} {s} {r} {f} {g} w {x} {y} n k =
+    let p = pair-of w in
+    by-test (living (view t) x)
+    (λ e. rw (living-twins p k, is-init-twins p k (living-own-alive (view t) (w .sane-t .facts) x e), twins-eqb p (owns p k (living-own-alive (view t) (w .sane-t .facts) x e)) (w .from), shown t u p k .handleds, action-on)
+    refl)
+    (λ e. action-none (view t) f x n e ∙ sym (action-none (view u) g y n (sym (living-twins p k) ∙ e)))
 
-    go : (b : Bool) → living (view t) x ≡ b → action-on (view t) f x n ≡ action-on (view u) g y n
-    go false e = action-none (view t) f x n e ∙ sym (action-none (view u) g y n (sym (living-twins (view t) (view u) s r p x y k) ∙ e))
-    go true e =
-        rw (living-twins (view t) (view u) s r p x y k, is-init-twins (view t) (view u) s r p x y k (living-own-alive (view t) (w .sane-t .facts) x e), twins-eqb (view t) (view u) s r p _ _ f g (owns (view t) (view u) s r p x y k (living-own-alive (view t) (w .sane-t .facts) x e)) (w .from), shown t u s r p x y k .handleds, action-on)
-        refl
+-- ---- a change that keeps places
 
--- ---- a change of lights keeps who is where
-
-relit-twin : (v u x y : View) (s r i j : ℕ) → Twin v u s r i j → Twin (relight v x) (relight u y) s r i j
-unfolding seen taken below pid-seen
-relit-twin v u x y s r i j k = record { seen-v = k .seen-v; seen-u = k .seen-u; pids = k .pids }
-
-relit-twins : (v u x y : View) (s r n m : ℕ) → Twins v u s r n m → Twins (relight v x) (relight u y) s r n m
-unfolding below pid-seen
-relit-twins v u x y s r n m k = record { lives-v = k .lives-v; lives-u = k .lives-u; below-v = k .below-v; below-u = k .below-u; inits = k .inits }
-
-relit-seen : (v x : View) (s i : ℕ) → So (seen v s i) → So (seen (relight v x) s i)
-unfolding seen taken below
-relit-seen v x s i h = h
-
-module _ (v u v′ u′ : View) (s r : ℕ) (pv : v′ ≡ relight v v′) (pu : u′ ≡ relight u u′) where
-  pub light-twin : (i j : ℕ) → Twin v u s r i j → Twin v′ u′ s r i j
-  light-twin i j k = subst₂ (λ (y z : View). Twin y z s r i j) (sym pv) (sym pu) (relit-twin v u v′ u′ s r i j k)
-
-  pub light-twins : (n m : ℕ) → Twins v u s r n m → Twins v′ u′ s r n m
-  light-twins n m k = subst₂ (λ (y z : View). Twins y z s r n m) (sym pv) (sym pu) (relit-twins v u v′ u′ s r n m k)
-
-pub not-living-put : (t : Table) (c : ℕ) (p : Process) (k : Placed p (process t c)) → So (living (view t) c) → (x : ℕ) → living (view t) x ≡ false → living (view (put t c p)) x ≡ false
+pub not-living-put : (t : Table) (c : ℕ) (p : Process) → So (living (view t) c) → (x : ℕ) → living (view t) x ≡ false → living (view (put t c p)) x ≡ false
 unfolding living taken
-not-living-put t c p k h x e =
-    ap (λ (y : Process). not (eqb (pid-at y 0) 0) and not (is-ended (y .state))) (put-other t c p k x (λ q. false≢true (sym (ap (living (view t)) (sym q) ∙ e) ∙ h))) ∙ e
+not-living-put t c p h x e =
+    ap (λ (y : Process). not (eqb (pid-at y 0) 0) and not (is-ended (y .state))) (put-other t c p x (λ q. false≢true (sym (ap (living (view t)) (sym q) ∙ e) ∙ h))) ∙ e
 
-module _ (t u : Table) (s r f g : ℕ) (w : Midway t u s r f g) (x y : ℕ) (k : Twin (view t) (view u) s r x y) (lx : So (living (view t) x)) where
+module _ {t u : Table} {s r f g : ℕ} (w : Midway t u s r f g) {x y : ℕ} (k : Twin (view t) (view u) s r x y) (lx : So (living (view t) x)) where
   ly : So (living (view u) y)
-  ly = sym (living-twins (view t) (view u) s r (pair-of t u s r f g w) x y k) ∙ lx
+  ly = sym (living-twins (pair-of w) k) ∙ lx
 
-  -- a change of two twins in their lights
-  pub light-onward : (p q : Process) → Placed p (process t x) → Placed q (process u y) → Shown t u s r p q → Sane (put t x p) → Sane (put u y q) → Onward t u s r f g (put t x p) (put u y q)
-  light-onward p q a b h ft fu = (
-    record {
-      sane-t = ft;
-      sane-u = fu;
-      alive-s = w .alive-s;
-      alive-r = w .alive-r;
-      same = same-put t u s r x y z k (omega (arith, process-count t (w .sane-t .shape-of), w .sane-t .facts .in-range x (lives-taken (view t) x lx))) (omega (arith, process-count u (w .sane-u .shape-of), w .sane-u .facts .in-range y (lives-taken (view u) y ly))) p q a b h;
-      from = light-twins (view t) (view u) (view (put t x p)) (view (put u y q)) s r (put-light t x p a) (put-light u y q b) f g (w .from);
-    },
-    λ i j. elim [
-      | inl e ↦ inl (light-twin (view t) (view u) (view (put t x p)) (view (put u y q)) s r (put-light t x p a) (put-light u y q b) i j (e .0), subst (λ (v : View). So (seen v f i)) (sym (put-light t x p a)) (relit-seen (view t) (view (put t x p)) f i (e .1)))
-      | inr e ↦ inr (not-living-put t x p a lx i (e .0), not-living-put u y q b ly j (e .1))
-    ],
-  )
-    where
-      z : Pair (view t) (view u) s r
-      z = pair-of t u s r f g w
+  -- of two twins
+  pub light-onward : {p q : Process} → Shown t u s r p q → Placed p (process t x) → Placed q (process u y) → Sane (put t x p) → Sane (put u y q) → Onward t u s r f g (put t x p) (put u y q)
+  light-onward {p} {q} h a b ft fu =
+      let pt = put-remain t x p a .places in
+      let pu = put-remain u y q b .places in (
+        record {
+          sane-t = ft;
+          sane-u = fu;
+          alive-s = w .alive-s;
+          alive-r = w .alive-r;
+          same = same-put t u (pair-of w) k (w .sane-t .shape-of) (w .sane-u .shape-of) h a b;
+          from = from-after (pair-of w) (w .from) pt pu (λ i j m. refl) refl refl refl refl;
+        },
+        targets-after (pair-of w) (w .from) pt pu (λ i j m. refl) (not-living-put t x p lx) (not-living-put u y q ly),
+      )
 
 -- ---- delivery
 
@@ -223,7 +168,9 @@ is-finish Pend = false
 -- nobody ends the init of the namespace that it sends from
 finish-own : (v : View) (f x n : ℕ) → action-on v f x n ≡ Finish → So (is-init v x) → v .own x ≡ f → ⊥
 unfolding action-on _and_
-finish-own v f x n e h q = false≢true (sym no-finish ∙ ap is-finish e)
+finish-own v f x n e h q =
+    let no-finish : is-finish (action-on v f x n) ≡ false = rw (h, eq-eqb (v .own x) f q, action-on) (go (eqb n 0 or not (living v x)) (eqb n 18) (eqb n 9 or eqb n 19) (has (v .handled x) n)) in
+    false≢true (sym no-finish ∙ ap is-finish e)
   where
     go : (a b c d : Bool) → is-finish (if a then Nothing else (if b then Resume else (if c then Nothing else (if d then Pend else Nothing)))) ≡ false
     go true b c d = refl
@@ -232,20 +179,13 @@ finish-own v f x n e h q = false≢true (sym no-finish ∙ ap is-finish e)
     go false false false true = refl
     go false false false false = refl
 
-    no-finish : is-finish (action-on v f x n) ≡ false
-    no-finish = rw (h, eq-eqb (v .own x) f q, action-on) (go (eqb n 0 or not (living v x)) (eqb n 18) (eqb n 9 or eqb n 19) (has (v .handled x) n))
-
 pub resumed-placed : (p : Process) → Placed (resumed p) p
 unfolding resumed with-pending
-resumed-placed p = go (has (p .handled) 18)
-  where
-    go : (b : Bool) → Placed (if b then with-pending (with-state p Running) 18 else with-state p Running) p
-    go true = record { owns = refl; parents = refl; pids = refl }
-    go false = record { owns = refl; parents = refl; pids = refl }
+resumed-placed p = choose (λ q. Placed q p) (has (p .handled) 18) (λ a. (refl, refl, refl)) (λ a. (refl, refl, refl))
 
-resumed-shown : (t u : Table) (s r : ℕ) (p q : Process) → Shown t u s r p q → Shown t u s r (resumed p) (resumed q)
+resumed-shown : {t u : Table} {s r : ℕ} {p q : Process} → Shown t u s r p q → Shown t u s r (resumed p) (resumed q)
 unfolding resumed with-pending
-resumed-shown t u s r p q z = subst (λ b. Shown t u s r (resumed p) (if b then with-pending (with-state q Running) 18 else with-state q Running)) (ap (λ h. has h 18) (z .handleds)) (go (has (p .handled) 18))
+resumed-shown {t} {u} {s} {r} {p} {q} z = subst (λ b. Shown t u s r (resumed p) (if b then with-pending (with-state q Running) 18 else with-state q Running)) (ap (λ h. has h 18) (z .handleds)) (go (has (p .handled) 18))
   where
     go : (b : Bool) → Shown t u s r (if b then with-pending (with-state p Running) 18 else with-state p Running) (if b then with-pending (with-state q Running) 18 else with-state q Running)
     go true = record { states = refl; handleds = z .handleds; pendings = ap (λ h. with-signal h 18) (z .pendings); marks = z .marks; childrens = z .childrens }
@@ -254,25 +194,20 @@ resumed-shown t u s r p q z = subst (λ b. Shown t u s r (resumed p) (if b then 
 -- signal 0 ends nobody
 finish-pos : (v : View) (f x n : ℕ) → action-on v f x n ≡ Finish → 1 ≤ n
 unfolding action-on _or_
-finish-pos v f x n e = go (ℕ-discrete n 0)
-  where
-    go : Dec (n ≡ 0) → 1 ≤ n
-    go (yes z) = absurd (false≢true (ap is-finish (sym (ap (action-on v f x) z) ∙ e)))
-    go (no o) = omega arith
+finish-pos v f x n e =
+    by-equal n 0 (λ z. absurd (false≢true (ap is-finish (sym (ap (action-on v f x) z) ∙ e))))
+    (λ o. omega arith)
 
 -- the root init is seen from the root only
-root-safe : (v : View) (h : Facts v) (f x : ℕ) → So (seen v f x) → x ≡ 0 → f ≡ 0
+root-safe : {v : View} (h : Facts v) (f x : ℕ) → So (seen v f x) → x ≡ 0 → f ≡ 0
 unfolding seen
-root-safe v h f x k z =
+root-safe {v} h f x k z =
     let b : So (below v (v .own x) f) = right _ _ k in
     root-only v h f (below-taken v h (v .own x) f (own-taken v h x (left _ _ k)) b) (omega (arith, below-level v h (v .own x) f b, ap (v .level) (ap (v .own) z ∙ h .root-own), h .root-level))
 
-module _ (t u : Table) (s r f g : ℕ) (w : Midway t u s r f g) (x y n : ℕ) (low : n < signals) (k : Twin (view t) (view u) s r x y) (hx : So (seen (view t) f x)) (lx : So (living (view t) x)) where
+module _ {t u : Table} {s r f g : ℕ} (w : Midway t u s r f g) {x y : ℕ} (n : ℕ) (low : n < signals) (k : Twin (view t) (view u) s r x y) (hx : So (seen (view t) f x)) (lx : So (living (view t) x)) where
   z : Shown t u s r (process t x) (process u y)
-  z = shown t u s r (pair-of t u s r f g w) x y k
-
-  good : (e : Action) → action-on (view t) f x n ≡ e → Good (view t) x n e
-  good e q = subst (Good (view t) x n) q (action-good (view t) x n f (w .sane-t .facts) (root-safe (view t) (w .sane-t .facts) f x hx))
+  z = shown t u (pair-of w) k
 
   acted-t : (e : Action) → Good (view t) x n e → Sane (act t x n e)
   acted-t e a = act-sane t (w .sane-t) x n low e a
@@ -280,96 +215,54 @@ module _ (t u : Table) (s r f g : ℕ) (w : Midway t u s r f g) (x y n : ℕ) (l
   acted-u : (e : Action) → Good (view u) y n e → Sane (act u y n e)
   acted-u e a = act-sane u (w .sane-u) y n low e a
 
-  stop-onward : Sane (act t x n Stop) → Sane (act u y n Stop) → Onward t u s r f g (act t x n Stop) (act u y n Stop)
-  unfolding act
-  stop-onward st su =
-      light-onward t u s r f g w x y k lx _ _ (record { owns = refl; parents = refl; pids = refl }) (record { owns = refl; parents = refl; pids = refl })
-      (record { states = refl; handleds = z .handleds; pendings = z .pendings; marks = z .marks; childrens = z .childrens }) st su
-
-  pend-onward : Sane (act t x n Pend) → Sane (act u y n Pend) → Onward t u s r f g (act t x n Pend) (act u y n Pend)
-  unfolding act with-pending
-  pend-onward st su =
-      light-onward t u s r f g w x y k lx _ _ (record { owns = refl; parents = refl; pids = refl }) (record { owns = refl; parents = refl; pids = refl })
-      (record { states = z .states; handleds = z .handleds; pendings = ap (λ q. with-signal q n) (z .pendings); marks = z .marks; childrens = z .childrens }) st su
-
-  finish-onward : action-on (view t) f x n ≡ Finish → Onward t u s r f g (end t x (Signaled n)) (end u y (Signaled n))
-  finish-onward e = end-same t u s r f g x y (Signaled n) w k hx lx (both _ _ (le-leb 1 n (finish-pos (view t) f x n e)) (lt-ltb n signals low)) (finish-own (view t) f x n e)
-
-  resume-action : Onward t u s r f g (act t x n Resume) (act u y n Resume)
-  unfolding act
-  resume-action =
-      light-onward t u s r f g w x y k lx _ _ (resumed-placed (process t x)) (resumed-placed (process u y)) (resumed-shown t u s r (process t x) (process u y) z)
-      (acted-t Resume lx) (acted-u Resume (ly t u s r f g w x y k lx))
-
-  good-u : Good (view t) x n Pend → Good (view u) y n Pend
-  good-u a = (ly t u s r f g w x y k lx, subst (λ h. So (has h n)) (z .handleds) (a .1))
-
   action-onward : (e : Action) → action-on (view t) f x n ≡ e → Onward t u s r f g (act t x n e) (act u y n e)
-  unfolding act
+  unfolding act with-pending
   action-onward Nothing e = (w, λ a b h. h)
-  action-onward Resume e = resume-action
-  action-onward Stop e = stop-onward (acted-t Stop lx) (acted-u Stop (ly t u s r f g w x y k lx))
-  action-onward Finish e = finish-onward e
-  action-onward Pend e = pend-onward (acted-t Pend (good Pend e)) (acted-u Pend (good-u (good Pend e)))
+  action-onward Resume e = light-onward w k lx (resumed-shown z) (resumed-placed (process t x)) (resumed-placed (process u y)) (acted-t Resume lx) (acted-u Resume (ly w k lx))
+  action-onward Stop e =
+      light-onward w k lx (record { states = refl; handleds = z .handleds; pendings = z .pendings; marks = z .marks; childrens = z .childrens })
+      (refl, refl, refl) (refl, refl, refl) (acted-t Stop lx) (acted-u Stop (ly w k lx))
+  action-onward Finish e = end-same (Signaled n) w k hx lx (both _ _ (le-leb 1 n (finish-pos (view t) f x n e)) (lt-ltb n signals low)) (finish-own (view t) f x n e)
+  action-onward Pend e =
+      let a = subst (Good (view t) x n) e (action-good (view t) x n f (w .sane-t .facts) (root-safe (w .sane-t .facts) f x hx)) in
+      light-onward w k lx (record { states = z .states; handleds = z .handleds; pendings = ap (λ q. with-signal q n) (z .pendings); marks = z .marks; childrens = z .childrens })
+      (refl, refl, refl) (refl, refl, refl) (acted-t Pend a) (acted-u Pend (ly w k lx, subst (λ h. So (has h n)) (z .handleds) (a .1)))
 
 module _ (n : ℕ) (low : n < signals) where
-  deliver-onward : (t u : Table) (s r f g : ℕ) → Midway t u s r f g → (x y : ℕ) → Target (view t) (view u) s r f x y → Onward t u s r f g (deliver t f x n) (deliver u g y n)
+  deliver-onward : {t u : Table} {s r f g : ℕ} → Midway t u s r f g → (x y : ℕ) → Target (view t) (view u) s r f x y → Onward t u s r f g (deliver t f x n) (deliver u g y n)
   unfolding deliver act
-  deliver-onward t u s r f g w x y (inr e) = rw (action-none (view t) f x n (e .0), action-none (view u) g y n (e .1)) (w, λ a b h. h)
-  deliver-onward t u s r f g w x y (inl (k, h)) = go (living (view t) x) refl
-    where
-      go : (b : Bool) → living (view t) x ≡ b → Onward t u s r f g (deliver t f x n) (deliver u g y n)
-      go true l = rw (← action-twins t u s r f g w x y n k) (action-onward t u s r f g w x y n low k h l (action-on (view t) f x n) refl)
-      go false l =
-          rw (action-none (view t) f x n l, action-none (view u) g y n (sym (living-twins (view t) (view u) s r (pair-of t u s r f g w) x y k) ∙ l)) (w, λ a b h. h)
-
-  along-map : (R S : ℕ → ℕ → Type 0) (xs ys : List ℕ) → ((a b : ℕ) → R a b → S a b) → Along R xs ys → Along S xs ys
-  along-map R S [] [] h k = k
-  along-map R S [] (y ∷ ys) h k = k
-  along-map R S (x ∷ xs) [] h k = k
-  along-map R S (x ∷ xs) (y ∷ ys) h k = (h x y (k .0), along-map R S xs ys h (k .1))
+  deliver-onward {t} {u} {f} {g} w x y (inr e) = rw (action-none (view t) f x n (e .0), action-none (view u) g y n (e .1)) (w, λ a b h. h)
+  deliver-onward {t} {u} {s} {r} {f} {g} w x y (inl (k, h)) =
+      by-test (living (view t) x) (λ l. rw (← action-twins w n k) (action-onward w n low k h l (action-on (view t) f x n) refl))
+      (λ l. rw (action-none (view t) f x n l, action-none (view u) g y n (sym (living-twins (pair-of w) k) ∙ l)) (w, λ a b h. h))
 
   -- all deliveries
-  pub deliver-all-held : (xs ys : List ℕ) (t u : Table) (s r f g : ℕ) → Midway t u s r f g → Along (Target (view t) (view u) s r f) xs ys → Midway (deliver-all t f xs n) (deliver-all u g ys n) s r f g
+  deliver-all-held : (xs : List ℕ) {ys : List ℕ} {t u : Table} {s r f g : ℕ} → Midway t u s r f g → Along (Target (view t) (view u) s r f) xs ys → Midway (deliver-all t f xs n) (deliver-all u g ys n) s r f g
   unfolding deliver-all
-  deliver-all-held [] [] t u s r f g w h = w
-  deliver-all-held [] (y ∷ ys) t u s r f g w h = absurd h
-  deliver-all-held (x ∷ xs) [] t u s r f g w h = absurd h
-  deliver-all-held (x ∷ xs) (y ∷ ys) t u s r f g w h =
-      let (w′, move) = deliver-onward t u s r f g w x y (h .0) in
-      deliver-all-held xs ys (deliver t f x n) (deliver u g y n) s r f g w′ (along-map (Target (view t) (view u) s r f) (Target (view (deliver t f x n)) (view (deliver u g y n)) s r f) xs ys move (h .1))
+  deliver-all-held [] w end-along = w
+  deliver-all-held (x ∷ xs) w (more r h) =
+      let (w′, move) = deliver-onward w _ _ r in
+      deliver-all-held xs w′ (along-with xs (λ a b m k. move a b k) h)
 
 -- ---- kill, by twin callers, from what an end does
 
-module _ (t u : Table) (s r i j : ℕ) (w : Ready t u s r i j) where
-  held : Midway t u s r (view t .own i) (view u .own j)
-  held =
-      record {
-        sane-t = sane t (w .sound-t);
-        sane-u = sane u (w .sound-u);
-        alive-s = w .pair .alive-v;
-        alive-r = w .pair .alive-u;
-        same = w .pair .same;
-        from = owns-twins t u s r i j w;
-      }
-
+module _ {t u : Table} {s r i j : ℕ} (w : Ready t u s r i j) where
   kill-after : (z : ℤ) (n : ℕ) → n < signals → Midway (deliver-all t (view t .own i) (targets (view t) i z) n) (deliver-all u (view u .own j) (targets (view u) j z) n) s r (view t .own i) (view u .own j)
-  kill-after z n low = deliver-all-held n low _ _ t u s r (view t .own i) (view u .own j) held
-      (along-with (Twin (view t) (view u) s r) (Target (view t) (view u) s r (view t .own i)) (targets (view t) i z) (targets (view u) j z) (λ x y m k. inl (k, targets-seen (view t) i z x m)) (targets-twins t u s r i j w z))
+  kill-after z n low = deliver-all-held n low (targets (view t) i z) (midway w (owns-twins w))
+      (along-with (targets (view t) i z) (λ x y m k. inl (k, targets-seen (view t) i z x m)) (targets-twins w z))
 
 -- kill by twin callers
 pub kill-same : (z n : ℤ) → MadeSame (Kill z n)
 unfolding MadeSame make kill answers granted
-kill-same z n t u s r i j w h g = go (within 0 signals n) refl (names-group z) refl (eqb (length (targets (view t) i z)) 0) refl
-  where
-    lengths : length (targets (view t) i z) ≡ length (targets (view u) j z)
-    lengths = along-length (Twin (view t) (view u) s r) (targets (view t) i z) (targets (view u) j z) (targets-twins t u s r i j w z)
-
-    go : (a : Bool) → within 0 signals n ≡ a → (b : Bool) → names-group z ≡ b → (c : Bool) → eqb (length (targets (view t) i z)) 0 ≡ c → Kept t u s r (kill t i z n) (kill u j z n)
-    go false ea b eb c ec = rw (ea, kill) (both-refuse t u s r i j w Einval)
-    go true ea true eb c ec = rw (ea, eb, kill) (both-refuse t u s r i j w Enosys)
-    go true ea false eb true ec = rw (ea, eb, ec, sym (ap (λ x. eqb x 0) lengths) ∙ ec, kill) (both-refuse t u s r i j w Esrch)
-    go true ea false eb false ec =
-        let d = kill-after t u s r i j w z (natural n) (natural-low n ea) in
-        rw (ea, eb, ec, sym (ap (λ x. eqb x 0) lengths) ∙ ec, kill)
-        (inr (refl, freed-alike t u _ _ (d .sane-t) (d .sane-u) s r (pair-of _ _ s r _ _ d)))
+kill-same z n t u s r i j w h g =
+    let lengths = along-length (targets-twins w z) in
+    by-test (within 0 signals n)
+    (λ ea. by-test (names-group z)
+    (λ eb. rw (ea, eb, kill) (both-refuse w Enosys))
+    (λ eb. by-test (eqb (length (targets (view t) i z)) 0)
+    (λ ec. rw (ea, eb, ec, sym (ap (λ x. eqb x 0) lengths) ∙ ec, kill) (both-refuse w Esrch))
+    (λ ec.
+    let d = kill-after w z (natural n) (natural-low n ea) in
+    rw (ea, eb, ec, sym (ap (λ x. eqb x 0) lengths) ∙ ec, kill)
+    (inr (refl, freed-alike t u (d .sane-t) (d .sane-u) (d .alive-s) (d .alive-r) (d .same))))))
+    (λ ea. rw (ea, kill) (both-refuse w Einval))

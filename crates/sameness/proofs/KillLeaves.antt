@@ -12,28 +12,27 @@ use Rattle.rules.proofs.Keeps.End.{end-view}
 use Rattle.rules.proofs.Keeps.Premises.{natural-low, targets-safe}
 use Rattle.rules.proofs.Laws.Facts.{Facts, facts, Sane, sane, lives-taken}
 use Rattle.rules.proofs.Laws.Lists.{some-of-false}
-use Rattle.rules.proofs.Laws.Slots.{own-taken, living-own-alive}
 use Rattle.rules.proofs.Laws.Tests.{isnt-so, both, or-false-left, or-false-right}
-use Rattle.sameness.proofs.EndLeaves.{end-still, end-dies, end-back, freed-back, lives-on, not-own}
+use Rattle.sameness.proofs.Cases.{by-test}
+use Rattle.sameness.proofs.EndLeaves.{Above, end-still, end-back, lives-freed, lives-on}
 use Rattle.sameness.proofs.EndSame.{ended-end}
-use Rattle.sameness.proofs.Freeing.{freed-leaves}
+use Rattle.sameness.proofs.Freeing.{after, freed-leaves}
 use Rattle.sameness.proofs.Kill.{not-living-put, resumed-placed, action-none}
 use Rattle.sameness.proofs.Light.{Placed}
-use Rattle.sameness.proofs.Outside.{MadeLeaves, as-it-was, untouched-made}
+use Rattle.sameness.proofs.Calls.{MadeLeaves, as-it-was, untouched-made}
 use Rattle.sameness.proofs.Same.{Same, same-trans}
-use Rattle.sameness.proofs.Still.{Still, same-still, stands-still, below-still, near, near-here, put-still}
+use Rattle.sameness.proofs.Still.{Still, same-still, stands-still, above-still, put-still}
 use Rattle.rules.specs.Answers.{answers, granted, is-refused, refused}
 use Rattle.rules.specs.Calls.{kill, names-group, natural, targets, within}
 use Rattle.rules.specs.Delivery.{act, action-on, deliver, deliver-all, with-pending}
 use Rattle.rules.specs.Ends.{end}
-use Rattle.sameness.specs.Events.{at, follow, is-inside, sheet-of}
+use Rattle.sameness.specs.Events.{at, is-inside}
 use Rattle.rules.specs.Freeing.{freed}
-use Rattle.table.specs.Limits.{namespace-slots, signals}
+use Rattle.table.specs.Limits.{signals}
 use Rattle.table.specs.Slots.{process, put}
-use Rattle.rules.specs.Read.{View, alive, below, is-init, living, namespace-taken, seen, taken, view}
+use Rattle.rules.specs.Read.{View, alive, below, living, namespace-taken, seen, view}
 use Rattle.rules.specs.Records.{with-state}
 use Rattle.sameness.specs.Sheet.{sheet}
-use Rattle.rules.specs.Sound.{SoundTable}
 use Rattle.rules.specs.Step.{make}
 use Rattle.table.specs.Tests.{_and_, _or_, some-of}
 use Rattle.sameness.specs.Touches.{signals-into, touched}
@@ -55,8 +54,8 @@ record Going (t₀ t : Table) (s : ℕ) : Type 0 where
   backs : (n : ℕ) → So (alive (view t) n) → So (alive (view t₀) n)
   ended : (i : ℕ) → living (view t₀) i ≡ false → living (view t) i ≡ false
 
-start : (t : Table) (s : ℕ) → Sane t → So (namespace-taken (view t) s) → Going t t s
-start t s w h =
+start : {t : Table} {s : ℕ} → Sane t → So (namespace-taken (view t) s) → Going t t s
+start w h =
     record {
       sane-now = w;
       same = record { levels = refl; there = λ i k. (i, k, refl); back = λ i k. (i, k, refl) };
@@ -67,14 +66,14 @@ start t s w h =
       ended = λ i k. k;
     }
 
-onward : (t₀ t t′ : Table) (s : ℕ) → Going t₀ t s → Sane t′ → Still (view t) (view t′) s (near (view t) s) → ((n : ℕ) → So (alive (view t′) n) → So (alive (view t) n)) → ((i : ℕ) → living (view t) i ≡ false → living (view t′) i ≡ false) → Going t₀ t′ s
-onward t₀ t t′ s g w d b z =
+onward : {t₀ t t′ : Table} {s : ℕ} → Going t₀ t s → Sane t′ → Still (view t) (view t′) s → ((n : ℕ) → So (alive (view t′) n) → So (alive (view t) n)) → ((i : ℕ) → living (view t) i ≡ false → living (view t′) i ≡ false) → Going t₀ t′ s
+onward {s} g w d b z =
     record {
       sane-now = w;
-      same = same-trans (view t′) (view t) (view t₀) s s s (same-still (view t) (view t′) s (near (view t) s) (g .sane-now .facts) d) (g .same);
-      stands = stands-still (view t) (view t′) s (near (view t) s) (g .sane-now .facts) d (g .stands);
+      same = same-trans (same-still (g .sane-now .facts) d) (g .same);
+      stands = stands-still (g .sane-now .facts) d (g .stands);
       seens = λ i. d .seens i ∙ g .seens i;
-      aboves = λ n. below-still (view t) (view t′) s (near (view t) s) (g .sane-now .facts) d s n (near-here (view t) (g .sane-now .facts) s) ∙ g .aboves n;
+      aboves = λ n. above-still (g .sane-now .facts) d n ∙ g .aboves n;
       backs = λ n k. g .backs n (b n k);
       ended = λ i k. z i (g .ended i k);
     }
@@ -90,74 +89,61 @@ action-zero v f x n e = rw (e, action-on) refl
 
 -- ---- deliveries
 
--- what lives above S lives on in u
-abbrev Above : Table → ℕ → Table → Type 0
-Above t₀ s u = (m : ℕ) → m < namespace-slots → (m ≡ s → ⊥) → So (below (view t₀) s m) → So (alive (view t₀) m) → alive (view u) m ≡ false → ⊥
-
-module _ (t₀ t : Table) (s x n : ℕ) (g : Going t₀ t s) (o : seen (view t) s x ≡ false) (l : So (living (view t) x)) where
+module _ {t₀ t : Table} {s : ℕ} (x n : ℕ) (g : Going t₀ t s) (o : seen (view t) s x ≡ false) (l : So (living (view t) x)) where
   f : Facts (view t)
   f = g .sane-now .facts
 
   light : (p : Process) → Placed p (process t x) → Sane (put t x p) → Going t₀ (put t x p) s
-  light p k w = onward t₀ t (put t x p) s g w (put-still t f x p k s o) (λ j h. h) (not-living-put t x p k l)
+  light p k w = onward g w (put-still t f x p k s o) (λ j h. h) (not-living-put t x p l)
 
   finished : Sane (end t x (Signaled n)) → Above t₀ s (end t x (Signaled n)) → Going t₀ (end t x (Signaled n)) s
   finished w h =
-      onward t₀ t (end t x (Signaled n)) s g w (end-still t (g .sane-now) x (Signaled n) l s o not-above) (end-back t (g .sane-now) x (Signaled n) tx)
+      let tx = lives-taken (view t) x l in
+      onward g w (end-still (g .sane-now) x (Signaled n) l s o (λ m low c b a. h m low c (sym (g .aboves m) ∙ b) (g .backs m a))) (end-back (g .sane-now) x (Signaled n) tx)
       (λ i. subst (λ u. living (view t) i ≡ false → living u i ≡ false) (sym (end-view t (g .sane-now) x (Signaled n) tx)) (ended-end (view t) x (Signaled n) i))
-    where
-      tx : So (taken (view t) x)
-      tx = lives-taken (view t) x l
-
-      not-above : So (is-init (view t) x) → below (view t) s (view t .own x) ≡ false
-      not-above i =
-          isnt-so
-          (λ b. h (view t .own x) (f .in-namespace _ (own-taken (view t) f x tx)) (not-own t s x tx o) (sym (g .aboves (view t .own x)) ∙ b) (g .backs _ (living-own-alive (view t) f x l)) (end-dies t (g .sane-now) x (Signaled n) tx i))
 
   applied : (e : Action) → Sane (act t x n e) → Above t₀ s (act t x n e) → Going t₀ (act t x n e) s
   unfolding act with-pending
   applied Nothing w h = g
   applied Resume w h = light _ (resumed-placed (process t x)) w
-  applied Stop w h = light (with-state (process t x) Stopped) (record { owns = refl; parents = refl; pids = refl }) w
+  applied Stop w h = light (with-state (process t x) Stopped) (refl, refl, refl) w
   applied Finish w h = finished w h
-  applied Pend w h = light (with-pending (process t x) n) (record { owns = refl; parents = refl; pids = refl }) w
+  applied Pend w h = light (with-pending (process t x) n) (refl, refl, refl) w
 
 module _ (from n : ℕ) (low : n < signals) where
   -- what lives after deliveries lived before
-  act-back : (t : Table) → Sane t → (x : ℕ) (e : Action) → Good (view t) x n e → (m : ℕ) → So (alive (view (act t x n e)) m) → So (alive (view t) m)
+  act-back : {t : Table} → Sane t → (x : ℕ) (e : Action) → Good (view t) x n e → (m : ℕ) → So (alive (view (act t x n e)) m) → So (alive (view t) m)
   unfolding act
-  act-back t w x Nothing g m k = k
-  act-back t w x Resume g m k = k
-  act-back t w x Stop g m k = k
-  act-back t w x Finish g m k = end-back t w x (Signaled n) (lives-taken (view t) x (g .0)) m k
-  act-back t w x Pend g m k = k
+  act-back w x Nothing g m k = k
+  act-back w x Resume g m k = k
+  act-back w x Stop g m k = k
+  act-back {t} w x Finish g m k = end-back w x (Signaled n) (lives-taken (view t) x (g .0)) m k
+  act-back w x Pend g m k = k
 
-  all-back : (xs : List ℕ) (t : Table) → Sane t → Safe from xs → (m : ℕ) → So (alive (view (deliver-all t from xs n)) m) → So (alive (view t) m)
+  all-back : (xs : List ℕ) {t : Table} → Sane t → Safe from xs → (m : ℕ) → So (alive (view (deliver-all t from xs n)) m) → So (alive (view t) m)
   unfolding deliver-all deliver
-  all-back [] t w safe m k = k
-  all-back (x ∷ xs) t w safe m k = act-back t w x (action-on (view t) from x n) (action-good (view t) x n from (w .facts) (safe .0)) m (all-back xs (deliver t from x n) (deliver-sane t w x n low from (safe .0)) (safe .1) m k)
+  all-back [] w safe m k = k
+  all-back (x ∷ xs) {t} w safe m k = act-back w x (action-on (view t) from x n) (action-good (view t) x n from (w .facts) (safe .0)) m (all-back xs (deliver-sane t w x n low from (safe .0)) (safe .1) m k)
 
   -- a target outside S, or one that has ended
-  deliver-going : (t₀ t : Table) (s x : ℕ) → (x ≡ 0 → from ≡ 0) → Going t₀ t s → seen (view t₀) s x and living (view t₀) x ≡ false → Above t₀ s (deliver t from x n) → Going t₀ (deliver t from x n) s
+  deliver-going : {t₀ t : Table} {s : ℕ} (x : ℕ) → (x ≡ 0 → from ≡ 0) → Going t₀ t s → seen (view t₀) s x and living (view t₀) x ≡ false → Above t₀ s (deliver t from x n) → Going t₀ (deliver t from x n) s
   unfolding deliver
-  deliver-going t₀ t s x safe g o h = go (living (view t) x) refl
+  deliver-going {t₀} {t} {s} x safe g o h =
+      by-test (living (view t) x)
+      (λ l. applied x n g (isnt-so (λ k. false≢true (sym o ∙ both _ _ (sym (g .seens x) ∙ k) (lived l (living (view t₀) x) refl)))) l (action-on (view t) from x n)
+      (deliver-sane t (g .sane-now) x n low from safe) h)
+      (λ l. subst (λ u. Going t₀ u s) (sym (deliver-nothing t from x n l)) g)
     where
       lived : So (living (view t) x) → (b : Bool) → living (view t₀) x ≡ b → So (living (view t₀) x)
       lived l true q = q
       lived l false q = absurd (false≢true (sym (g .ended x q) ∙ l))
 
-      go : (b : Bool) → living (view t) x ≡ b → Going t₀ (deliver t from x n) s
-      go true l =
-          applied t₀ t s x n g (isnt-so (λ k. false≢true (sym o ∙ both _ _ (sym (g .seens x) ∙ k) (lived l (living (view t₀) x) refl)))) l (action-on (view t) from x n)
-          (deliver-sane t (g .sane-now) x n low from safe) h
-      go false l = subst (λ u. Going t₀ u s) (sym (deliver-nothing t from x n l)) g
-
-  all-going : (xs : List ℕ) (t₀ t : Table) (s : ℕ) → Safe from xs → Going t₀ t s → some-of (λ i. is-inside t₀ (at s) i and living (view t₀) i) xs ≡ false → Above t₀ s (deliver-all t from xs n) → Going t₀ (deliver-all t from xs n) s
+  all-going : (xs : List ℕ) {t₀ t : Table} {s : ℕ} → Safe from xs → Going t₀ t s → some-of (λ i. is-inside t₀ (at s) i and living (view t₀) i) xs ≡ false → Above t₀ s (deliver-all t from xs n) → Going t₀ (deliver-all t from xs n) s
   unfolding deliver-all is-inside
-  all-going [] t₀ t s safe g o h = g
-  all-going (x ∷ xs) t₀ t s safe g o h =
-      all-going xs t₀ (deliver t from x n) s (safe .1)
-      (deliver-going t₀ t s x (safe .0) g (some-of-false _ x xs o .0) (λ m l a b c k. h m l a b c (isnt-so (λ y. false≢true (sym k ∙ all-back xs (deliver t from x n) (deliver-sane t (g .sane-now) x n low from (safe .0)) (safe .1) m y)))))
+  all-going [] safe g o h = g
+  all-going (x ∷ xs) {t} safe g o h =
+      all-going xs (safe .1)
+      (deliver-going x (safe .0) g (some-of-false _ x xs o .0) (λ m l a b c k. h m l a b c (isnt-so (λ y. false≢true (sym k ∙ all-back xs (deliver-sane t (g .sane-now) x n low from (safe .0)) (safe .1) m y)))))
       (some-of-false _ x xs o .1) h
 
 -- signal 0 does nothing
@@ -174,7 +160,15 @@ sent false b e h = h
 -- kill by an outsider
 pub kill-leaves : (z n : ℤ) → MadeLeaves (Kill z n)
 unfolding MadeLeaves make kill answers granted refused is-refused touched signals-into
-kill-leaves z n t s i h hs k a g = go (within 0 signals n) refl (names-group z) refl (eqb (length (targets (view t) i z)) 0) refl g
+kill-leaves z n t s i h hs k a g =
+    by-test (within 0 signals n)
+    (λ ea. by-test (names-group z)
+    (λ eb. rw (ea, eb, kill) (as-it-was t s hs))
+    (λ eb. by-test (eqb (length (targets (view t) i z)) 0)
+    (λ ec. rw (ea, eb, ec, kill) (as-it-was t s hs))
+    (λ ec. rw (ea, eb, ec, kill)
+    (done (natural-low n ea) (untouched-made s i (Kill z n) h k a (answers (freed t₁) 0) (rw (ea, eb, ec, kill) refl) refl)))))
+    (λ ea. rw (ea, kill) (as-it-was t s hs))
   where
     xs : List ℕ
     xs = targets (view t) i z
@@ -182,23 +176,14 @@ kill-leaves z n t s i h hs k a g = go (within 0 signals n) refl (names-group z) 
     t₁ : Table
     t₁ = deliver-all t (view t .own i) xs (natural n)
 
-    done : natural n < signals → touched t (freed t₁) (at s) i (Kill z n) ≡ false → SoundTable (freed t₁) → (b : Bool) → eqb (natural n) 0 ≡ b → sheet-of (freed t₁) (follow t (freed t₁) (at s)) ≡ sheet (view t) s
-    done low o g true e =
-        let q = all-zero xs t (view t .own i) (natural n) e in
-        let w = start t s (sane t h) hs in
-        subst (λ y. sheet-of (freed y) (follow t (freed y) (at s)) ≡ sheet (view t) s) (sym q) (freed-leaves t t s h (sane t h) hs hs (w .same))
-    done low o g false e =
-        freed-leaves t t₁ s h (w .sane-now) hs (w .stands) (w .same)
-      where
-        w : Going t t₁ s
-        w =
-            all-going (view t .own i) (natural n) low xs t t s (targets-safe (view t) (facts t h) i z) (start t s (sane t h) hs) (sent (eqb (natural n) 0) (some-of (λ j. is-inside t (at s) j and living (view t) j) xs) e (or-false-left _ _ o))
-            (λ m l c b d y. lives-on t (freed t₁) s (or-false-right _ _ o) m l c b d (isnt-so (λ v. false≢true (sym y ∙ freed-back t₁ (deliver-all-sane t (sane t h) (view t .own i) (natural n) low xs (targets-safe (view t) (facts t h) i z)) m v))))
-
-    go : (x : Bool) → within 0 signals n ≡ x → (y : Bool) → names-group z ≡ y → (b : Bool) → eqb (length (targets (view t) i z)) 0 ≡ b → SoundTable (kill t i z n .table) → sheet-of (kill t i z n .table) (follow t (kill t i z n .table) (at s)) ≡ sheet (view t) s
-    go false ea y eb b ec g = rw (ea, kill) (as-it-was t s hs)
-    go true ea true eb b ec g = rw (ea, eb, kill) (as-it-was t s hs)
-    go true ea false eb true ec g = rw (ea, eb, ec, kill) (as-it-was t s hs)
-    go true ea false eb false ec g =
-        rw (ea, eb, ec, kill)
-        (done (natural-low n ea) (untouched-made t s i (Kill z n) h k a (answers (freed t₁) 0) (rw (ea, eb, ec, kill) refl) refl) (rw (ea, eb, ec, kill) at g) (eqb (natural n) 0) refl)
+    done : natural n < signals → touched t (freed t₁) (at s) i (Kill z n) ≡ false → after t s (freed t₁) ≡ sheet (view t) s
+    done low o =
+        by-test (eqb (natural n) 0)
+        (λ e. subst (λ y. after t s (freed y) ≡ sheet (view t) s) (sym (all-zero xs t (view t .own i) (natural n) e)) (freed-leaves h (sane t h) hs hs (start (sane t h) hs .same)))
+        (λ e.
+        let safe = targets-safe (view t) (facts t h) i z in
+        let w₁ = deliver-all-sane t (sane t h) (view t .own i) (natural n) low xs safe in
+        let w : Going t t₁ s =
+        all-going (view t .own i) (natural n) low xs safe (start (sane t h) hs) (sent (eqb (natural n) 0) (some-of (λ j. is-inside t (at s) j and living (view t) j) xs) e (or-false-left _ _ o))
+        (lives-freed t s w₁ (lives-on t (freed t₁) s (or-false-right _ _ o))) in
+        freed-leaves h (w .sane-now) hs (w .stands) (w .same))

@@ -1,38 +1,33 @@
--- Demand 3. Two tables are the same to S: reading them, changing them, each call, and the two lists.
+-- Demand 3, from the statement down: the two lists, each call, what changes, what corresponds.
 
--- what corresponds on two tables
-pub mod Same
-pub mod Anchor
-pub mod Twins
-pub mod Readers
--- changes that leave what the sheet rests on
-pub mod Stays
-pub mod Remain
-pub mod Light
-pub mod Shape
-pub mod Still
-pub mod Freeing
--- each call, by two callers with the same number in S and by an outsider
-pub mod Inside
-pub mod Outside
+-- one induction over the two lists of calls
+pub mod Demand3
+-- what is to prove of a call by two callers with the same number in S, and by an outsider; and of each
 pub mod Calls
 pub mod Setns
 pub mod Wait
-pub mod MemberEnd
-pub mod InitEnd
-pub mod EndSame
 pub mod ExitSame
-pub mod EndLeaves
 pub mod Kill
 pub mod KillLeaves
-pub mod Born
+pub mod Clone
+-- what ends, births and fresh namespaces do to the sheet of S
+pub mod EndSame
+pub mod EndLeaves
+pub mod Ends
 pub mod BirthSame
-pub mod CloneSame
-pub mod NewNamespaceSame
-pub mod BirthLeaves
--- the two lists, and what people will quote of them
-pub mod Demand3
-pub mod Learnt
--- where it applies, by computation
-pub mod Open
+pub mod Born
+pub mod NewNamespace
+-- changes that leave what a sheet rests on
+pub mod Freeing
+pub mod Still
+pub mod Light
+pub mod Remain
+-- what corresponds on two tables that are the same to S
+pub mod Readers
+pub mod Twins
+pub mod Anchor
+pub mod Same
+pub mod Cases
+-- where demand 3 applies, by computation
 pub mod Witness
+pub mod Open

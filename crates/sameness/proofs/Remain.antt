@@ -1,101 +1,186 @@
--- A change after which some processes and namespaces stand as they stood, and the other processes are gone.
-use Prim.Native.Nat.{ℕ, suc, _-_}
-use mathlib.Core.Bool.{Bool, true, false, not, So, false≢true}
-use mathlib.Core.Path.{_≡_, refl, sym, _∙_, ap, ap₂, fun-ext}
+-- A change that leaves places: some namespaces, with all above them, and some processes stand as they stood, and the
+-- other processes are gone. So "below", numbers and names stay, and two tables that change so stay the same to S.
+use Prim.Native.Nat.{ℕ, zero, suc, _-_}
+use mathlib.Core.Bool.{Bool, true, false, not, So}
+use mathlib.Core.Path.{_≡_, refl, sym, _∙_, ap, ap₂, fun-ext, subst}
 use lib.Dec.{eqb}
-use Rattle.rules.proofs.Laws.Facts.{Facts, seen-taken}
-use Rattle.rules.proofs.Laws.Slots.{own-taken}
-use Rattle.rules.proofs.Laws.Tests.{and-false}
+use Rattle.rules.proofs.Laws.Below.{up-level}
+use Rattle.rules.proofs.Laws.Facts.{Facts}
+use Rattle.rules.proofs.Laws.Tests.{isnt-so, no-so, and-false, choose}
+use Rattle.sameness.proofs.Cases.{by-test}
+use Rattle.sameness.proofs.Anchor.{anchor}
 use Rattle.sameness.proofs.Same.{Same}
-use Rattle.sameness.proofs.Stays.{Stays, below-stays, name-stays}
-use Rattle.sameness.proofs.Twins.{Pair, Twin, twin-rows, same-rows}
-use Rattle.table.specs.Limits.{levels}
-use Rattle.table.specs.Slots.{init-of}
-use Rattle.rules.specs.Read.{View, alive, below, init, is-init, namespace-taken, pid-in, pid-seen, seen, taken}
-use Rattle.sameness.specs.Sheet.{Name, Row, name, row}
+use Rattle.sameness.proofs.Twins.{Pair, Twin, flip-pair, flip-twin, twin-rows, twin-there, taken-v, taken-u}
+use Rattle.table.specs.Limits.{levels, no-slot}
+use Rattle.table.specs.Slots.{init-of, is-alive}
+use Rattle.rules.specs.Read.{View, below, climb, init, is-init, namespace-taken, pid-in, pid-seen, seen, taken}
+use Rattle.sameness.specs.Sheet.{Name, Row, by-init, dead-at, name, name-by, nearest, no-name, row}
 use Rattle.table.specs.Tests.{_and_, _or_, if_then_else_, values}
+use Rattle.table.specs.declared.Life.the-variants.{Unborn, Alive, Dead}
 use Rattle.table.specs.declared.Life.{Life}
 use Rattle.table.specs.declared.State.{State}
-
--- the processes of Q keep own namespace and numbers, the others are gone; the namespaces of K stay
-pub record Remain (v v′ : View) (K Q : ℕ → Bool) : Type 0 where
-  pub owns : (i : ℕ) → So (Q i) → v′ .own i ≡ v .own i
-  pub pids : (i l : ℕ) → So (Q i) → v′ .pid i l ≡ v .pid i l
-  pub gone : (i : ℕ) → Q i ≡ false → taken v′ i ≡ false
-  pub ups : (n : ℕ) → So (K n) → v′ .up n ≡ v .up n
-  pub levels : (n : ℕ) → So (K n) → v′ .level n ≡ v .level n
-  pub lives : (n : ℕ) → So (K n) → v′ .life n ≡ v .life n
-  pub up-kept : (n k : ℕ) → So (K n) → v .level n ≡ suc k → So (K (v .up n))
-  pub own-kept : (i : ℕ) → So (Q i) → So (taken v i) → So (K (v .own i))
-  pub init-kept : (n : ℕ) → So (K n) → So (alive v n) → So (Q (init v n))
 
 abbrev pub everyone : ℕ → Bool
 everyone i = true
 
--- a row by what may change
-abbrev pub lit : View → ℕ → ℕ → State → ℕ → ℕ → Bool → ℕ → Name → ℕ → Row
-lit v s i st h q m p c z = record { pids = values (v .pid i) (levels - v .level s) (v .level s); state = st; handled = h; pending = q; unshared = m; parent = p; own = name v s (v .own i); children = c; last = z }
+-- ---- namespaces
 
-module _ (v v′ : View) (K Q : ℕ → Bool) (f : Facts v) (w : Remain v v′ K Q) where
-  stays : Stays v v′ K
-  stays = record { ups = w .ups; levels = w .levels; lives = w .lives; up-kept = w .up-kept }
+-- those of K, which with each has its parent, keep parent and level
+pub record Tree (v v′ : View) (K : ℕ → Bool) : Type 0 where
+  pub ups : (n : ℕ) → So (K n) → v′ .up n ≡ v .up n
+  pub levels : (n : ℕ) → So (K n) → v′ .level n ≡ v .level n
+  pub up-kept : (n k : ℕ) → So (K n) → v .level n ≡ suc k → So (K (v .up n))
 
-  pub below-remain : (a b : ℕ) → So (K a) → below v′ a b ≡ below v a b
-  below-remain = below-stays v v′ K f stays
+module _ {v v′ : View} {K : ℕ → Bool} (f : Facts v) (w : Tree v v′ K) where
+  climb-stays : (k a b : ℕ) → So (K a) → v .level a ≡ k → climb (v′ .up) k a b ≡ climb (v .up) k a b
+  unfolding climb
+  climb-stays zero a b h e = refl
+  climb-stays (suc k) a b h e =
+      ap (λ (x : Bool). elim (eqb a b) [ true ↦ true | false ↦ x ])
+      (ap (λ x. climb (v′ .up) k x b) (w .ups a h) ∙ climb-stays k (v .up a) b (w .up-kept a k h e) (up-level v f a k e))
 
-  pub taken-remain : (i : ℕ) → So (Q i) → taken v′ i ≡ taken v i
-  unfolding taken
-  taken-remain i h = ap (λ x. not (eqb x 0)) (w .pids i 0 h)
+  -- "below" stays
+  pub below-stays : (a b : ℕ) → So (K a) → below v′ a b ≡ below v a b
+  unfolding below
+  below-stays a b h = ap (λ k. climb (v′ .up) k a b) (w .levels a h) ∙ climb-stays (v .level a) a b h refl
 
+  -- a namespace of K stands
+  pub stands : (n : ℕ) → So (K n) → So (namespace-taken v n) → So (namespace-taken v′ n)
+  unfolding namespace-taken
+  stands n h k = ap (λ x. eqb n 0 or not (eqb x 0)) (w .levels n h) ∙ k
+
+  -- their names, where they keep their lives and the inits that names rest on their numbers
+  module _ (lives : (n : ℕ) → So (K n) → v′ .life n ≡ v .life n) (s : ℕ) (inits : (m : ℕ) → So (K m) → pid-in v′ s (init v m) ≡ pid-in v s (init v m)) where
+    near-stays : (k n : ℕ) → So (K n) → v .level n ≡ k → nearest (v′ .life) (v′ .up) k n ≡ nearest (v .life) (v .up) k n
+    unfolding nearest
+    near-stays zero n h e = refl
+    near-stays (suc k) n h e =
+        ap₂ (λ (b : Bool) (x : ℕ). elim b [ true ↦ n | false ↦ x ]) (ap is-alive (lives n h))
+        (ap (λ x. nearest (v′ .life) (v′ .up) k x) (w .ups n h) ∙ near-stays k (v .up n) (w .up-kept n k h e) (up-level v f n k e))
+
+    near-kept : (k n : ℕ) → So (K n) → v .level n ≡ k → So (K (nearest (v .life) (v .up) k n))
+    unfolding nearest
+    near-kept zero n h e = h
+    near-kept (suc k) n h e = choose (λ m. So (K m)) (is-alive (v .life n)) (λ a. h) (λ a. near-kept k (v .up n) (w .up-kept n k h e) (up-level v f n k e))
+
+    by-stays : (n : ℕ) → So (K n) → (l : Life) → v .life n ≡ l → name-by v′ s n l ≡ name-by v s n l
+    unfolding name-by
+    by-stays n hn Unborn e = refl
+    by-stays n hn (Alive i) e = ap by-init (subst (λ x. pid-in v′ s x ≡ pid-in v s x) (ap init-of e) (inits n hn))
+    by-stays n hn Dead e =
+        let near = ap (λ k. nearest (v′ .life) (v′ .up) k n) (w .levels n hn) ∙ near-stays (v .level n) n hn refl in
+        let kept = near-kept (v .level n) n hn refl in
+        ap₂ dead-at (w .levels n hn) (ap (pid-in v′ s) (ap init-of (ap (v′ .life) near ∙ lives (anchor v n) kept)) ∙ inits (anchor v n) kept)
+
+    pub name-stays : (n : ℕ) → So (K n) → name v′ s n ≡ name v s n
+    unfolding name
+    name-stays n hn = ap (λ y. if eqb n no-slot then no-name else y) (ap (name-by v′ s n) (lives n hn) ∙ by-stays n hn (v .life n) refl)
+
+-- ---- processes
+
+-- the processes of Q keep own namespace and numbers, the others are gone; the namespaces of K keep their places
+pub record Places (v v′ : View) (K Q : ℕ → Bool) : Type 0 where
+  pub tree : Tree v v′ K
+  pub owns : (i : ℕ) → So (Q i) → v′ .own i ≡ v .own i
+  pub pids : (i l : ℕ) → So (Q i) → v′ .pid i l ≡ v .pid i l
+  pub gone : (i : ℕ) → Q i ≡ false → taken v′ i ≡ false
+  pub own-kept : (i : ℕ) → So (Q i) → So (taken v i) → So (K (v .own i))
+
+module _ {v v′ : View} {K Q : ℕ → Bool} (f : Facts v) (w : Places v v′ K Q) where
   -- who remains is seen as before
   pub seen-remain : (n i : ℕ) → So (Q i) → seen v′ n i ≡ seen v n i
-  unfolding seen
-  seen-remain n i h = go (taken v i) refl
-    where
-      go : (b : Bool) → taken v i ≡ b → taken v′ i and below v′ (v′ .own i) n ≡ taken v i and below v (v .own i) n
-      go true e = ap₂ _and_ (taken-remain i h) (ap (λ x. below v′ x n) (w .owns i h) ∙ below-remain (v .own i) n (w .own-kept i h e))
-      go false e = rw (taken-remain i h ∙ e, e) (and-false (below v′ (v′ .own i) n) ∙ sym (and-false (below v (v .own i) n)))
+  unfolding seen taken
+  seen-remain n i h =
+      let kept = ap (λ x. not (eqb x 0)) (w .pids i 0 h) in
+      by-test (taken v i) (λ e. ap₂ _and_ kept (ap (λ x. below v′ x n) (w .owns i h) ∙ below-stays f (w .tree) (v .own i) n (w .own-kept i h e)))
+      (λ e. rw (kept ∙ e, e) (and-false (below v′ (v′ .own i) n) ∙ sym (and-false (below v (v .own i) n))))
 
-  pub seen-gone : (n i : ℕ) → Q i ≡ false → seen v′ n i ≡ false
+  seen-gone : (n i : ℕ) → Q i ≡ false → seen v′ n i ≡ false
   unfolding seen
   seen-gone n i h = rw (w .gone i h) (and-false (below v′ (v′ .own i) n))
 
+  -- all whom S sees remaining, it sees the same
+  pub seen-same : (s : ℕ) → ((i : ℕ) → So (seen v s i) → So (Q i)) → (i : ℕ) → seen v′ s i ≡ seen v s i
+  seen-same s h i = by-test (Q i) (seen-remain s i) (λ q. seen-gone s i q ∙ sym (isnt-so (λ k. no-so q (h i k))))
+
   -- who is seen then, remains
-  pub remains : (n i : ℕ) → So (seen v′ n i) → So (Q i)
-  remains n i h = go (Q i) refl
-    where
-      go : (b : Bool) → Q i ≡ b → b ≡ true
-      go true e = refl
-      go false e = absurd (false≢true (sym (seen-gone n i e) ∙ h))
+  remains : (n i : ℕ) → So (seen v′ n i) → So (Q i)
+  remains n i h = by-test (Q i) (λ q. q) (λ q. absurd (no-so (seen-gone n i q) h))
 
   pub pid-remain : (n i : ℕ) → So (K n) → So (Q i) → pid-seen v′ n i ≡ pid-seen v n i
   unfolding pid-seen
-  pid-remain n i k h = ap (v′ .pid i) (w .levels n k) ∙ w .pids i (v .level n) h
+  pid-remain n i k h = ap (v′ .pid i) (w .tree .levels n k) ∙ w .pids i (v .level n) h
 
   pub pid-in-remain : (n i : ℕ) → So (K n) → So (Q i) → pid-in v′ n i ≡ pid-in v n i
   unfolding pid-in
   pid-in-remain n i k h = ap₂ (λ (b : Bool) (x : ℕ). if b then x else 0) (seen-remain n i h) (pid-remain n i k h)
 
-  pub name-remain : (s n : ℕ) → So (K s) → So (K n) → So (namespace-taken v n) → name v′ s n ≡ name v s n
-  name-remain s n hs = name-stays v v′ K f stays s (λ m k a. pid-in-remain s (init v m) hs (w .init-kept m k a)) n
+  -- the numbers that a row shows
+  pub pids-remain : (s i : ℕ) → So (K s) → So (Q i) → values (v′ .pid i) (levels - v′ .level s) (v′ .level s) ≡ values (v .pid i) (levels - v .level s) (v .level s)
+  pids-remain s i k h = ap₂ (λ (p : ℕ → ℕ) (l : ℕ). values p (levels - l) l) (fun-ext (λ l. w .pids i l h)) (w .tree .levels s k)
+
+-- two tables, of twins both remaining or none
+module _ {v u v′ u′ : View} {s r : ℕ} (w : Pair v u s r) {K Q K′ Q′ : ℕ → Bool} (a : Places v v′ K Q) (b : Places u u′ K′ Q′) (hs : So (K s)) (hr : So (K′ r)) (alike : (i j : ℕ) → Twin v u s r i j → Q i ≡ Q′ j) where
+  pub twin-remain : {i j : ℕ} → Twin v u s r i j → So (Q i) → Twin v′ u′ s r i j
+  twin-remain {i} {j} k q =
+      let q′ = sym (alike i j k) ∙ q in
+      record {
+        seen-v = seen-remain (w .facts-v) a s i q ∙ k .seen-v;
+        seen-u = seen-remain (w .facts-u) b r j q′ ∙ k .seen-u;
+        pids = pid-remain (w .facts-v) a s i hs q ∙ k .pids ∙ sym (pid-remain (w .facts-u) b r j hr q′);
+      }
+
+  -- they stay the same to S if the rows of who remains do
+  pub same-rows : ((i j : ℕ) → Twin v u s r i j → So (Q i) → row v′ s i ≡ row u′ r j) → Same v′ u′ s r
+  same-rows rows =
+      record {
+        levels = a .tree .levels s hs ∙ w .same .levels ∙ sym (b .tree .levels r hr);
+        there =
+            λ i k.
+            let q = remains (w .facts-v) a s i k in
+            let (j, p) = twin-there w i (sym (seen-remain (w .facts-v) a s i q) ∙ k) in
+            (j, twin-remain p q .seen-u, rows i j p q);
+        back =
+            λ j k.
+            let q′ = remains (w .facts-u) b r j k in
+            let (i, p) = twin-there (flip-pair w) j (sym (seen-remain (w .facts-u) b r j q′) ∙ k) in
+            let q = alike i j (flip-twin p) ∙ q′ in
+            (i, twin-remain (flip-twin p) q .seen-v, rows i j (flip-twin p) q);
+      }
+
+-- ---- rows
+
+-- the namespaces of K keep their lives too, and their inits remain
+pub record Remain (v v′ : View) (K Q : ℕ → Bool) : Type 0 where
+  pub places : Places v v′ K Q
+  pub lives : (n : ℕ) → So (K n) → v′ .life n ≡ v .life n
+  pub inits : (n : ℕ) → So (K n) → So (Q (init v n))
+
+-- a row by what may change
+abbrev pub lit : View → ℕ → ℕ → State → ℕ → ℕ → Bool → ℕ → Name → ℕ → Row
+lit v s i st h q m p c z = record { pids = values (v .pid i) (levels - v .level s) (v .level s); state = st; handled = h; pending = q; unshared = m; parent = p; own = name v s (v .own i); children = c; last = z }
+
+module _ {v v′ : View} {K Q : ℕ → Bool} (f : Facts v) (w : Remain v v′ K Q) where
+  pub name-remain : (s n : ℕ) → So (K s) → So (K n) → name v′ s n ≡ name v s n
+  name-remain s n hs = name-stays f (w .places .tree) (w .lives) s (λ m k. pid-in-remain f (w .places) s (init v m) hs (w .inits m k)) n
 
   -- the row of one that remains, but for what may change
   pub row-remain : (s i : ℕ) → So (K s) → So (Q i) → So (taken v i) → row v′ s i ≡ lit v s i (v′ .state i) (v′ .handled i) (v′ .pending i) (v′ .unshared i) (pid-in v′ s (v′ .parent i)) (name v′ s (v′ .children i)) (if is-init v i then v′ .last (v .own i) else 0)
   unfolding row is-init
   row-remain s i hs h ht =
+      let own = w .places .owns i h in
+      let kept = w .places .own-kept i h ht in
       λ k. record {
-        pids = values (fun-ext (λ l. w .pids i l h) k) (levels - w .levels s hs k) (w .levels s hs k);
+        pids = pids-remain f (w .places) s i hs h k;
         state = v′ .state i;
         handled = v′ .handled i;
         pending = v′ .pending i;
         unshared = v′ .unshared i;
         parent = pid-in v′ s (v′ .parent i);
-        own = (ap (name v′ s) (w .owns i h) ∙ name-remain s (v .own i) hs (w .own-kept i h ht) (own-taken v f i ht)) k;
+        own = (ap (name v′ s) own ∙ name-remain s (v .own i) hs kept) k;
         children = name v′ s (v′ .children i);
-        last = (ap (λ (n : ℕ). if eqb (init v′ n) i then v′ .last n else 0) (w .owns i h) ∙ ap (λ (x : Life). if eqb (init-of x) i then v′ .last (v .own i) else 0) (w .lives (v .own i) (w .own-kept i h ht))) k;
+        last = (ap (λ (n : ℕ). if eqb (init v′ n) i then v′ .last n else 0) own ∙ ap (λ (x : Life). if eqb (init-of x) i then v′ .last (v .own i) else 0) (w .lives (v .own i) kept)) k;
       }
-
--- ---- two tables
 
 -- what may change is the same for a pair of twins that remain
 pub record Lit (v u v′ u′ : View) (s r i j : ℕ) : Type 0 where
@@ -107,25 +192,14 @@ pub record Lit (v u v′ u′ : View) (s r i j : ℕ) : Type 0 where
   pub childrens : name v′ s (v′ .children i) ≡ name u′ r (u′ .children j)
   pub lasts : (if is-init v i then v′ .last (v .own i) else 0) ≡ (if is-init u j then u′ .last (u .own j) else 0)
 
-lit-same : (v u : View) (s r i j : ℕ) → row v s i ≡ row u r j → {st st′ : State} {h h′ q q′ p p′ z z′ : ℕ} {m m′ : Bool} {c c′ : Name} → st ≡ st′ → h ≡ h′ → q ≡ q′ → m ≡ m′ → p ≡ p′ → c ≡ c′ → z ≡ z′ → lit v s i st h q m p c z ≡ lit u r j st′ h′ q′ m′ p′ c′ z′
+-- two tables that were the same to S still are, if what may change is the same
+pub same-remain : {v u v′ u′ : View} {s r : ℕ} (w : Pair v u s r) {K Q K′ Q′ : ℕ → Bool} (a : Remain v v′ K Q) (b : Remain u u′ K′ Q′) → So (K s) → So (K′ r) → ((i j : ℕ) → Twin v u s r i j → Q i ≡ Q′ j) → ((i j : ℕ) → Twin v u s r i j → So (Q i) → Lit v u v′ u′ s r i j) → Same v′ u′ s r
 unfolding row
-lit-same v u s r i j e es eh eq em ep ec ez =
-    λ k. record { pids = e k .pids; state = es k; handled = eh k; pending = eq k; unshared = em k; parent = ep k; own = e k .own; children = ec k; last = ez k }
-
-module _ (v u v′ u′ : View) (s r : ℕ) (w : Pair v u s r) (K Q K′ Q′ : ℕ → Bool) (a : Remain v v′ K Q) (b : Remain u u′ K′ Q′) (hs : So (K s)) (hr : So (K′ r)) (both-remain : (i j : ℕ) → Twin v u s r i j → Q i ≡ Q′ j) (h : (i j : ℕ) → Twin v u s r i j → So (Q i) → Lit v u v′ u′ s r i j) where
-  remain-rows : (i j : ℕ) → Twin v u s r i j → So (Q i) → row v′ s i ≡ row u′ r j
-  remain-rows i j k q =
-      row-remain v v′ K Q (w .facts-v) a s i hs q (seen-taken v s i (k .seen-v))
-      ∙ lit-same v u s r i j (twin-rows v u s r w i j k) (h i j k q .states) (h i j k q .handleds) (h i j k q .pendings) (h i j k q .marks) (h i j k q .parents) (h i j k q .childrens) (h i j k q .lasts)
-      ∙ sym (row-remain u u′ K′ Q′ (w .facts-u) b r j hr (sym (both-remain i j k) ∙ q) (seen-taken u r j (k .seen-u)))
-
-  -- two tables that were the same to S still are, if what may change is the same
-  pub same-remain : Same v′ u′ s r
-  same-remain =
-      same-rows v u v′ u′ s r w Q Q′ (a .levels s hs) (b .levels r hr) (seen-remain v v′ K Q (w .facts-v) a s) (remains v v′ K Q (w .facts-v) a s)
-      (seen-remain u u′ K′ Q′ (w .facts-u) b r) (remains u u′ K′ Q′ (w .facts-u) b r) both-remain remain-rows
-
--- a namespace of K stands
-pub standing : (v v′ : View) (K Q : ℕ → Bool) → Remain v v′ K Q → (n : ℕ) → So (K n) → So (namespace-taken v n) → So (namespace-taken v′ n)
-unfolding namespace-taken
-standing v v′ K Q w n h k = ap (λ x. eqb n 0 or not (eqb x 0)) (w .levels n h) ∙ k
+same-remain {v} {u} {s} {r} w a b hs hr alike h =
+    same-rows w (a .places) (b .places) hs hr alike
+    (λ i j k q.
+    let e = twin-rows w k in
+    let l = h i j k q in
+    row-remain (w .facts-v) a s i hs q (taken-v k)
+    ∙ (λ z. record { pids = e z .pids; state = l .states z; handled = l .handleds z; pending = l .pendings z; unshared = l .marks z; parent = l .parents z; own = e z .own; children = l .childrens z; last = l .lasts z })
+    ∙ sym (row-remain (w .facts-u) b r j hr (sym (alike i j k) ∙ q) (taken-u k)))

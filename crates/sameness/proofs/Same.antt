@@ -2,17 +2,15 @@
 use Prim.Native.Nat.{ℕ, zero, suc, _+_, _-_, _<_}
 use native.Mathlib.Omega.{arith}
 use mathlib.Core.Bool.{So}
-use mathlib.Core.List.{map, []}
-use mathlib.Core.Logic.{_⊎_, inl, inr}
+use mathlib.Core.List.{map}
 use mathlib.Core.Path.{_≡_, sym, _∙_, ap, subst}
 use lib.ListN.{getD}
 use Rattle.rules.proofs.Laws.Below.{level-deepest}
 use Rattle.rules.proofs.Laws.Facts.{Facts, seen-taken}
-use Rattle.rules.proofs.Laws.Find.{Found, find-cases}
 use Rattle.rules.proofs.Laws.Lists.{In, in-map, map-in, in-ascending, ascending-in, ascending-sorted, Sorted, map-sorted, sorted-unique}
 use Rattle.rules.proofs.Laws.Slots.{pid-unique}
 use Rattle.table.specs.Limits.{levels, process-slots}
-use Rattle.rules.specs.Read.{View, all-seen, namespace-taken, pid-seen, seen, pid-in, is-init, find}
+use Rattle.rules.specs.Read.{View, all-seen, namespace-taken, pid-seen, seen, pid-in, is-init}
 use Rattle.sameness.specs.Sheet.{Row, row, sheet, name}
 use Rattle.table.specs.Tests.{values, if_then_else_}
 
@@ -38,53 +36,49 @@ row-key v s i l =
     let e : v .level s + 0 ≡ v .level s = omega arith in
     getD-values (v .pid i) (levels - v .level s) (v .level s) 0 (omega arith) ∙ ap (v .pid i) e
 
-pub level-lt : (v : View) → Facts v → (s : ℕ) → So (namespace-taken v s) → v .level s < levels
-level-lt v f s h = omega (arith, level-deepest v f s h)
+pub level-lt : {v : View} → Facts v → (s : ℕ) → So (namespace-taken v s) → v .level s < levels
+level-lt {v} f s h = omega (arith, level-deepest v f s h)
 
-pub seen-listed : (v : View) → Facts v → (s i : ℕ) → So (seen v s i) → In i (all-seen v s)
+pub seen-listed : {v : View} → Facts v → (s i : ℕ) → So (seen v s i) → In i (all-seen v s)
 unfolding all-seen
-seen-listed v f s i h = in-ascending _ _ process-slots i (f .in-range i (seen-taken v s i h)) h
+seen-listed {v} f s i h = in-ascending _ _ process-slots i (f .in-range i (seen-taken v s i h)) h
 
 pub listed-seen : (v : View) (s i : ℕ) → In i (all-seen v s) → So (seen v s i)
 unfolding all-seen
 listed-seen v s i h = ascending-in _ _ process-slots i h .1
 
 -- from the sheets
-one-way : (v u : View) (s r : ℕ) → Facts v → sheet v s ≡ sheet u r → (i : ℕ) → So (seen v s i) → (j : ℕ) × So (seen u r j) × (row v s i ≡ row u r j)
+one-way : {v : View} (u : View) (s r : ℕ) → Facts v → sheet v s ≡ sheet u r → (i : ℕ) → So (seen v s i) → (j : ℕ) × So (seen u r j) × (row v s i ≡ row u r j)
 unfolding sheet
-one-way v u s r h e i k =
-    let (j, m, q) = map-in (row u r) (row v s i) (all-seen u r) (subst (In (row v s i)) (ap (λ x. x .rows) e) (in-map (row v s) i (all-seen v s) (seen-listed v h s i k))) in
+one-way {v} u s r h e i k =
+    let (j, m, q) = map-in (row u r) (row v s i) (all-seen u r) (subst (In (row v s i)) (ap (λ x. x .rows) e) (in-map (row v s) i (all-seen v s) (seen-listed h s i k))) in
     (j, listed-seen u r j m, q)
 
 -- equal sheets, and the same rows
-pub same-of-sheets : (v u : View) (s r : ℕ) → Facts v → Facts u → sheet v s ≡ sheet u r → Same v u s r
+pub same-of-sheets : {v u : View} {s r : ℕ} → Facts v → Facts u → sheet v s ≡ sheet u r → Same v u s r
 unfolding sheet
-same-of-sheets v u s r h g e =
-    record {
-      levels = ap (λ x. x .level) e;
-      there = one-way v u s r h e;
-      back = λ j k. let (i, m, q) = one-way u v r s g (sym e) j k in (i, m, sym q);
-    }
+same-of-sheets {v} {u} {s} {r} h g e =
+    record { levels = ap (λ x. x .level) e; there = one-way u s r h e; back = λ j k. let (i, m, q) = one-way v r s g (sym e) j k in (i, m, sym q) }
 
 -- and back
-rows-sorted : (v : View) (s : ℕ) → Facts v → So (namespace-taken v s) → Sorted key (map (row v s) (all-seen v s))
+rows-sorted : {v : View} (s : ℕ) → Facts v → So (namespace-taken v s) → Sorted key (map (row v s) (all-seen v s))
 unfolding all-seen
-rows-sorted v s h k =
-    map-sorted (row v s) (pid-seen v s) key (all-seen v s) (λ i m. row-key v s i (level-lt v h s k))
+rows-sorted {v} s h k =
+    map-sorted (row v s) (pid-seen v s) key (all-seen v s) (λ i m. row-key v s i (level-lt h s k))
     (ascending-sorted (seen v s) (pid-seen v s) process-slots (λ i j l m p q e. omega (arith, pid-unique v h s i j k p q e)))
 
-rows-in : (v u : View) (s r : ℕ) → Facts u → ((i : ℕ) → So (seen v s i) → (j : ℕ) × So (seen u r j) × (row v s i ≡ row u r j)) → (x : Row) → In x (map (row v s) (all-seen v s)) → In x (map (row u r) (all-seen u r))
-rows-in v u s r g h x m =
+rows-in : (v : View) {u : View} (s r : ℕ) → Facts u → ((i : ℕ) → So (seen v s i) → (j : ℕ) × So (seen u r j) × (row v s i ≡ row u r j)) → (x : Row) → In x (map (row v s) (all-seen v s)) → In x (map (row u r) (all-seen u r))
+rows-in v {u} s r g h x m =
     let (i, n, e) = map-in (row v s) x (all-seen v s) m in
     let (j, k, q) = h i (listed-seen v s i n) in
-    subst (λ y. In y (map (row u r) (all-seen u r))) (sym (e ∙ q)) (in-map (row u r) j (all-seen u r) (seen-listed u g r j k))
+    subst (λ y. In y (map (row u r) (all-seen u r))) (sym (e ∙ q)) (in-map (row u r) j (all-seen u r) (seen-listed g r j k))
 
-pub sheets-of-same : (v u : View) (s r : ℕ) → Facts v → Facts u → So (namespace-taken v s) → So (namespace-taken u r) → Same v u s r → sheet v s ≡ sheet u r
+pub sheets-of-same : {v u : View} {s r : ℕ} → Facts v → Facts u → So (namespace-taken v s) → So (namespace-taken u r) → Same v u s r → sheet v s ≡ sheet u r
 unfolding sheet
-sheets-of-same v u s r h g hs hr w =
+sheets-of-same {v} {u} {s} {r} h g hs hr w =
     λ i. record {
       level = w .levels i;
-      rows = sorted-unique key (map (row v s) (all-seen v s)) (map (row u r) (all-seen u r)) (rows-sorted v s h hs) (rows-sorted u r g hr) (rows-in v u s r g (w .there)) (rows-in u v r s h (λ j k. let (i, m, q) = w .back j k in (i, m, sym q))) i;
+      rows = sorted-unique key (map (row v s) (all-seen v s)) (map (row u r) (all-seen u r)) (rows-sorted s h hs) (rows-sorted r g hr) (rows-in v s r g (w .there)) (rows-in u r s h (λ j k. let (i, m, q) = w .back j k in (i, m, sym q))) i;
     }
 
 -- a row by its parts
@@ -93,8 +87,8 @@ unfolding row
 row-by v u s r i j a b c d e f g h z =
     λ k. record { pids = a k; state = b k; handled = c k; pending = d k; unshared = e k; parent = f k; own = g k; children = h k; last = z k }
 
-pub same-trans : (v u x : View) (s r q : ℕ) → Same v u s r → Same u x r q → Same v x s q
-same-trans v u x s r q a b =
+pub same-trans : {v u x : View} {s r q : ℕ} → Same v u s r → Same u x r q → Same v x s q
+same-trans a b =
     record {
       levels = a .levels ∙ b .levels;
       there = λ i k. let (j, m, e) = a .there i k in let (l, n, g) = b .there j m in (l, n, e ∙ g);
@@ -105,32 +99,3 @@ same-trans v u x s r q a b =
 
 pub row-pid : (v u : View) (s r i j : ℕ) → v .level s < levels → u .level r < levels → row v s i ≡ row u r j → pid-seen v s i ≡ pid-seen u r j
 row-pid v u s r i j l m e = sym (row-key v s i l) ∙ ap key e ∙ row-key u r j m
-
-pub record Callers (v u : View) (s r i j : ℕ) : Type 0 where
-  pub seen-t : So (seen v s i)
-  pub seen-u : So (seen u r j)
-  pub pids : pid-seen v s i ≡ pid-seen u r j
-  pub lt-t : i < process-slots
-  pub lt-u : j < process-slots
-
--- a number finds the same row, or nobody
-pub find-same : (v u : View) (s r k : ℕ) → Facts v → Facts u → So (namespace-taken v s) → So (namespace-taken u r) → sheet v s ≡ sheet u r → ((find v s k ≡ process-slots) × (find u r k ≡ process-slots)) ⊎ Callers v u s r (find v s k) (find u r k)
-find-same v u s r k h g hs hr e = go (find-cases v s k) (find-cases u r k)
-  where
-    w : Same v u s r
-    w = same-of-sheets v u s r h g e
-
-    go : Found v s k (find v s k) → Found u r k (find u r k) → ((find v s k ≡ process-slots) × (find u r k ≡ process-slots)) ⊎ Callers v u s r (find v s k) (find u r k)
-    go (inl (a, b, c)) (inl (x, y, z)) = inr (record { seen-t = a; seen-u = x; pids = b ∙ sym y; lt-t = c; lt-u = z })
-    go (inl (a, b, c)) (inr (x, y)) = let (j, m, q) = w .there _ a in absurd (y j (g .in-range j (seen-taken u r j m)) m (sym (row-pid v u s r _ j (level-lt v h s hs) (level-lt u g r hr) q) ∙ b))
-    go (inr (a, b)) (inl (x, y, z)) = let (i, m, q) = w .back _ x in absurd (b i (h .in-range i (seen-taken v s i m)) m (row-pid v u s r i _ (level-lt v h s hs) (level-lt u g r hr) q ∙ y))
-    go (inr (a, b)) (inr (x, y)) = inl (a, x)
-
--- A sheet with no rows has nobody to find.
-pub find-none : (v : View) (s k : ℕ) → Facts v → sheet v s .rows ≡ [] → find v s k ≡ process-slots
-unfolding sheet
-find-none v s k h e = go (find-cases v s k)
-  where
-    go : Found v s k (find v s k) → find v s k ≡ process-slots
-    go (inl (a, b, c)) = absurd (subst (In (row v s (find v s k))) e (in-map (row v s) _ (all-seen v s) (seen-listed v h s _ a)))
-    go (inr (a, b)) = a

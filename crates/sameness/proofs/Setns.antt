@@ -1,10 +1,9 @@
 -- setns: by twin callers, and by an outsider.
-use Prim.Native.Nat.{ℕ, zero, suc, _<_}
-use native.Mathlib.Omega.{arith}
-use mathlib.Core.Bool.{Bool, true, false, So}
-use mathlib.Core.Logic.{_⊎_, inl, inr}
-use mathlib.Core.Path.{_≡_, refl, sym, ap}
-use borrow.Author.Tests.{eq-eqb, ne-eqb, eqb-false}
+use Prim.Native.Nat.{ℕ, zero, suc}
+use mathlib.Core.Bool.{So}
+use mathlib.Core.Logic.{inl, inr}
+use mathlib.Core.Path.{_∙_, refl, sym, ap}
+use borrow.Author.Tests.{eq-eqb, eqb-false}
 use lib.Dec.{eqb}
 use lib.IntN.{ℤ, pos, negsuc}
 use Rattle.rules.proofs.Keeps.Changes.{setns-sane}
@@ -12,88 +11,68 @@ use Rattle.rules.proofs.Laws.Facts.{facts}
 use Rattle.rules.proofs.Laws.Find.{named-seen}
 use Rattle.rules.proofs.Laws.Steps.{runs-lives}
 use Rattle.rules.proofs.Laws.Tests.{or-false-left}
-use Rattle.sameness.proofs.Calls.{shown, both-refuse, owns-twins, lt-t, lt-u, same-put}
-use Rattle.sameness.proofs.Freeing.{freed-alike, freed-leaves}
-use Rattle.sameness.proofs.Inside.{Kept, Ready, MadeSame}
-use Rattle.sameness.proofs.Outside.{MadeLeaves, as-it-was, outsider}
-use Rattle.sameness.proofs.Readers.{find-twins, ended-twins}
-use Rattle.sameness.proofs.Still.{same-still, near, put-still}
-use Rattle.sameness.proofs.Twins.{Twin, twin-rows}
+use Rattle.sameness.proofs.Cases.{by-test}
+use Rattle.sameness.proofs.Calls.{Kept, Ready, MadeSame, MadeLeaves, as-it-was, outsider, both-refuse, owns-twins}
+use Rattle.sameness.proofs.Light.{shown, same-put}
+use Rattle.sameness.proofs.Freeing.{freed-alike, freed-still}
+use Rattle.sameness.proofs.Readers.{NobodyOrTwins, find-twins, ended-twins, slot-v}
+use Rattle.sameness.proofs.Still.{put-still}
+use Rattle.sameness.proofs.Twins.{flip-pair, flip-twin, Twin, twin-rows}
 use Rattle.rules.specs.Answers.{answers, granted, refused}
 use Rattle.rules.specs.Calls.{named, set-children, setns}
-use Rattle.sameness.specs.Events.{sheet-of, follow, at}
 use Rattle.table.specs.Limits.{process-slots}
 use Rattle.table.specs.Slots.{process}
 use Rattle.rules.specs.Read.{view, seen, namespace-taken}
 use Rattle.rules.specs.Records.{with-children}
-use Rattle.sameness.specs.Sheet.{Row, row, sheet}
+use Rattle.sameness.specs.Sheet.{Row, row}
 use Rattle.rules.specs.Step.{make}
 use Rattle.table.specs.Tests.{_or_}
 use Rattle.table.specs.declared.Call.the-variants.{Setns}
 use Rattle.table.specs.declared.Refusal.the-variants.{Esrch}
 use Rattle.table.specs.declared.Table.{Table}
 
--- nobody by the number on both tables, or a pair of twins
-abbrev pub Named : Table → Table → ℕ → ℕ → ℕ → ℕ → Type 0
-Named t u s r x y = ((x ≡ process-slots) × (y ≡ process-slots)) ⊎ (Twin (view t) (view u) s r x y × (x < process-slots) × (y < process-slots))
-
 -- a number names twins, or nobody
-pub named-twins : (t u : Table) (s r i j : ℕ) → Ready t u s r i j → (z : ℤ) → Named t u s r (named (view t) i z) (named (view u) j z)
+pub named-twins : {t u : Table} {s r i j : ℕ} → Ready t u s r i j → (z : ℤ) → NobodyOrTwins (view t) (view u) s r (named (view t) i z) (named (view u) j z)
 unfolding named
-named-twins t u s r i j w (pos zero) = inl (refl, refl)
-named-twins t u s r i j w (pos (suc k)) = find-twins (view t) (view u) s r (w .pair) _ _ (suc k) (owns-twins t u s r i j w)
-named-twins t u s r i j w (negsuc k) = inl (refl, refl)
+named-twins w (pos zero) = inl (refl, refl)
+named-twins w (pos (suc k)) = find-twins (w .pair) (suc k) (owns-twins w)
+named-twins w (negsuc k) = inl (refl, refl)
 
-module _ (t u : Table) (s r i j : ℕ) (w : Ready t u s r i j) where
+module _ {t u : Table} {s r i j : ℕ} (w : Ready t u s r i j) where
   -- both callers take the own namespaces of two twins that they see
-  set-children-kept : (x y : ℕ) → Twin (view t) (view u) s r x y → So (seen (view t) (view t .own i) x) → So (seen (view u) (view u .own j) y) → Kept t u s r (answers (set-children t i (view t .own x) (process t i .unshared)) 0) (answers (set-children u j (view u .own y) (process u j .unshared)) 0)
+  set-children-kept : {x y : ℕ} → Twin (view t) (view u) s r x y → So (seen (view t) (view t .own i) x) → So (seen (view u) (view u .own j) y) → Kept t u s r (answers (set-children t i (view t .own x) (process t i .unshared)) 0) (answers (set-children u j (view u .own y) (process u j .unshared)) 0)
   unfolding set-children row answers granted
-  set-children-kept x y k sx sy =
-      let z = shown t u s r (w .pair) i j (w .twin) in
+  set-children-kept {x} {y} k sx sy =
+      let z = shown t u (w .pair) (w .twin) in
       let a = setns-sane t (w .sound-t) i x (process t i .unshared) (runs-lives t i (w .runs-t)) sx in
       let b = setns-sane u (w .sound-u) j y (process u j .unshared) (runs-lives u j (w .runs-u)) sy in
       inr (
         refl,
-        freed-alike t u _ _ a b s r
-            (record {
-              facts-v = a .facts;
-              facts-u = b .facts;
-              alive-v = w .pair .alive-v;
-              alive-u = w .pair .alive-u;
-              same =
-                  same-put t u s r i j (w .pair) (w .twin) (lt-t t u s r i j w) (lt-u t u s r i j w) _ _ (record { owns = refl; parents = refl; pids = refl }) (record { owns = refl; parents = refl; pids = refl })
-                  (record { states = z .states; handleds = z .handleds; pendings = z .pendings; marks = z .marks; childrens = ap (λ (q : Row). q .own) (twin-rows (view t) (view u) s r (w .pair) x y k) });
-            }),
+        freed-alike t u a b (w .pair .alive-v) (w .pair .alive-u)
+            (same-put t u (w .pair) (w .twin) (w .sound-t .shape) (w .sound-u .shape)
+            (record { states = z .states; handleds = z .handleds; pendings = z .pendings; marks = z .marks; childrens = ap (λ (q : Row). q .own) (twin-rows (w .pair) k) })
+            (refl, refl, refl) (refl, refl, refl)),
       )
 
 -- setns by twin callers
 pub setns-same : (z : ℤ) → MadeSame (Setns z)
 unfolding MadeSame make setns _or_ answers granted
-setns-same z t u s r i j w h g = go (named-twins t u s r i j w z)
+setns-same z t u s r i j w h g = go (named-twins w z)
   where
-    x : ℕ
-    x = named (view t) i z
-
-    y : ℕ
-    y = named (view u) j z
-
-    either : (a : Twin (view t) (view u) s r x y) → eqb x process-slots ≡ false → eqb y process-slots ≡ false → (b : Bool) → view t .ended x ≡ b → view u .ended y ≡ b → Kept t u s r (setns t i z) (setns u j z)
-    either a ex ey true e d = rw (ex, ey, e, d, setns) (both-refuse t u s r i j w Esrch)
-    either a ex ey false e d = rw (ex, ey, e, d, setns) (set-children-kept t u s r i j w x y a (named-seen (view t) i z (eqb-false _ _ ex)) (named-seen (view u) j z (eqb-false _ _ ey)))
-
-    go : Named t u s r x y → Kept t u s r (setns t i z) (setns u j z)
-    go (inl (e, d)) = rw (eq-eqb x process-slots e, eq-eqb y process-slots d, setns) (both-refuse t u s r i j w Esrch)
-    go (inr (a, l, m)) =
-        either a (ne-eqb x process-slots (λ e. omega (arith, e))) (ne-eqb y process-slots (λ e. omega (arith, e))) (view t .ended x) refl (sym (ended-twins (view t) (view u) s r (w .pair) x y a))
+    go : NobodyOrTwins (view t) (view u) s r (named (view t) i z) (named (view u) j z) → Kept t u s r (setns t i z) (setns u j z)
+    go (inl (e, d)) = rw (eq-eqb _ _ e, eq-eqb _ _ d, setns) (both-refuse w Esrch)
+    go (inr a) =
+        let ex = slot-v (w .pair) a in
+        let ey = slot-v (flip-pair (w .pair)) (flip-twin a) in
+        let both-ended = ended-twins (w .pair) a in
+        by-test (view t .ended (named (view t) i z)) (λ e. rw (ex, ey, e, sym both-ended ∙ e, setns) (both-refuse w Esrch))
+        (λ e. rw (ex, ey, e, sym both-ended ∙ e, setns) (set-children-kept w a (named-seen (view t) i z (eqb-false _ _ ex)) (named-seen (view u) j z (eqb-false _ _ ey))))
 
 -- by an outsider
 pub setns-leaves : (z : ℤ) → MadeLeaves (Setns z)
 unfolding MadeLeaves make setns set-children answers granted refused namespace-taken
-setns-leaves z t s i h hs k a g = go (eqb (named (view t) i z) process-slots or view t .ended (named (view t) i z)) refl
-  where
-    go : (b : Bool) → eqb (named (view t) i z) process-slots or view t .ended (named (view t) i z) ≡ b → sheet-of (setns t i z .table) (follow t (setns t i z .table) (at s)) ≡ sheet (view t) s
-    go true e = rw (e, setns) (as-it-was t s hs)
-    go false e =
-        rw (e, setns)
-        (freed-leaves t _ s h (setns-sane t h i _ (process t i .unshared) (runs-lives t i k) (named-seen (view t) i z (eqb-false _ _ (or-false-left _ _ e)))) hs hs
-        (same-still (view t) _ s (near (view t) s) (facts t h) (put-still t (facts t h) i (with-children (process t i) (view t .own (named (view t) i z)) (process t i .unshared)) (record { owns = refl; parents = refl; pids = refl }) s (outsider t s i (Setns z) a))))
+setns-leaves z t s i h hs k a g =
+    by-test (eqb (named (view t) i z) process-slots or view t .ended (named (view t) i z)) (λ e. rw (e, setns) (as-it-was t s hs))
+    (λ e. rw (e, setns)
+    (freed-still h (setns-sane t h i _ (process t i .unshared) (runs-lives t i k) (named-seen (view t) i z (eqb-false _ _ (or-false-left _ _ e)))) hs
+    (put-still t (facts t h) i (with-children (process t i) (view t .own (named (view t) i z)) (process t i .unshared)) (refl, refl, refl) s (outsider t s i (Setns z) a))))

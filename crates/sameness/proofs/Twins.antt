@@ -1,19 +1,23 @@
--- Two tables that are the same to a living namespace: what corresponds, and that reading it gives the same.
+-- Two tables that are the same to a living namespace S: twins are processes with the same number in S, and living
+-- namespaces whose inits are such. What lies above and below twins, and what they see, corresponds.
 use Prim.Native.Nat.{ℕ, zero, suc, pred, _+_, _-_, _<_, _≤_}
 use native.Mathlib.Decide.{decLt}
 use native.Mathlib.Omega.{arith}
-use mathlib.Core.Bool.{Bool, So}
-use mathlib.Core.Path.{_≡_, sym, _∙_, ap, subst, subst₂}
+use mathlib.Core.Bool.{false, So}
+use mathlib.Core.Path.{_≡_, sym, _∙_, ap, ap₂, subst, subst₂}
 use lib.ListN.{getD}
-use Rattle.rules.proofs.Laws.Below.{level-deepest, below-level, up-level, not-root, below-trans}
+use Rattle.rules.proofs.Laws.Below.{below-level, up-level, not-root, below-trans}
 use Rattle.rules.proofs.Laws.Facts.{Facts, seen-taken, seen-below, lives-taken}
-use Rattle.rules.proofs.Laws.Slots.{pid-unique, own-taken, own-not-unborn, pid-pos, pid-zero, below-parent, below-up-by, up-by-below, alive-taken, alive-up, init-seen, init-own, init-parent, init-taken, parent-living}
-use Rattle.rules.proofs.Laws.Tests.{bool-ext, right, both}
-use Rattle.sameness.proofs.Anchor.{anchor, anchor-self, anchor-alive, anchor-below, anchor-least, is-by-init, name-pid, name-alive, name-anchor}
+use Rattle.rules.proofs.Laws.Slots.{init-pid, pid-unique, own-taken, own-not-unborn, pid-pos, pid-zero, below-parent, below-up-by, up-by-below, alive-taken, alive-up, init-seen, init-own, init-parent, init-taken, parent-living}
+use Rattle.rules.proofs.Laws.Tests.{bool-ext, both}
+use Rattle.rules.proofs.Laws.Tree.{below-refl}
+use Rattle.sameness.proofs.Anchor.{anchor, anchor-self, anchor-alive, anchor-below, anchor-least, is-by-init, name-pid, name-alive, name-anchor, name-level, name-level-dead}
+use Rattle.sameness.proofs.Cases.{by-test}
 use Rattle.sameness.proofs.Same.{Same, getD-values, level-lt, row-pid}
 use Rattle.table.specs.Limits.{levels}
-use Rattle.rules.specs.Read.{View, alive, below, init, pid-in, pid-seen, seen, taken, up-by}
-use Rattle.sameness.specs.Sheet.{Row, row}
+use Rattle.rules.specs.Read.{View, alive, below, init, namespace-taken, pid-in, pid-seen, seen, taken, unborn, up-by}
+use Rattle.sameness.specs.Sheet.{Row, name, row}
+use Rattle.table.specs.Tests.{_and_}
 
 -- S lives in both
 pub record Pair (v u : View) (s r : ℕ) : Type 0 where
@@ -38,37 +42,44 @@ pub record Twins (v u : View) (s r n m : ℕ) : Type 0 where
   pub inits : pid-seen v s (init v n) ≡ pid-seen u r (init u m)
 
 -- the two tables change places
-pub flip-same : (v u : View) (s r : ℕ) → Same v u s r → Same u v r s
-flip-same v u s r w =
+pub flip-same : {v u : View} {s r : ℕ} → Same v u s r → Same u v r s
+flip-same w =
     record { levels = sym (w .levels); there = λ j k. let (i, m, q) = w .back j k in (i, m, sym q); back = λ i k. let (j, m, q) = w .there i k in (j, m, sym q) }
 
-pub flip-pair : (v u : View) (s r : ℕ) → Pair v u s r → Pair u v r s
-flip-pair v u s r w =
-    record { facts-v = w .facts-u; facts-u = w .facts-v; alive-v = w .alive-u; alive-u = w .alive-v; same = flip-same v u s r (w .same) }
+pub flip-pair : {v u : View} {s r : ℕ} → Pair v u s r → Pair u v r s
+flip-pair w = record { facts-v = w .facts-u; facts-u = w .facts-v; alive-v = w .alive-u; alive-u = w .alive-v; same = flip-same (w .same) }
 
-pub flip-twin : (v u : View) (s r i j : ℕ) → Twin v u s r i j → Twin u v r s j i
-flip-twin v u s r i j w = record { seen-v = w .seen-u; seen-u = w .seen-v; pids = sym (w .pids) }
+pub flip-twin : {v u : View} {s r i j : ℕ} → Twin v u s r i j → Twin u v r s j i
+flip-twin w = record { seen-v = w .seen-u; seen-u = w .seen-v; pids = sym (w .pids) }
 
-pub flip-twins : (v u : View) (s r n m : ℕ) → Twins v u s r n m → Twins u v r s m n
-flip-twins v u s r n m w =
-    record { lives-v = w .lives-u; lives-u = w .lives-v; below-v = w .below-u; below-u = w .below-v; inits = sym (w .inits) }
+pub flip-twins : {v u : View} {s r n m : ℕ} → Twins v u s r n m → Twins u v r s m n
+flip-twins w = record { lives-v = w .lives-u; lives-u = w .lives-v; below-v = w .below-u; below-u = w .below-v; inits = sym (w .inits) }
 
 pub pid-in-seen : (v : View) (n i : ℕ) → So (seen v n i) → pid-in v n i ≡ pid-seen v n i
 unfolding pid-in
 pid-in-seen v n i h = rw h
 
-module _ (v u : View) (s r : ℕ) (w : Pair v u s r) where
+pub taken-v : {v u : View} {s r i j : ℕ} → Twin v u s r i j → So (taken v i)
+taken-v {v} {s} {i} k = seen-taken v s i (k .seen-v)
+
+pub taken-u : {v u : View} {s r i j : ℕ} → Twin v u s r i j → So (taken u j)
+taken-u {u} {r} {j} k = seen-taken u r j (k .seen-u)
+
+pub twin-pid-in : {v u : View} {s r i j : ℕ} → Twin v u s r i j → pid-in v s i ≡ pid-in u r j
+twin-pid-in {v} {u} {s} {r} k = pid-in-seen v s _ (k .seen-v) ∙ k .pids ∙ sym (pid-in-seen u r _ (k .seen-u))
+
+module _ {v u : View} {s r : ℕ} (w : Pair v u s r) where
   lv : v .level s < levels
-  lv = level-lt v (w .facts-v) s (alive-taken v (w .facts-v) s (w .alive-v))
+  lv = level-lt (w .facts-v) s (alive-taken v (w .facts-v) s (w .alive-v))
 
   lu : u .level r < levels
-  lu = level-lt u (w .facts-u) r (alive-taken u (w .facts-u) r (w .alive-u))
+  lu = level-lt (w .facts-u) r (alive-taken u (w .facts-u) r (w .alive-u))
 
   -- ---- rows
 
   -- twins have equal rows
-  pub twin-rows : (i j : ℕ) → Twin v u s r i j → row v s i ≡ row u r j
-  twin-rows i j k =
+  pub twin-rows : {i j : ℕ} → Twin v u s r i j → row v s i ≡ row u r j
+  twin-rows {i} {j} k =
       let (x, m, q) = w .same .there i (k .seen-v) in
       q ∙ ap (row u r) (pid-unique u (w .facts-u) r x j (alive-taken u (w .facts-u) r (w .alive-u)) m (k .seen-u) (sym (row-pid v u s r i x lv lu q) ∙ k .pids))
 
@@ -76,164 +87,194 @@ module _ (v u : View) (s r : ℕ) (w : Pair v u s r) where
   pub twin-there : (i : ℕ) → So (seen v s i) → (j : ℕ) × Twin v u s r i j
   twin-there i h = let (j, m, q) = w .same .there i h in (j, record { seen-v = h; seen-u = m; pids = row-pid v u s r i j lv lu q })
 
-  pub twin-unique : (i j k l : ℕ) → Twin v u s r i j → Twin v u s r k l → i ≡ k → j ≡ l
-  twin-unique i j k l a b e =
+  pub twin-unique : {i j k l : ℕ} → Twin v u s r i j → Twin v u s r k l → i ≡ k → j ≡ l
+  twin-unique {j} {l} a b e =
       pid-unique u (w .facts-u) r j l (alive-taken u (w .facts-u) r (w .alive-u)) (a .seen-u) (b .seen-u) (sym (a .pids) ∙ ap (pid-seen v s) e ∙ b .pids)
 
   -- numbers from S's level down
-  pub twin-pid : (i j l : ℕ) → Twin v u s r i j → v .level s ≤ l → l < levels → v .pid i l ≡ u .pid j l
+  pub twin-pid : {i j : ℕ} (l : ℕ) → Twin v u s r i j → v .level s ≤ l → l < levels → v .pid i l ≡ u .pid j l
   unfolding row
-  twin-pid i j l k h m =
+  twin-pid {i} {j} l k h m =
       let e : v .level s + (l - v .level s) ≡ l = omega arith in
       let d : u .level r + (l - v .level s) ≡ l = omega (arith, w .same .levels) in
       ap (v .pid i) (sym e)
       ∙ sym (getD-values (v .pid i) (levels - v .level s) (v .level s) (l - v .level s) (omega arith))
-      ∙ ap (λ (q : Row). getD (q .pids) (l - v .level s) 0) (twin-rows i j k)
+      ∙ ap (λ (q : Row). getD (q .pids) (l - v .level s) 0) (twin-rows k)
       ∙ getD-values (u .pid j) (levels - u .level r) (u .level r) (l - v .level s) (omega (arith, w .same .levels))
       ∙ ap (u .pid j) d
 
 -- the level of a process's own namespace, from its numbers
-level-le : (v u : View) (s r : ℕ) (w : Pair v u s r) (i j : ℕ) → Twin v u s r i j → v .level (v .own i) ≤ u .level (u .own j)
-level-le v u s r w i j k = go (decLt (u .level (u .own j)) (v .level (v .own i)))
+level-le : {v u : View} {s r : ℕ} (w : Pair v u s r) {i j : ℕ} → Twin v u s r i j → v .level (v .own i) ≤ u .level (u .own j)
+level-le {v} {u} {s} w {i} {j} k = go (decLt (u .level (u .own j)) (v .level (v .own i)))
   where
-    ti : So (taken v i)
-    ti = seen-taken v s i (k .seen-v)
-
-    tj : So (taken u j)
-    tj = seen-taken u r j (k .seen-u)
-
     go : Dec (u .level (u .own j) < v .level (v .own i)) → v .level (v .own i) ≤ u .level (u .own j)
     go (no o) = omega arith
     go (yes l) =
-        absurd
-        (omega
-        (arith, pid-pos v (w .facts-v) i (v .level (v .own i)) ti (omega arith), pid-zero u (w .facts-u) j (v .level (v .own i)) tj (omega (arith, level-deepest v (w .facts-v) _ (own-taken v (w .facts-v) i ti))) l, twin-pid v u s r w i j (v .level (v .own i)) k (below-level v (w .facts-v) _ s (seen-below v s i (k .seen-v))) (level-lt v (w .facts-v) _ (own-taken v (w .facts-v) i ti))))
+        let n = v .level (v .own i) in
+        let deep = level-lt (w .facts-v) _ (own-taken v (w .facts-v) i (taken-v k)) in
+        absurd (omega (arith, pid-pos v (w .facts-v) i n (taken-v k) (omega arith), pid-zero u (w .facts-u) j n (taken-u k) deep l, twin-pid w n k (below-level v (w .facts-v) _ s (seen-below v s i (k .seen-v))) deep))
 
-module _ (v u : View) (s r : ℕ) (w : Pair v u s r) where
-  pub own-levels : (i j : ℕ) → Twin v u s r i j → v .level (v .own i) ≡ u .level (u .own j)
-  own-levels i j k = omega (arith, level-le v u s r w i j k, level-le u v r s (flip-pair v u s r w) j i (flip-twin v u s r i j k))
+-- ---- namespaces
 
-  -- ---- namespaces
+-- two namespaces of the subtree that the sheets name alike, not unborn
+pub record Namesakes (v u : View) (s r n m : ℕ) : Type 0 where
+  pub names : name v s n ≡ name u r m
+  pub stands-v : So (namespace-taken v n)
+  pub stands-u : So (namespace-taken u m)
+  pub below-v : So (below v n s)
+  pub below-u : So (below u m r)
+  pub born-v : unborn v n ≡ false
+  pub born-u : unborn u m ≡ false
 
-  -- the nearest living namespace to each of two twins
-  pub anchors : (i j : ℕ) → Twin v u s r i j → Twins v u s r (anchor v (v .own i)) (anchor u (u .own j))
+module _ {v u : View} {s r : ℕ} (w : Pair v u s r) where
+  pub own-levels : {i j : ℕ} → Twin v u s r i j → v .level (v .own i) ≡ u .level (u .own j)
+  own-levels k = omega (arith, level-le w k, level-le (flip-pair w) (flip-twin k))
+
+  -- the own namespaces of twins are such
+  pub own-names : {i j : ℕ} → Twin v u s r i j → Namesakes v u s r (v .own i) (u .own j)
   unfolding row
-  anchors i j k =
+  own-names {i} {j} k =
       record {
-        lives-v = anchor-alive v (w .facts-v) (v .own i) (own-taken v (w .facts-v) i ti);
-        lives-u = anchor-alive u (w .facts-u) (u .own j) (own-taken u (w .facts-u) j tj);
-        below-v = anchor-least v (w .facts-v) (v .own i) s (w .alive-v) (seen-below v s i (k .seen-v));
-        below-u = anchor-least u (w .facts-u) (u .own j) r (w .alive-u) (seen-below u r j (k .seen-u));
-        inits =
-            sym (pid-in-seen v s _ (init-seen v (w .facts-v) _ s (anchor-alive v (w .facts-v) (v .own i) (own-taken v (w .facts-v) i ti)) (anchor-least v (w .facts-v) (v .own i) s (w .alive-v) (seen-below v s i (k .seen-v)))))
-            ∙ sym (name-anchor v (w .facts-v) s (v .own i) (own-taken v (w .facts-v) i ti) (own-not-unborn v (w .facts-v) i ti))
-            ∙ ap (λ (q : Row). name-pid (q .own)) (twin-rows v u s r w i j k)
-            ∙ name-anchor u (w .facts-u) r (u .own j) (own-taken u (w .facts-u) j tj) (own-not-unborn u (w .facts-u) j tj)
-            ∙ pid-in-seen u r _ (init-seen u (w .facts-u) _ r (anchor-alive u (w .facts-u) (u .own j) (own-taken u (w .facts-u) j tj)) (anchor-least u (w .facts-u) (u .own j) r (w .alive-u) (seen-below u r j (k .seen-u))));
+        names = ap (λ (q : Row). q .own) (twin-rows w k);
+        stands-v = own-taken v (w .facts-v) i (taken-v k);
+        stands-u = own-taken u (w .facts-u) j (taken-u k);
+        below-v = seen-below v s i (k .seen-v);
+        below-u = seen-below u r j (k .seen-u);
+        born-v = own-not-unborn v (w .facts-v) i (taken-v k);
+        born-u = own-not-unborn u (w .facts-u) j (taken-u k);
       }
-    where
-      ti : So (taken v i)
-      ti = seen-taken v s i (k .seen-v)
 
-      tj : So (taken u j)
-      tj = seen-taken u r j (k .seen-u)
+  -- they live both or not
+  pub alive-named : {n m : ℕ} → Namesakes v u s r n m → alive v n ≡ alive u m
+  alive-named {n} {m} a = sym (name-alive (w .facts-v) s n (a .stands-v)) ∙ ap is-by-init (a .names) ∙ name-alive (w .facts-u) r m (a .stands-u)
 
-  pub own-alive : (i j : ℕ) → Twin v u s r i j → alive v (v .own i) ≡ alive u (u .own j)
-  unfolding row
-  own-alive i j k =
-      sym (name-alive v (w .facts-v) s (v .own i) (own-taken v (w .facts-v) i (seen-taken v s i (k .seen-v))))
-      ∙ ap (λ (q : Row). is-by-init (q .own)) (twin-rows v u s r w i j k)
-      ∙ name-alive u (w .facts-u) r (u .own j) (own-taken u (w .facts-u) j (seen-taken u r j (k .seen-u)))
+  -- the nearest living namespaces to them correspond
+  pub anchors : {n m : ℕ} → Namesakes v u s r n m → Twins v u s r (anchor v n) (anchor u m)
+  anchors {n} {m} a =
+      let av = anchor-alive (w .facts-v) n (a .stands-v) in
+      let au = anchor-alive (w .facts-u) m (a .stands-u) in
+      let bv = anchor-least (w .facts-v) n s (w .alive-v) (a .below-v) in
+      let bu = anchor-least (w .facts-u) m r (w .alive-u) (a .below-u) in
+      record {
+        lives-v = av;
+        lives-u = au;
+        below-v = bv;
+        below-u = bu;
+        inits =
+            sym (pid-in-seen v s _ (init-seen v (w .facts-v) _ s av bv)) ∙ sym (name-anchor (w .facts-v) s n (a .stands-v) (a .born-v)) ∙ ap name-pid (a .names)
+            ∙ name-anchor (w .facts-u) r m (a .stands-u) (a .born-u) ∙ pid-in-seen u r _ (init-seen u (w .facts-u) _ r au bu);
+      }
 
-  -- the own namespaces of twins correspond
-  pub owns : (i j : ℕ) → Twin v u s r i j → So (alive v (v .own i)) → Twins v u s r (v .own i) (u .own j)
-  owns i j k a =
-      subst₂ (λ n m. Twins v u s r n m) (anchor-self v (w .facts-v) (v .own i) a) (anchor-self u (w .facts-u) (u .own j) (sym (own-alive i j k) ∙ a)) (anchors i j k)
+  -- and so do they, where they live
+  pub twins-named : {n m : ℕ} → Namesakes v u s r n m → So (alive v n) → Twins v u s r n m
+  twins-named {n} {m} a h = subst₂ (Twins v u s r) (anchor-self (w .facts-v) n h) (anchor-self (w .facts-u) m (sym (alive-named a) ∙ h)) (anchors a)
 
-  pub inits-twin : (n m : ℕ) → Twins v u s r n m → Twin v u s r (init v n) (init u m)
-  inits-twin n m k = record { seen-v = init-seen v (w .facts-v) n s (k .lives-v) (k .below-v); seen-u = init-seen u (w .facts-u) m r (k .lives-u) (k .below-u); pids = k .inits }
+  pub owns : {i j : ℕ} → Twin v u s r i j → So (alive v (v .own i)) → Twins v u s r (v .own i) (u .own j)
+  owns k = twins-named (own-names k)
 
-  pub twins-level : (n m : ℕ) → Twins v u s r n m → v .level n ≡ u .level m
-  twins-level n m k = ap (v .level) (sym (init-own v (w .facts-v) n (k .lives-v))) ∙ own-levels _ _ (inits-twin n m k) ∙ ap (u .level) (init-own u (w .facts-u) m (k .lives-u))
+  pub inits-twin : {n m : ℕ} → Twins v u s r n m → Twin v u s r (init v n) (init u m)
+  inits-twin {n} {m} k = record { seen-v = init-seen v (w .facts-v) n s (k .lives-v) (k .below-v); seen-u = init-seen u (w .facts-u) m r (k .lives-u) (k .below-u); pids = k .inits }
 
-  pub twins-unique : (n m k l : ℕ) → Twins v u s r n m → Twins v u s r k l → n ≡ k → m ≡ l
-  twins-unique n m k l a b e =
-      sym (init-own u (w .facts-u) m (a .lives-u)) ∙ ap (u .own) (twin-unique v u s r w _ _ _ _ (inits-twin n m a) (inits-twin k l b) (ap (init v) e)) ∙ init-own u (w .facts-u) l (b .lives-u)
+  -- S and S
+  pub top-twins : Twins v u s r s r
+  top-twins =
+      record { lives-v = w .alive-v; lives-u = w .alive-u; below-v = below-refl v s; below-u = below-refl u r; inits = init-pid v (w .facts-v) s (w .alive-v) ∙ sym (init-pid u (w .facts-u) r (w .alive-u)) }
 
-  -- the parents of two twins' processes, where one is in the subtree
-  pub parents-twin : (i j : ℕ) → Twin v u s r i j → So (seen v s (v .parent i)) → So (seen u r (u .parent j)) → Twin v u s r (v .parent i) (u .parent j)
-  unfolding row
-  parents-twin i j k a b =
-      record { seen-v = a; seen-u = b; pids = sym (pid-in-seen v s _ a) ∙ ap (λ (q : Row). q .parent) (twin-rows v u s r w i j k) ∙ pid-in-seen u r _ b }
+  pub twins-level : {n m : ℕ} → Twins v u s r n m → v .level n ≡ u .level m
+  twins-level {n} {m} k = ap (v .level) (sym (init-own v (w .facts-v) n (k .lives-v))) ∙ own-levels (inits-twin k) ∙ ap (u .level) (init-own u (w .facts-u) m (k .lives-u))
 
-module _ (v : View) (f : Facts v) (s : ℕ) where
+  pub twins-unique : {n m k l : ℕ} → Twins v u s r n m → Twins v u s r k l → n ≡ k → m ≡ l
+  twins-unique {m} {l} a b e =
+      sym (init-own u (w .facts-u) m (a .lives-u)) ∙ ap (u .own) (twin-unique w (inits-twin a) (inits-twin b) (ap (init v) e)) ∙ init-own u (w .facts-u) l (b .lives-u)
+
+  -- two that are named alike have the same level
+  pub level-named : {n m : ℕ} → Namesakes v u s r n m → v .level n ≡ u .level m
+  level-named {n} {m} a =
+      by-test (alive v n) (λ h. twins-level (twins-named a h))
+      (λ h. sym (name-level-dead (w .facts-v) s n (a .stands-v) h (a .born-v)) ∙ ap name-level (a .names) ∙ name-level-dead (w .facts-u) r m (a .stands-u) (sym (alive-named a) ∙ h) (a .born-u))
+
+-- ---- parents
+
+module _ {v : View} (f : Facts v) where
+  seen-pid : (n i : ℕ) → So (seen v n i) → 1 ≤ pid-seen v n i
+  unfolding pid-seen
+  seen-pid n i h = pid-pos v f i (v .level n) (seen-taken v n i h) (below-level v f _ n (seen-below v n i h))
+
+  pub pid-in-unseen : (n i : ℕ) → seen v n i ≡ false → pid-in v n i ≡ 0
+  unfolding pid-in
+  pid-in-unseen n i h = rw h
+
+  -- a number above 0 is of one seen
+  pid-in-pos : (n i : ℕ) → 1 ≤ pid-in v n i → So (seen v n i)
+  pid-in-pos n i h = by-test (seen v n i) (λ e. e) (λ e. absurd (omega (arith, pid-in-unseen n i e)))
+
   -- the parent of the init of a namespace below S, and not S
-  pub init-parent-seen : (n : ℕ) → So (alive v n) → So (below v n s) → v .level s < v .level n → So (seen v s (v .parent (init v n)))
+  init-parent-seen : (s n : ℕ) → So (alive v n) → So (below v n s) → v .level s < v .level n → So (seen v s (v .parent (init v n)))
   unfolding seen
-  init-parent-seen n a h l =
+  init-parent-seen s n a h l =
       let e : v .level n ≡ suc (pred (v .level n)) = omega arith in
       both _ _
       (lives-taken v _ (parent-living v f (init v n) (init-taken v f n a) (λ z. not-root v f n _ e (sym (init-own v f n a) ∙ ap (v .own) z ∙ f .root-own))))
       (subst (λ y. So (below v y s)) (sym (init-parent v f n _ a e)) (below-parent v f n s h l))
 
-module _ (v u : View) (s r : ℕ) (w : Pair v u s r) where
-  -- and so do the namespaces above them
-  pub twins-up : (n m : ℕ) → Twins v u s r n m → v .level s < v .level n → Twins v u s r (v .up n) (u .up m)
-  twins-up n m k l =
-      let e : v .level n ≡ suc (pred (v .level n)) = omega arith in
-      let d : u .level m ≡ suc (pred (v .level n)) = omega (arith, twins-level v u s r w n m k) in
-      let p = parents-twin v u s r w _ _ (inits-twin v u s r w n m k) (init-parent-seen v (w .facts-v) s n (k .lives-v) (k .below-v) l) (init-parent-seen u (w .facts-u) r m (k .lives-u) (k .below-u) (omega (arith, w .same .levels, twins-level v u s r w n m k))) in
-      subst₂ (λ a b. Twins v u s r a b) (init-parent v (w .facts-v) n _ (k .lives-v) e) (init-parent u (w .facts-u) m _ (k .lives-u) d)
-      (owns v u s r w _ _ p (subst (λ y. So (alive v y)) (sym (init-parent v (w .facts-v) n _ (k .lives-v) e)) (alive-up v (w .facts-v) n _ (k .lives-v) e)))
+parent-there : {v u : View} {s r : ℕ} (w : Pair v u s r) {i j : ℕ} → Twin v u s r i j → So (seen v s (v .parent i)) → So (seen u r (u .parent j))
+unfolding row
+parent-there {v} {u} {s} {r} w {i} {j} k h =
+    pid-in-pos (w .facts-u) r (u .parent j)
+    (omega (arith, seen-pid (w .facts-v) s (v .parent i) h, pid-in-seen v s (v .parent i) h, ap (λ (q : Row). q .parent) (twin-rows w k)))
 
-  pub twins-up-by : (d n m : ℕ) → Twins v u s r n m → d ≤ v .level n - v .level s → Twins v u s r (up-by (v .up) d n) (up-by (u .up) d m)
+module _ {v u : View} {s r : ℕ} (w : Pair v u s r) where
+  -- the parents of twins are seen both or not, and are twins then
+  pub parent-seen : {i j : ℕ} → Twin v u s r i j → seen v s (v .parent i) ≡ seen u r (u .parent j)
+  parent-seen k = bool-ext _ _ (parent-there w k) (parent-there (flip-pair w) (flip-twin k))
+
+  pub parent-twin : {i j : ℕ} → Twin v u s r i j → So (seen v s (v .parent i)) → Twin v u s r (v .parent i) (u .parent j)
+  unfolding row
+  parent-twin k h =
+      let g = parent-there w k h in
+      record { seen-v = h; seen-u = g; pids = sym (pid-in-seen v s _ h) ∙ ap (λ (q : Row). q .parent) (twin-rows w k) ∙ pid-in-seen u r _ g }
+
+  -- the namespaces above twins correspond
+  pub twins-up : {n m : ℕ} → Twins v u s r n m → v .level s < v .level n → Twins v u s r (v .up n) (u .up m)
+  twins-up {n} {m} k l =
+      let e : v .level n ≡ suc (pred (v .level n)) = omega arith in
+      let d : u .level m ≡ suc (pred (v .level n)) = omega (arith, twins-level w k) in
+      let p = parent-twin (inits-twin w k) (init-parent-seen (w .facts-v) s n (k .lives-v) (k .below-v) l) in
+      let up = init-parent v (w .facts-v) n _ (k .lives-v) e in
+      subst₂ (Twins v u s r) up (init-parent u (w .facts-u) m _ (k .lives-u) d) (owns w p (subst (λ y. So (alive v y)) (sym up) (alive-up v (w .facts-v) n _ (k .lives-v) e)))
+
+  pub twins-up-by : (d : ℕ) {n m : ℕ} → Twins v u s r n m → d ≤ v .level n - v .level s → Twins v u s r (up-by (v .up) d n) (up-by (u .up) d m)
   unfolding up-by
-  twins-up-by zero n m k l = k
-  twins-up-by (suc d) n m k l =
+  twins-up-by zero k l = k
+  twins-up-by (suc d) {n} k l =
       let e : v .level n ≡ suc (pred (v .level n)) = omega arith in
-      twins-up-by d (v .up n) (u .up m) (twins-up n m k (omega arith)) (omega (arith, up-level v (w .facts-v) n _ e))
+      twins-up-by d (twins-up k (omega arith)) (omega (arith, up-level v (w .facts-v) n _ e))
 
-below-there : (v u : View) (s r : ℕ) (w : Pair v u s r) (a b n m : ℕ) → Twins v u s r a b → Twins v u s r n m → So (below v a n) → So (below u b m)
-below-there v u s r w a b n m j k h =
-    up-by-below u (w .facts-u) (v .level a - v .level n) b m (omega (arith, twins-level v u s r w a b j))
-    (twins-unique v u s r w _ _ _ _ (twins-up-by v u s r w (v .level a - v .level n) a b j (omega (arith, below-level v (w .facts-v) n s (k .below-v)))) k (below-up-by v (w .facts-v) a n h))
+-- ---- what is seen
 
-module _ (v u : View) (s r : ℕ) (w : Pair v u s r) where
+below-there : {v u : View} {s r : ℕ} (w : Pair v u s r) {a b n m : ℕ} → Twins v u s r a b → Twins v u s r n m → So (below v a n) → So (below u b m)
+below-there {v} {u} {s} w {a} {b} {n} {m} j k h =
+    up-by-below u (w .facts-u) (v .level a - v .level n) b m (omega (arith, twins-level w j))
+    (twins-unique w (twins-up-by w (v .level a - v .level n) j (omega (arith, below-level v (w .facts-v) n s (k .below-v)))) k (below-up-by v (w .facts-v) a n h))
+
+module _ {v u : View} {s r : ℕ} (w : Pair v u s r) where
   -- "below" is the same
-  pub below-twins : (a b n m : ℕ) → Twins v u s r a b → Twins v u s r n m → below v a n ≡ below u b m
-  below-twins a b n m j k =
-      bool-ext _ _ (below-there v u s r w a b n m j k) (below-there u v r s (flip-pair v u s r w) b a m n (flip-twins v u s r a b j) (flip-twins v u s r n m k))
+  pub below-twins : {a b n m : ℕ} → Twins v u s r a b → Twins v u s r n m → below v a n ≡ below u b m
+  below-twins j k = bool-ext _ _ (below-there w j k) (below-there (flip-pair w) (flip-twins j) (flip-twins k))
 
   -- to lie below a living namespace is to have one's nearest living namespace there
-  pub seen-twins : (i j n m : ℕ) → Twin v u s r i j → Twins v u s r n m → seen v n i ≡ seen u m j
-  unfolding seen
-  seen-twins i j n m k l =
+  pub below-named : {n m top end : ℕ} → Namesakes v u s r n m → Twins v u s r top end → below v n top ≡ below u m end
+  below-named {n} {m} {top} {end} a l =
       bool-ext _ _
-      (λ h. both _ _ (seen-taken u r j (k .seen-u)) (below-trans u (w .facts-u) _ _ m (anchor-below u (w .facts-u) (u .own j)) (sym (below-twins _ _ n m (anchors v u s r w i j k) l) ∙ anchor-least v (w .facts-v) (v .own i) n (l .lives-v) (right _ _ h))))
-      (λ h. both _ _ (seen-taken v s i (k .seen-v)) (below-trans v (w .facts-v) _ _ n (anchor-below v (w .facts-v) (v .own i)) (below-twins _ _ n m (anchors v u s r w i j k) l ∙ anchor-least u (w .facts-u) (u .own j) m (l .lives-u) (right _ _ h))))
+      (λ h. below-trans u (w .facts-u) _ _ end (anchor-below (w .facts-u) m) (sym (below-twins (anchors w a) l) ∙ anchor-least (w .facts-v) n top (l .lives-v) h))
+      (λ h. below-trans v (w .facts-v) _ _ top (anchor-below (w .facts-v) n) (below-twins (anchors w a) l ∙ anchor-least (w .facts-u) m end (l .lives-u) h))
+
+  pub seen-twins : {i j n m : ℕ} → Twin v u s r i j → Twins v u s r n m → seen v n i ≡ seen u m j
+  unfolding seen
+  seen-twins k l = ap₂ _and_ (taken-v k ∙ sym (taken-u k)) (below-named (own-names w k) l)
 
   -- twins have the same number in corresponding namespaces
-  pub pid-twins : (i j n m : ℕ) → Twin v u s r i j → Twins v u s r n m → pid-seen v n i ≡ pid-seen u m j
+  pub pid-twins : {i j n m : ℕ} → Twin v u s r i j → Twins v u s r n m → pid-seen v n i ≡ pid-seen u m j
   unfolding pid-seen
-  pid-twins i j n m k l =
-      twin-pid v u s r w i j (v .level n) k (below-level v (w .facts-v) n s (l .below-v)) (level-lt v (w .facts-v) n (alive-taken v (w .facts-v) n (l .lives-v))) ∙ ap (u .pid j) (twins-level v u s r w n m l)
-
--- Two tables stay the same to S where the processes of Q are seen as before, no others are, and their rows are the same.
-pub same-rows : (v u v′ u′ : View) (s r : ℕ) → Pair v u s r → (Q Q′ : ℕ → Bool) → v′ .level s ≡ v .level s → u′ .level r ≡ u .level r
-    → ((i : ℕ) → So (Q i) → seen v′ s i ≡ seen v s i) → ((i : ℕ) → So (seen v′ s i) → So (Q i)) → ((j : ℕ) → So (Q′ j) → seen u′ r j ≡ seen u r j) → ((j : ℕ) → So (seen u′ r j) → So (Q′ j))
-    → ((i j : ℕ) → Twin v u s r i j → Q i ≡ Q′ j) → ((i j : ℕ) → Twin v u s r i j → So (Q i) → row v′ s i ≡ row u′ r j) → Same v′ u′ s r
-same-rows v u v′ u′ s r w Q Q′ lv lu av bv au bu both h =
-    record {
-      levels = lv ∙ w .same .levels ∙ sym lu;
-      there =
-          λ i k.
-          let q = bv i k in
-          let (j, p) = twin-there v u s r w i (sym (av i q) ∙ k) in
-          (j, au j (sym (both i j p) ∙ q) ∙ p .seen-u, h i j p q);
-      back =
-          λ j k.
-          let q = bu j k in
-          let (i, p) = twin-there u v r s (flip-pair v u s r w) j (sym (au j q) ∙ k) in
-          let p′ = flip-twin u v r s j i p in
-          (i, av i (both i j p′ ∙ q) ∙ p .seen-u, h i j p′ (both i j p′ ∙ q));
-    }
+  pid-twins {j} {n} k l =
+      twin-pid w (v .level n) k (below-level v (w .facts-v) n s (l .below-v)) (level-lt (w .facts-v) n (alive-taken v (w .facts-v) n (l .lives-v))) ∙ ap (u .pid j) (twins-level w l)

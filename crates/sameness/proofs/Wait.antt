@@ -1,6 +1,5 @@
 -- wait: by twin callers, and by an outsider.
 use Prim.Native.Nat.{ℕ, zero, suc, _<_, _≤_}
-use native.Mathlib.Decide.{ℕ-discrete}
 use native.Mathlib.Omega.{arith}
 use mathlib.Core.Bool.{Bool, true, false, not, So, false≢true}
 use mathlib.Core.Logic.{_⊎_, inl, inr, ⊎-elim}
@@ -12,29 +11,28 @@ use Rattle.rules.proofs.Keeps.Changed.{process-count}
 use Rattle.rules.proofs.Keeps.Freed.{freed-view}
 use Rattle.rules.proofs.Keeps.Puts.{reaped-sane, reaped-view}
 use Rattle.rules.proofs.Keeps.Reap.{without}
-use Rattle.rules.proofs.Laws.Facts.{Facts, seen-taken, facts, sane}
-use Rattle.rules.proofs.Laws.Slots.{children-of, init-living, parent-living, child-seen}
+use Rattle.rules.proofs.Laws.Facts.{Facts, facts, sane}
+use Rattle.rules.proofs.Laws.Slots.{init-living, parent-living, child-seen}
 use Rattle.rules.proofs.Laws.Tests.{no-so, zero-or, right, isnt, and-false, true-and, true-or, false-or-true, false-or-false, true-and-false, isnt-not, left, both, any-elim, any-intro, isnt-so, bool-ext}
 use Rattle.rules.proofs.Laws.Tree.{below-refl}
-use Rattle.sameness.proofs.Anchor.{name-no-slot}
-use Rattle.sameness.proofs.Calls.{shown, both-refuse, both-tell, owns-twins}
-use Rattle.sameness.proofs.Freeing.{freed-alike, freed-leaves}
-use Rattle.sameness.proofs.Inside.{Kept, Ready, MadeSame}
-use Rattle.sameness.proofs.Kill.{twin-of-pid}
-use Rattle.sameness.proofs.Outside.{MadeLeaves, as-it-was, untouched-made}
-use Rattle.sameness.proofs.Readers.{twin-eqb, child-twins, seen-above, ended-twins}
-use Rattle.sameness.proofs.Remain.{Remain, Lit, same-remain, pid-in-remain, name-remain, everyone, seen-remain, seen-gone}
+use Rattle.sameness.proofs.Cases.{by-test, by-equal}
+use Rattle.sameness.proofs.Anchor.{init-or-none}
+use Rattle.sameness.proofs.Calls.{Kept, Ready, MadeSame, MadeLeaves, as-it-was, untouched-made, both-refuse, both-tell, owns-twins}
+use Rattle.sameness.proofs.Light.{shown}
+use Rattle.sameness.proofs.Freeing.{after, freed-alike, freed-leaves}
+use Rattle.sameness.proofs.Readers.{twin-of-pid, twin-eqb, child-twins, seen-above, ended-twins}
+use Rattle.sameness.proofs.Remain.{Remain, Lit, same-remain, pid-in-remain, name-remain, everyone, seen-same}
 use Rattle.sameness.proofs.Same.{Same}
-use Rattle.sameness.proofs.Still.{Still, same-still, near, near-here, near-up, near-own, near-children}
-use Rattle.sameness.proofs.Twins.{Pair, Twin, twin-rows, Twins, flip-pair, flip-twin, twin-there, pid-twins}
+use Rattle.sameness.proofs.Still.{Still, same-still}
+use Rattle.sameness.proofs.Twins.{Pair, Twin, twin-rows, flip-pair, flip-twin, twin-there, pid-twins, taken-v, taken-u}
 use Rattle.rules.specs.Answers.{granted, answers, is-refused, refused}
 use Rattle.rules.specs.Calls.{first-ended, pid-to, reap, wait}
-use Rattle.sameness.specs.Events.{at, follow, gone, is-inside, sheet-of}
+use Rattle.sameness.specs.Events.{gone, is-inside}
 use Rattle.rules.specs.Freeing.{freed}
 use Rattle.table.specs.Fresh.{empty-process}
 use Rattle.table.specs.Limits.{process-slots}
 use Rattle.table.specs.Slots.{is-ended, no-process, to-pid, put}
-use Rattle.rules.specs.Read.{living, pid-in, taken, View, child-of, seen, view, namespace-taken}
+use Rattle.rules.specs.Read.{init, living, pid-in, taken, View, child-of, seen, view, namespace-taken}
 use Rattle.sameness.specs.Sheet.{Row, name, row, sheet}
 use Rattle.rules.specs.Sound.{SoundTable}
 use Rattle.rules.specs.Step.{make}
@@ -59,11 +57,7 @@ least-cases p f d zero l = inl (refl, λ i k. absurd (omega arith))
 least-cases p f d (suc n) l = go (least p f d n) (least-cases p f d n (omega arith)) (p n) refl
   where
     extend : (P : ℕ → Type 0) → ((i : ℕ) → i < n → P i) → P n → (i : ℕ) → i < suc n → P i
-    extend P h k i m = at (ℕ-discrete i n)
-      where
-        at : Dec (i ≡ n) → P i
-        at (yes e) = subst P (sym e) k
-        at (no e) = h i (omega arith)
+    extend P h k i m = by-equal i n (λ e. subst P (sym e) k) (λ e. h i (omega arith))
 
     go : (b : ℕ) → Least p f d n b → (c : Bool) → p n ≡ c → Least p f d (suc n) (if p n and (eqb b d or ltb (f n) (f b)) then n else b)
     go b r false e = rw (e, and-false (eqb b d or ltb (f n) (f b))) (stay b r)
@@ -88,7 +82,7 @@ least-cases p f d (suc n) l = go (least p f d n) (least-cases p f d n (omega ari
 abbrev pub others : ℕ → ℕ → Bool
 others x i = not (eqb i x)
 
-module _ (v : View) (f : Facts v) (x : ℕ) (tx : So (taken v x)) (ex : So (v .ended x)) where
+module _ {v : View} (f : Facts v) (x : ℕ) (tx : So (taken v x)) (ex : So (v .ended x)) where
   living-other : (i : ℕ) → So (living v i) → So (others x i)
   unfolding living
   living-other i l = ap not (ne-eqb i x (λ e. no-so (isnt _ (right _ _ l)) (subst (λ j. So (v .ended j)) (sym e) ex)))
@@ -97,103 +91,99 @@ module _ (v : View) (f : Facts v) (x : ℕ) (tx : So (taken v x)) (ex : So (v .e
   unfolding taken
   reap-remain =
       record {
-        owns = λ i q. rw (isnt (eqb i x) q);
-        pids = λ i l q. rw (isnt (eqb i x) q);
-        gone = λ i q. rw (isnt-not (eqb i x) q);
-        ups = λ n k. refl;
-        levels = λ n k. refl;
+        places =
+            record {
+              tree = record { ups = λ n k. refl; levels = λ n k. refl; up-kept = λ n k a b. refl };
+              owns = λ i q. rw (isnt (eqb i x) q);
+              pids = λ i l q. rw (isnt (eqb i x) q);
+              gone = λ i q. rw (isnt-not (eqb i x) q);
+              own-kept = λ i q a. refl;
+            };
         lives = λ n k. refl;
-        up-kept = λ n k a b. refl;
-        own-kept = λ i q a. refl;
-        init-kept = λ n k a. living-other _ (init-living v f n a);
+        inits = λ n k. ⊎-elim (λ a. living-other _ (init-living v f n a)) (λ e. ap not (ne-eqb (init v n) x (λ q. omega (arith, e, q, f .in-range x tx)))) (init-or-none v n);
       }
 
   parent-other : (i : ℕ) → So (taken v i) → So (others x (v .parent i))
   parent-other i k = zero-or i (λ z. ap not (ne-eqb (v .parent i) x (λ e. omega (arith, ap (v .parent) z, f .root-parent, f .in-range x tx)))) (λ z. living-other _ (parent-living v f i k z))
 
   reap-parent : (s i : ℕ) → So (taken v i) → So (others x i) → pid-in (without v x) s (without v x .parent i) ≡ pid-in v s (v .parent i)
-  reap-parent s i k q = rw (isnt (eqb i x) q) (pid-in-remain v (without v x) everyone (others x) f reap-remain s (v .parent i) refl (parent-other i k))
+  reap-parent s i k q = rw (isnt (eqb i x) q) (pid-in-remain f (reap-remain .places) s (v .parent i) refl (parent-other i k))
 
-  reap-children : (s i : ℕ) → So (taken v i) → So (others x i) → name (without v x) s (without v x .children i) ≡ name v s (v .children i)
-  reap-children s i k q =
-      rw (isnt (eqb i x) q)
-      (⊎-elim (λ y. name-remain v (without v x) everyone (others x) f reap-remain s (v .children i) refl refl y) (λ e. name-no-slot (without v x) s _ e ∙ sym (name-no-slot v s _ e)) (children-of v f i k))
+  reap-children : (s i : ℕ) → So (others x i) → name (without v x) s (without v x .children i) ≡ name v s (v .children i)
+  reap-children s i q = rw (isnt (eqb i x) q) (name-remain f reap-remain s (v .children i) refl refl)
 
 -- ---- two tables
 
-module _ (v u : View) (s r : ℕ) (w : Pair v u s r) (x y : ℕ) (k : Twin v u s r x y) (ex : So (v .ended x)) (ey : So (u .ended y)) where
-  tx : So (taken v x)
-  tx = seen-taken v s x (k .seen-v)
-
-  ty : So (taken u y)
-  ty = seen-taken u r y (k .seen-u)
-
+module _ {v u : View} {s r : ℕ} (w : Pair v u s r) {x y : ℕ} (k : Twin v u s r x y) (ex : So (v .ended x)) (ey : So (u .ended y)) where
   both-stay : (i j : ℕ) → Twin v u s r i j → others x i ≡ others y j
-  both-stay i j m = ap not (twin-eqb v u s r w i j x y m k)
+  both-stay i j m = ap not (twin-eqb w m k)
 
   reap-lit : (i j : ℕ) → Twin v u s r i j → So (others x i) → Lit v u (without v x) (without u y) s r i j
   unfolding row
   reap-lit i j m q =
       let q′ = sym (both-stay i j m) ∙ q in
-      let ti = seen-taken v s i (m .seen-v) in
-      let tj = seen-taken u r j (m .seen-u) in
-      let rows = twin-rows v u s r w i j m in
-      let slot = twin-eqb v u s r w i j x y m k in
+      let rows = twin-rows w m in
+      let slot = twin-eqb w m k in
       record {
         states = λ z. if slot z then Running else rows z .state;
         handleds = λ z. if slot z then 0 else rows z .handled;
         pendings = λ z. if slot z then 0 else rows z .pending;
         marks = λ z. if slot z then false else rows z .unshared;
-        parents = reap-parent v (w .facts-v) x tx ex s i ti q ∙ ap (λ (o : Row). o .parent) rows ∙ sym (reap-parent u (w .facts-u) y ty ey r j tj q′);
-        childrens = reap-children v (w .facts-v) x tx ex s i ti q ∙ ap (λ (o : Row). o .children) rows ∙ sym (reap-children u (w .facts-u) y ty ey r j tj q′);
+        parents = reap-parent (w .facts-v) x (taken-v k) ex s i (taken-v m) q ∙ ap (λ (o : Row). o .parent) rows ∙ sym (reap-parent (w .facts-u) y (taken-u k) ey r j (taken-u m) q′);
+        childrens = reap-children (w .facts-v) x (taken-v k) ex s i q ∙ ap (λ (o : Row). o .children) rows ∙ sym (reap-children (w .facts-u) y (taken-u k) ey r j q′);
         lasts = ap (λ (o : Row). o .last) rows;
       }
 
   -- each row that is left is the same on both
   pub same-reap : Same (without v x) (without u y) s r
-  same-reap = same-remain v u (without v x) (without u y) s r w everyone (others x) everyone (others y) (reap-remain v (w .facts-v) x tx ex) (reap-remain u (w .facts-u) y ty ey) refl refl both-stay reap-lit
+  same-reap = same-remain w (reap-remain (w .facts-v) x (taken-v k) ex) (reap-remain (w .facts-u) y (taken-u k) ey) refl refl both-stay reap-lit
 
 -- ---- wait, by twin callers
 
 -- a child is seen from its parent's own namespace
-kid-seen : (v : View) (f : Facts v) (c i : ℕ) → So (taken v c) → So (child-of v c i) → So (seen v (v .own c) i)
+kid-seen : {v : View} (f : Facts v) (c i : ℕ) → So (taken v c) → So (child-of v c i) → So (seen v (v .own c) i)
 unfolding child-of seen
-kid-seen v f c i h k =
+kid-seen {v} f c i h k =
     child-seen v f (v .own c) i (left _ _ k)
     (subst (λ y. So (seen v (v .own c) y)) (sym (eqb-true (v .parent i) c (right _ _ k))) (both _ _ h (below-refl v (v .own c))))
 
 abbrev ended-kid : View → ℕ → ℕ → Bool
 ended-kid v c i = child-of v c i and v .ended i
 
-module _ (t u : Table) (s r c d : ℕ) (w : Ready t u s r c d) where
-  tc : So (taken (view t) c)
-  tc = seen-taken (view t) s c (w .twin .seen-v)
+-- its first child that has ended, or none
+abbrev FirstEnded : View → ℕ → ℕ → Type 0
+FirstEnded v c x = Least (ended-kid v c) (pid-to v c) process-slots process-slots x
 
+first-cases : (v : View) (c : ℕ) → FirstEnded v c (first-ended v c)
+unfolding first-ended
+first-cases v c = least-cases (ended-kid v c) (pid-to v c) process-slots process-slots (omega arith)
+
+module _ {t u : Table} {s r c d : ℕ} (w : Ready t u s r c d) where
   -- a child here is a child there
   kid-there : (i : ℕ) → So (child-of (view t) c i) → (j : ℕ) × Twin (view t) (view u) s r i j
-  kid-there i k = twin-there (view t) (view u) s r (w .pair) i (seen-above (view t) (facts t (w .sound-t)) _ s i (owns-twins t u s r c d w .below-v) (kid-seen (view t) (facts t (w .sound-t)) c i tc k))
+  kid-there i k = twin-there (w .pair) i (seen-above (facts t (w .sound-t)) _ s i (owns-twins w .below-v) (kid-seen (facts t (w .sound-t)) c i (taken-v (w .twin)) k))
 
-  kid-same : (i j : ℕ) → Twin (view t) (view u) s r i j → child-of (view t) c i ≡ child-of (view u) d j
-  kid-same i j k = child-twins (view t) (view u) s r (w .pair) i j c d k (w .twin)
+  kid-same : {i j : ℕ} → Twin (view t) (view u) s r i j → child-of (view t) c i ≡ child-of (view u) d j
+  kid-same k = child-twins (w .pair) k (w .twin)
 
   any-there : So (any process-slots (child-of (view t) c)) → So (any process-slots (child-of (view u) d))
   any-there h =
       let (i, l, k) = any-elim _ _ h in
       let (j, m) = kid-there i k in
-      any-intro _ _ j (facts u (w .sound-u) .in-range j (seen-taken (view u) r j (m .seen-u))) (sym (kid-same i j m) ∙ k)
+      any-intro _ _ j (facts u (w .sound-u) .in-range j (taken-u m)) (sym (kid-same m) ∙ k)
 
   ended-there : (i : ℕ) → So (ended-kid (view t) c i) → (j : ℕ) × Twin (view t) (view u) s r i j × So (ended-kid (view u) d j) × (j < process-slots)
   ended-there i h =
       let (j, m) = kid-there i (left _ _ h) in
-      (j, m, both _ _ (sym (kid-same i j m) ∙ left _ _ h) (sym (ended-twins (view t) (view u) s r (w .pair) i j m) ∙ right _ _ h), facts u (w .sound-u) .in-range j (seen-taken (view u) r j (m .seen-u)))
+      (j, m, both _ _ (sym (kid-same m) ∙ left _ _ h) (sym (ended-twins (w .pair) m) ∙ right _ _ h), facts u (w .sound-u) .in-range j (taken-u m))
 
-flip-ready : (t u : Table) (s r c d : ℕ) → Ready t u s r c d → Ready u t r s d c
-flip-ready t u s r c d w =
-    record { sound-t = w .sound-u; sound-u = w .sound-t; pair = flip-pair (view t) (view u) s r (w .pair); twin = flip-twin (view t) (view u) s r c d (w .twin); runs-t = w .runs-u; runs-u = w .runs-t }
+flip-ready : {t u : Table} {s r c d : ℕ} → Ready t u s r c d → Ready u t r s d c
+flip-ready w =
+    record { sound-t = w .sound-u; sound-u = w .sound-t; pair = flip-pair (w .pair); twin = flip-twin (w .twin); runs-t = w .runs-u; runs-u = w .runs-t }
 
-module _ (t u : Table) (s r c d : ℕ) (w : Ready t u s r c d) where
+module _ {t u : Table} {s r c d : ℕ} (w : Ready t u s r c d) where
   any-same : any process-slots (child-of (view t) c) ≡ any process-slots (child-of (view u) d)
-  any-same = bool-ext _ _ (any-there t u s r c d w) (any-there u t r s d c (flip-ready t u s r c d w))
+  any-same = bool-ext _ _ (any-there w) (any-there (flip-ready w))
 
   -- nobody that has ended, or a pair of twins
   abbrev First : ℕ → ℕ → Type 0
@@ -201,60 +191,47 @@ module _ (t u : Table) (s r c d : ℕ) (w : Ready t u s r c d) where
 
   -- the first that has ended is the same on both, or there is none
   pub first-twins : First (first-ended (view t) c) (first-ended (view u) d)
-  unfolding first-ended
-  first-twins = go (least-cases (ended-kid (view t) c) (pid-to (view t) c) process-slots process-slots (omega arith)) (least-cases (ended-kid (view u) d) (pid-to (view u) d) process-slots process-slots (omega arith))
+  first-twins = go (first-cases (view t) c) (first-cases (view u) d)
     where
-      x : ℕ
-      x = least (ended-kid (view t) c) (pid-to (view t) c) process-slots process-slots
-
-      y : ℕ
-      y = least (ended-kid (view u) d) (pid-to (view u) d) process-slots process-slots
-
-      l : Twins (view t) (view u) s r (view t .own c) (view u .own d)
-      l = owns-twins t u s r c d w
-
-      go : Least (ended-kid (view t) c) (pid-to (view t) c) process-slots process-slots x → Least (ended-kid (view u) d) (pid-to (view u) d) process-slots process-slots y → First x y
+      go : {x y : ℕ} → FirstEnded (view t) c x → FirstEnded (view u) d y → First x y
       go (inl (a, b)) (inl (a′, b′)) = inl (a, a′)
-      go (inr (a, b, h)) (inl (a′, b′)) = let (j, m, k, q) = ended-there t u s r c d w x a in absurd (false≢true (sym (b′ j q) ∙ k))
-      go (inl (a, b)) (inr (a′, b′, h′)) = let (i, m, k, q) = ended-there u t r s d c (flip-ready t u s r c d w) y a′ in absurd (false≢true (sym (b i q) ∙ k))
-      go (inr (a, b, h)) (inr (a′, b′, h′)) =
-          let (j, m, k, q) = ended-there t u s r c d w x a in
-          let (i, n, k′, q′) = ended-there u t r s d c (flip-ready t u s r c d w) y a′ in
-          let n′ = flip-twin (view u) (view t) r s y i n in
+      go {x} (inr (a, b, h)) (inl (a′, b′)) = let (j, m, k, q) = ended-there w x a in absurd (false≢true (sym (b′ j q) ∙ k))
+      go {y} (inl (a, b)) (inr (a′, b′, h′)) = let (i, m, k, q) = ended-there (flip-ready w) y a′ in absurd (false≢true (sym (b i q) ∙ k))
+      go {x} {y} (inr (a, b, h)) (inr (a′, b′, h′)) =
+          let l = owns-twins w in
+          let (j, m, k, q) = ended-there w x a in
+          let (i, n, k′, q′) = ended-there (flip-ready w) y a′ in
+          let n′ = flip-twin n in
           inr (
-            twin-of-pid (view t) (view u) s r (w .pair) _ _ x y l (kid-seen (view t) (facts t (w .sound-t)) c x (tc t u s r c d w) (left _ _ a)) (kid-seen (view u) (facts u (w .sound-u)) d y (tc u t r s d c (flip-ready t u s r c d w)) (left _ _ a′))
-                (omega (arith, h i q′ k′, h′ j q k, pid-twins (view t) (view u) s r (w .pair) x j _ _ m l, pid-twins (view t) (view u) s r (w .pair) i y _ _ n′ l)),
+            twin-of-pid (w .pair) l (kid-seen (facts t (w .sound-t)) c x (taken-v (w .twin)) (left _ _ a)) (kid-seen (facts u (w .sound-u)) d y (taken-u (w .twin)) (left _ _ a′))
+                (omega (arith, h i q′ k′, h′ j q k, pid-twins (w .pair) m l, pid-twins (w .pair) n′ l)),
             right _ _ a,
             right _ _ a′,
           )
 
-no-state : (t : Table) → SoundTable t → (x : ℕ) → x ≡ process-slots → view t .state x ≡ Running
-no-state t h x e = ap (λ p. p .state) (List·getD-eq-default (t .processes) no-process (omega (arith, process-count t (h .shape))))
+no-state : {t : Table} → SoundTable t → (x : ℕ) → x ≡ process-slots → view t .state x ≡ Running
+no-state {t} h x e = ap (λ p. p .state) (List·getD-eq-default (t .processes) no-process (omega (arith, process-count t (h .shape))))
 
 -- two callers reap two twins that have ended in the same way
-reap-kept : (t u : Table) (s r c d : ℕ) → Ready t u s r c d → (x y : ℕ) → Twin (view t) (view u) s r x y → So (view t .ended x) → So (view u .ended y) → (a : State) → So (is-ended a) → Kept t u s r (reap t c x a) (reap u d y a)
+reap-kept : {t u : Table} {s r c d : ℕ} → Ready t u s r c d → {x y : ℕ} → Twin (view t) (view u) s r x y → So (view t .ended x) → So (view u .ended y) → (a : State) → So (is-ended a) → Kept t u s r (reap t c x a) (reap u d y a)
 unfolding reap granted
-reap-kept t u s r c d w x y k ex ey Running z = absurd (false≢true z)
-reap-kept t u s r c d w x y k ex ey Stopped z = absurd (false≢true z)
-reap-kept t u s r c d w x y k ex ey (Ended e) z =
+reap-kept w k ex ey Running z = absurd (false≢true z)
+reap-kept w k ex ey Stopped z = absurd (false≢true z)
+reap-kept {t} {u} {s} {r} w {x} {y} k ex ey (Ended e) z =
     let a = reaped-sane t (sane t (w .sound-t)) x ex in
     let b = reaped-sane u (sane u (w .sound-u)) y ey in
     inr (
-      ap (λ n. Reaped (to-pid n) e) (pid-twins (view t) (view u) s r (w .pair) x y _ _ k (owns-twins t u s r c d w)),
-      freed-alike t u _ _ a b s r
-          (record {
-            facts-v = a .facts;
-            facts-u = b .facts;
-            alive-v = w .pair .alive-v;
-            alive-u = w .pair .alive-u;
-            same = subst₂ (λ (v′ u′ : View). Same v′ u′ s r) (sym (reaped-view t (sane t (w .sound-t)) x ex)) (sym (reaped-view u (sane u (w .sound-u)) y ey)) (same-reap (view t) (view u) s r (w .pair) x y k ex ey);
-          }),
+      ap (λ n. Reaped (to-pid n) e) (pid-twins (w .pair) k (owns-twins w)),
+      freed-alike t u a b (w .pair .alive-v) (w .pair .alive-u)
+          (subst₂ (λ (v′ u′ : View). Same v′ u′ s r) (sym (reaped-view t (sane t (w .sound-t)) x ex)) (sym (reaped-view u (sane u (w .sound-u)) y ey)) (same-reap (w .pair) k ex ey)),
     )
 
 -- wait by twin callers
 pub wait-same : MadeSame Wait
 unfolding MadeSame make wait reap
-wait-same t u s r c d w h g = go (any process-slots (child-of (view t) c)) refl
+wait-same t u s r c d w h g =
+    by-test (any process-slots (child-of (view t) c)) (λ e. some-child e (first-twins w))
+    (λ e. rw (e, sym (any-same w) ∙ e, wait) (both-refuse w Echild))
   where
     x : ℕ
     x = first-ended (view t) c
@@ -262,39 +239,25 @@ wait-same t u s r c d w h g = go (any process-slots (child-of (view t) c)) refl
     y : ℕ
     y = first-ended (view u) d
 
-    some-child : any process-slots (child-of (view t) c) ≡ true → First t u s r c d w x y → Kept t u s r (wait t c) (wait u d)
-    some-child e (inl (a, b)) =
-        rw (e, sym (any-same t u s r c d w) ∙ e, no-state t (w .sound-t) x a, no-state u (w .sound-u) y b, wait) (both-tell t u s r c d w 0 0 refl)
+    some-child : any process-slots (child-of (view t) c) ≡ true → First w x y → Kept t u s r (wait t c) (wait u d)
+    some-child e (inl (a, b)) = rw (e, sym (any-same w) ∙ e, no-state (w .sound-t) x a, no-state (w .sound-u) y b, wait) (both-tell w 0 0 refl)
     some-child e (inr (k, ex, ey)) =
-        let q = shown t u s r (w .pair) x y k .states in
-        rw (e, sym (any-same t u s r c d w) ∙ e, ← q, wait)
-        (reap-kept t u s r c d w x y k ex ey (view t .state x) ex)
-
-    go : (b : Bool) → any process-slots (child-of (view t) c) ≡ b → Kept t u s r (wait t c) (wait u d)
-    go true e = some-child e (first-twins t u s r c d w)
-    go false e = rw (e, sym (any-same t u s r c d w) ∙ e, wait) (both-refuse t u s r c d w Echild)
+        let q = shown t u (w .pair) k .states in
+        rw (e, sym (any-same w) ∙ e, ← q, wait)
+        (reap-kept w k ex ey (view t .state x) ex)
 
 -- ---- wait by an outsider that removes nobody of S
 
 -- one removed that is not of S
-reap-still : (v : View) (f : Facts v) (x : ℕ) (tx : So (taken v x)) (ex : So (v .ended x)) (s : ℕ) → seen v s x ≡ false → Still v (without v x) s (near v s)
-reap-still v f x tx ex s o =
+reap-still : {v : View} (f : Facts v) (x : ℕ) (tx : So (taken v x)) (ex : So (v .ended x)) {s : ℕ} → seen v s x ≡ false → Still v (without v x) s
+reap-still {v} f x tx ex {s} o =
     record {
-      here = near-here v f s;
-      up-kept = near-up v f s;
-      own-kept = near-own v f s;
-      children-kept = near-children v f s;
       ups = λ n h. refl;
       levels = λ n h. refl;
       lives = λ n h. refl;
-      seens = λ i. either i (others x i) refl;
-      owns = λ i k. rw (apart i k);
+      seens = seen-same f (reap-remain f x tx ex .places) s (λ i k. ap not (apart i k));
+      looks = λ i k. rw (apart i k);
       pids = λ i l k. rw (apart i k);
-      states = λ i k. rw (apart i k);
-      handleds = λ i k. rw (apart i k);
-      pendings = λ i k. rw (apart i k);
-      marks = λ i k. rw (apart i k);
-      childrens = λ i k. rw (apart i k);
       parents = λ i k. rw (apart i k);
       lasts = λ i k. refl;
     }
@@ -302,24 +265,11 @@ reap-still v f x tx ex s o =
     apart : (i : ℕ) → So (seen v s i) → eqb i x ≡ false
     apart i k = ne-eqb i x (λ e. no-so o (subst (λ j. So (seen v s j)) e k))
 
-    R : Remain v (without v x) everyone (others x)
-    R = reap-remain v f x tx ex
-
-    either : (i : ℕ) (b : Bool) → others x i ≡ b → seen (without v x) s i ≡ seen v s i
-    either i true e = seen-remain v (without v x) everyone (others x) f R s i e
-    either i false e = seen-gone v (without v x) everyone (others x) f R s i e ∙ sym (isnt-so (λ k. no-so (apart i k) (isnt-not (eqb i x) e)))
-
 -- who has ended and is found is there
-first-taken : (t : Table) → SoundTable t → (c : ℕ) → So (view t .ended (first-ended (view t) c)) → So (taken (view t) (first-ended (view t) c))
-unfolding first-ended child-of
-first-taken t h c e = go (least-cases (ended-kid (view t) c) (pid-to (view t) c) process-slots process-slots (omega arith))
-  where
-    x : ℕ
-    x = least (ended-kid (view t) c) (pid-to (view t) c) process-slots process-slots
-
-    go : Least (ended-kid (view t) c) (pid-to (view t) c) process-slots process-slots x → So (taken (view t) x)
-    go (inl (a, b)) = absurd (false≢true (sym (ap (λ p. is-ended (p .state)) (List·getD-eq-default (t .processes) no-process (omega (arith, process-count t (h .shape), a)))) ∙ e))
-    go (inr (a, b, m)) = left _ _ (left _ _ a)
+first-taken : {t : Table} → SoundTable t → (c : ℕ) → So (view t .ended (first-ended (view t) c)) → So (taken (view t) (first-ended (view t) c))
+unfolding child-of
+first-taken {t} h c e =
+    ⊎-elim (λ a. absurd (no-so (ap is-ended (no-state h _ (a .0))) e)) (λ a. left _ _ (left _ _ (a .0))) (first-cases (view t) c)
 
 -- wait by an outsider that removes nobody of S
 pub wait-leaves : MadeLeaves Wait
@@ -329,28 +279,18 @@ wait-leaves t s i h hs k a g = go (any process-slots (child-of (view t) i)) refl
     x : ℕ
     x = first-ended (view t) i
 
-    go : (b : Bool) → any process-slots (child-of (view t) i) ≡ b → (z : State) → view t .state x ≡ z → SoundTable (wait t i .table) → sheet-of (wait t i .table) (follow t (wait t i .table) (at s)) ≡ sheet (view t) s
+    go : (b : Bool) → any process-slots (child-of (view t) i) ≡ b → (z : State) → view t .state x ≡ z → SoundTable (wait t i .table) → after t s (wait t i .table) ≡ sheet (view t) s
     go false e z q g = rw (e, wait) (as-it-was t s hs)
     go true e Running q g = rw (e, q, wait) (as-it-was t s hs)
     go true e Stopped q g = rw (e, q, wait) (as-it-was t s hs)
     go true e (Ended y) q g =
+        let ex = ap is-ended q in
+        let tx = first-taken h i ex in
+        let no-touch = untouched-made s i Wait h k a (reap t i x (Ended y)) (rw (e, q, wait) refl) refl in
+        let removed : taken (view (freed (put t x empty-process))) x ≡ false =
+        ap (λ (u : View). taken u x) (freed-view _ (reaped-sane t (sane t h) x ex .shape-of))
+        ∙ ap (λ (u : View). taken u x) (reaped-view t (sane t h) x ex) ∙ reap-remain (facts t h) x tx ex .places .gone x (ap not (eq-eqb x x refl)) in
+        let unseen : seen (view t) s x ≡ false = isnt-so (λ m. no-so no-touch (any-intro _ _ x (facts t h .in-range x tx) (both _ _ m (ap not removed)))) in
         rw (e, q, wait)
-        (freed-leaves t _ s h (reaped-sane t (sane t h) x ex) hs hs
-        (subst (λ (u : View). Same u (view t) s s) (sym (reaped-view t (sane t h) x ex)) (same-still (view t) _ s (near (view t) s) (facts t h) (reap-still (view t) (facts t h) x tx ex s unseen))))
-      where
-        ex : So (view t .ended x)
-        ex = ap is-ended q
-
-        tx : So (taken (view t) x)
-        tx = first-taken t h i ex
-
-        no-touch : touched t (freed (put t x empty-process)) (at s) i Wait ≡ false
-        no-touch = untouched-made t s i Wait h k a (reap t i x (Ended y)) (rw (e, q, wait) refl) refl
-
-        removed : taken (view (freed (put t x empty-process))) x ≡ false
-        removed =
-            ap (λ (u : View). taken u x) (freed-view _ (reaped-sane t (sane t h) x ex .shape-of))
-            ∙ ap (λ (u : View). taken u x) (reaped-view t (sane t h) x ex) ∙ reap-remain (view t) (facts t h) x tx ex .gone x (ap not (eq-eqb x x refl))
-
-        unseen : seen (view t) s x ≡ false
-        unseen = isnt-so (λ m. no-so no-touch (any-intro _ _ x (facts t h .in-range x tx) (both _ _ m (ap not removed))))
+        (freed-leaves h (reaped-sane t (sane t h) x ex) hs hs
+        (subst (λ (u : View). Same u (view t) s s) (sym (reaped-view t (sane t h) x ex)) (same-still (facts t h) (reap-still (facts t h) x tx ex unseen))))

@@ -46,52 +46,35 @@ lone-init =
 
 -- the same inside calls, with other calls between
 abbrev some-calls : List Event
-some-calls =
-    inside 1 Clone ∷ outside 0 Clone ∷ inside 2 Getppid ∷ inside 1 (Kill (pos 2) (pos 9)) ∷ inside 1 Wait ∷ inside 7 Getpid ∷ []
+some-calls = inside 1 Clone ∷ outside 0 Clone ∷ inside 2 Getppid ∷ inside 1 (Kill (pos 2) (pos 9)) ∷ inside 1 Wait ∷ inside 7 Getpid ∷ []
 
 abbrev other-calls : List Event
 other-calls =
     outside 2 (Exit (pos 3)) ∷ inside 1 Clone ∷ inside 2 Getppid ∷ outside 0 Wait ∷ inside 1 (Kill (pos 2) (pos 9))
     ∷ outside 200 Clone ∷ inside 1 Wait ∷ inside 7 Getpid ∷ outside 0 Clone ∷ []
 
-alone-sound : SoundTable alone
+sound : SoundTable alone × SoundTable among
 unfolding everything sheets
-alone-sound = record { shape = refl; rules = refl }
+sound = (record { shape = refl; rules = refl }, record { shape = refl; rules = refl })
 
-among-sound : SoundTable among
+lives : So (alive (view alone) 1) × So (alive (view among) 1)
 unfolding everything sheets
-among-sound = record { shape = refl; rules = refl }
+lives = (refl, refl)
 
-alone-lives : So (alive (view alone) 1)
+same-sheets : (sheet (view alone) 1 ≡ lone-init) × (sheet (view among) 1 ≡ lone-init)
 unfolding everything sheets
-alone-lives = refl
+same-sheets = (refl, refl)
 
-among-lives : So (alive (view among) 1)
+untouching : So (untouched alone (at 1) some-calls) × So (untouched among (at 1) other-calls)
 unfolding everything sheets
-among-lives = refl
-
-alone-sheet : sheet (view alone) 1 ≡ lone-init
-unfolding everything sheets
-alone-sheet = refl
-
-among-sheet : sheet (view among) 1 ≡ lone-init
-unfolding everything sheets
-among-sheet = refl
-
-alone-untouched : So (untouched alone (at 1) some-calls)
-unfolding everything sheets
-alone-untouched = refl
-
-among-untouched : So (untouched among (at 1) other-calls)
-unfolding everything sheets
-among-untouched = refl
+untouching = (refl, refl)
 
 -- All that demand 3 asks is met, on two tables of which one has twice as many processes.
 pub applies : Agree (observations alone (at 1) some-calls) (observations among (at 1) other-calls)
 unfolding Sameness inside-calls
 applies =
-    sameness alone among 1 1 alone-sound among-sound alone-lives among-lives (alone-sheet ∙ sym among-sheet) some-calls other-calls refl
-    alone-untouched among-untouched
+    sameness alone among 1 1 (sound .0) (sound .1) (lives .0) (lives .1) (same-sheets .0 ∙ sym (same-sheets .1)) some-calls other-calls refl
+    (untouching .0) (untouching .1)
 
 -- ---- each touch changes a sheet
 
