@@ -107,18 +107,6 @@ module _ {v u : View} {s r : ℕ} (w : Pair v u s r) {c d : ℕ} {n m k l : ℕ}
       (λ y. unborn-below (w .facts-v) n o (y .unborn-v) (y .level-v) (z .lives-v) ∙ below-twins w (y .ups) z ∙ sym (unborn-below (w .facts-u) m o′ (y .unborn-u) (y .level-u) (z .lives-u))) cradles
 
   module _ {i j : ℕ} (x : Twin v u s r i j) where
-    ti : So (taken v i)
-    ti = taken-v x
-
-    tj : So (taken u j)
-    tj = taken-u x
-
-    oi : i ≡ k → ⊥
-    oi = old a c i ti
-
-    oj : j ≡ l → ⊥
-    oj = old b d j tj
-
     rows : row v s i ≡ row u r j
     rows = twin-rows w x
 
@@ -126,9 +114,9 @@ module _ {v u : View} {s r : ℕ} (w : Pair v u s r) {c d : ℕ} {n m k l : ℕ}
     unfolding row living
     old-children =
         by-test (v .ended i)
-        (λ e. name-no-slot v′ s _ (w .facts-v .ended-bare i ti e .0 .0 .0) ∙ sym (name-no-slot u′ r _ (w .facts-u .ended-bare j tj (sym (ended-twins w x) ∙ e) .0 .0 .0)))
+        (λ e. name-no-slot v′ s _ (w .facts-v .ended-bare i (taken-v x) e .0 .0 .0) ∙ sym (name-no-slot u′ r _ (w .facts-u .ended-bare j (taken-u x) (sym (ended-twins w x) ∙ e) .0 .0 .0)))
         (λ e.
-        let li : So (living v i) = both _ _ ti (ap not e) in
+        let li : So (living v i) = both _ _ (taken-v x) (ap not e) in
         let lj : So (living u j) = sym (living-twins w x) ∙ li in
         let both-unborn = children-unborn w x li in
         by-test (unborn v (v .children i))
@@ -142,22 +130,22 @@ module _ {v u : View} {s r : ℕ} (w : Pair v u s r) {c d : ℕ} {n m k l : ℕ}
 
     old-last : (if is-init v′ i then v′ .last (v′ .own i) else 0) ≡ (if is-init u′ j then u′ .last (u′ .own j) else 0)
     unfolding row
-    old-last = shows a c i ti ∙ go (alive v (v .own i)) refl ∙ sym (shows b d j tj)
+    old-last = shows a c i (taken-v x) ∙ go (alive v (v .own i)) refl ∙ sym (shows b d j (taken-u x))
       where
         go : (z : Bool) → alive v (v .own i) ≡ z → (if is-init v i then (if below v n (v .own i) then next-pid v (v .own i) else v .last (v .own i)) else 0) ≡ (if is-init u j then (if below u m (u .own j) then next-pid u (u .own j) else u .last (u .own j)) else 0)
         go true h =
             let o = owns w x h in
             λ y. if is-init-twins w x h y then (if below-cradle o y then next-twins w o y else last-twins w o y) else 0
-        go false h = rw (not-init (w .facts-v) i ti h, not-init (w .facts-u) j tj (sym (alive-named w (own-names w x)) ∙ h)) refl
+        go false h = rw (not-init (w .facts-v) i (taken-v x) h, not-init (w .facts-u) j (taken-u x) (sym (alive-named w (own-names w x)) ∙ h)) refl
 
     old-rows : row v′ s i ≡ row u′ r j
     unfolding row
     old-rows =
-        let ei = ne-eqb i k oi in
-        let ej = ne-eqb j l oj in
+        let ei = ne-eqb i k (old a c i (taken-v x)) in
+        let ej = ne-eqb j l (old b d j (taken-u x)) in
         row-by v′ u′ s r i j (left-pids v c n k i ei (levels - v .level s) (v .level s) ∙ ap (λ (o : Row). o .pids) rows ∙ sym (left-pids u d m l j ej (levels - u .level r) (u .level r))) (rw (ei, ej) (ap (λ (o : Row). o .state) rows)) (rw (ei, ej) (ap (λ (o : Row). o .handled) rows)) (rw (ei, ej) (ap (λ (o : Row). o .pending) rows)) (rw (ei, ej) (ap (λ (o : Row). o .unshared) rows))
-        (rw (ei, ej) (pid-in-grown a c s (v .parent i) (parent-old a i ti) ∙ ap (λ (o : Row). o .parent) rows ∙ sym (pid-in-grown b d r (u .parent j) (parent-old b j tj))))
-        (rw (ei, ej) (name-born a c s (v .own i) (own-not-unborn v (w .facts-v) i ti) ∙ ap (λ (o : Row). o .own) rows ∙ sym (name-born b d r (u .own j) (own-not-unborn u (w .facts-u) j tj))))
+        (rw (ei, ej) (pid-in-grown a c s (v .parent i) (parent-old a i (taken-v x)) ∙ ap (λ (o : Row). o .parent) rows ∙ sym (pid-in-grown b d r (u .parent j) (parent-old b j (taken-u x)))))
+        (rw (ei, ej) (name-born a c s (v .own i) (own-not-unborn v (w .facts-v) i (taken-v x)) ∙ ap (λ (o : Row). o .own) rows ∙ sym (name-born b d r (u .own j) (own-not-unborn u (w .facts-u) j (taken-u x)))))
         (rw (ei, ej) old-children)
         old-last
 

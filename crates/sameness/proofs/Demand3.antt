@@ -48,37 +48,24 @@ use Rattle.table.proofs.Chains.{or-false}
 -- ---- each call
 
 -- by two callers with the same number in S, and by an outsider
-all-inside : (c : Call) → MadeSame c
-all-inside Clone = clone-same
-all-inside CloneNew = clone-new-same
-all-inside Unshare = unshare-same
-all-inside (Setns n) = setns-same n
-all-inside (Kill n s) = kill-same n s
-all-inside (Exit s) = exit-same s
-all-inside Wait = wait-same
-all-inside Getpid = getpid-same
-all-inside Getppid = getppid-same
-all-inside (Handle s on) = handle-same s on
-all-inside Poll = poll-same
-
-all-outside : (c : Call) → MadeLeaves c
-all-outside Clone = clone-leaves
-all-outside CloneNew = clone-new-leaves
-all-outside Unshare = unshare-leaves
-all-outside (Setns n) = setns-leaves n
-all-outside (Kill n s) = kill-leaves n s
-all-outside (Exit s) = exit-leaves s
-all-outside Wait = wait-leaves
-all-outside Getpid = getpid-leaves
-all-outside Getppid = getppid-leaves
-all-outside (Handle s on) = handle-leaves s on
-all-outside Poll = poll-leaves
+each : (c : Call) → MadeSame c × MadeLeaves c
+each Clone = (clone-same, clone-leaves)
+each CloneNew = (clone-new-same, clone-new-leaves)
+each Unshare = (unshare-same, unshare-leaves)
+each (Setns n) = (setns-same n, setns-leaves n)
+each (Kill n s) = (kill-same n s, kill-leaves n s)
+each (Exit s) = (exit-same s, exit-leaves s)
+each Wait = (wait-same, wait-leaves)
+each Getpid = (getpid-same, getpid-leaves)
+each Getppid = (getppid-same, getppid-leaves)
+each (Handle s on) = (handle-same s on, handle-leaves s on)
+each Poll = (poll-same, poll-leaves)
 
 -- an outside call that makes no touch leaves the sheet
 pub outside-leaves : OutsideLeaves
 unfolding OutsideLeaves MadeLeaves happens table-after refused
 outside-leaves t s i c h hs a =
-    by-test (runs (view t) i) (λ k. rw (step-made t i c h k) (all-outside c t s i h hs k a (make-sound t i c h k)))
+    by-test (runs (view t) i) (λ k. rw (step-made t i c h k) (each c .1 t s i h hs k a (make-sound t i c h k)))
     (λ k. rw (step-refused t i c h k) (as-it-was t s hs))
 
 runs-alive : {t : Table} (s i : ℕ) → SoundTable t → So (seen (view t) s i) → So (runs (view t) i) → So (alive (view t) s)
@@ -103,7 +90,7 @@ inside-same {t} {u} {s} {r} {i} {j} c h g hs hr e m =
     let l : So (runs (view u) j) = sym both-run ∙ k in
     let p : Pair (view t) (view u) s r = record { facts-v = facts t h; facts-u = facts u g; alive-v = runs-alive s i h (m .seen-v) k; alive-u = runs-alive r j g (m .seen-u) l; same = w } in
     rw (step-made t i c h k, step-made u j c g l)
-    (all-inside c t u s r i j (record { sound-t = h; sound-u = g; pair = p; twin = m; runs-t = k; runs-u = l }) (make-sound t i c h k) (make-sound u j c g l)))
+    (each c .0 t u s r i j (record { sound-t = h; sound-u = g; pair = p; twin = m; runs-t = k; runs-u = l }) (make-sound t i c h k) (make-sound u j c g l)))
     (λ k. rw (step-refused t i c h k, step-refused u j c g (sym both-run ∙ k)) (refused-same t u s r NotRunning hs hr e))
 
 -- ---- the relation that every call keeps
