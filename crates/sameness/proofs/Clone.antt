@@ -23,7 +23,7 @@ use Rattle.sameness.proofs.Calls.{Kept, Ready, MadeSame, stands-same, b
 use Rattle.sameness.proofs.Readers.{children-names, children-unborn, twin-eqb, children-taken}
 use Rattle.sameness.proofs.Same.{Same, same-trans}
 use Rattle.sameness.proofs.Twins.{Pair, Twin, Twins, taken-v, taken-u, twins-named, twins-level, owns, flip-same}
-use Rattle.sameness.proofs.Freeing.{freed-alike, after, freed-leaves}
+use Rattle.sameness.proofs.Freeing.{freed-alike, freed-leaves}
 use Rattle.sameness.proofs.Light.{shown, same-put}
 use Rattle.sameness.proofs.NewNamespace.{the-namespace, new-name, new-taken, new-still, new-unborn, not-held, same-free, new-outside}
 use Rattle.sameness.proofs.Still.{Still, near-here, same-still, stands-still, near, put-still}
@@ -34,7 +34,7 @@ use Rattle.table.specs.Limits.{process-slots, deepest, namespace-slots}
 use Rattle.rules.specs.Pids.{free-slot, free-namespace-slot, next-pid}
 use Rattle.table.specs.Slots.{is-dead, is-alive, process}
 use Rattle.rules.specs.Read.{View, dead, namespace-taken, unborn, view, pid-seen, below, seen}
-use Rattle.sameness.specs.Sheet.{Row, name-by, row, sheet}
+use Rattle.sameness.specs.Sheet.{Row, name-by, row}
 use Rattle.rules.specs.Sound.{SoundTable}
 use Rattle.rules.specs.Step.{make}
 use Rattle.table.specs.Tests.{_or_, if_then_else_}
@@ -335,28 +335,22 @@ clone-leaves t s i h hs k a g =
 -- clone new
 pub clone-new-leaves : MadeLeaves CloneNew
 unfolding MadeLeaves make clone-new refused
-clone-new-leaves t s i h hs k a g = go (eqb (own-level (view t) i) deepest) refl (eqb (free-slot (view t)) process-slots or eqb (free-namespace-slot (view t)) namespace-slots) refl g
-  where
-    go : (x : Bool) → eqb (own-level (view t) i) deepest ≡ x → (b : Bool) → eqb (free-slot (view t)) process-slots or eqb (free-namespace-slot (view t)) namespace-slots ≡ b → SoundTable (clone-new t i .table) → after t s (clone-new t i .table) ≡ sheet (view t) s
-    go true ea b eb g = rw (ea, clone-new) (as-it-was t s hs)
-    go false ea true eb g = rw (ea, eb, clone-new) (as-it-was t s hs)
-    go false ea false eb g =
-        let x = free-namespace-slot (view t) in
-        let room : free-namespace-slot (view t) ≡ namespace-slots → ⊥ = eqb-false _ _ (or-false-right _ _ eb) in
-        let still = new-still (sane t h) i room s hs in
-        let li = runs-lives t i k in
-        let f₁ = namespace-sane t (sane t h) i li (eqb-false _ _ ea) room in
-        let tx = new-taken (sane t h) i room in
-        let o = new-outside (sane t h) i room s hs (lives-taken (view t) i li) (f₁ .facts) (outsider t s i CloneNew a) in
-        rw (ea, eb, clone-new)
-        (stands-leaves h (rw (ea, eb, clone-new) at g) hs (birth-stands f₁ i x tx room₁ s o (stands-still (facts t h) still hs))
-        (same-trans (birth-leaves f₁ i x tx room₁ s o) (same-still (facts t h) still)))
-      where
-        t₁ : Table
-        t₁ = new-namespace t i
-
-        room₁ : free-slot (view t₁) ≡ process-slots → ⊥
-        room₁ e = eqb-false _ _ (or-false-left _ _ eb) (sym (same-free t i) ∙ e)
+clone-new-leaves t s i h hs k a g =
+    by-test (eqb (own-level (view t) i) deepest) (λ ea. rw (ea, clone-new) (as-it-was t s hs))
+    (λ ea. by-test (eqb (free-slot (view t)) process-slots or eqb (free-namespace-slot (view t)) namespace-slots)
+    (λ eb. rw (ea, eb, clone-new) (as-it-was t s hs))
+    (λ eb.
+    let x = free-namespace-slot (view t) in
+    let room : x ≡ namespace-slots → ⊥ = eqb-false _ _ (or-false-right _ _ eb) in
+    let room₁ : free-slot (view (new-namespace t i)) ≡ process-slots → ⊥ = λ e. eqb-false _ _ (or-false-left _ _ eb) (sym (same-free t i) ∙ e) in
+    let still = new-still (sane t h) i room s hs in
+    let li = runs-lives t i k in
+    let f₁ = namespace-sane t (sane t h) i li (eqb-false _ _ ea) room in
+    let tx = new-taken (sane t h) i room in
+    let o = new-outside (sane t h) i room s hs (lives-taken (view t) i li) (f₁ .facts) (outsider t s i CloneNew a) in
+    rw (ea, eb, clone-new)
+    (stands-leaves h (rw (ea, eb, clone-new) at g) hs (birth-stands f₁ i x tx room₁ s o (stands-still (facts t h) still hs))
+    (same-trans (birth-leaves f₁ i x tx room₁ s o) (same-still (facts t h) still)))))
 
 -- unshare
 pub unshare-leaves : MadeLeaves Unshare
