@@ -35,6 +35,12 @@ held-there {u} {s} {r} w {n} k l h =
     any-intro _ _ j (w .facts-u .in-range j (taken-u p))
     (both _ _ (sym (seen-twins w p l) ∙ left _ _ g) (eq-eqb _ _ (sym (pid-twins w p l) ∙ eqb-true _ _ (right _ _ g))))
 
+-- it is where the same numbers are free and the last was the same
+next-same : (v u : View) (n m : ℕ) → ((k : ℕ) → free-pid v n k ≡ free-pid u m k) → v .last n ≡ u .last m → next-pid v n ≡ next-pid u m
+unfolding next-pid
+next-same v u n m h e =
+    ap₂ (λ (f : ℕ → Bool) (a : ℕ). let k = lowest f (greatest-pid - a) (suc a) in let q = lowest f (suc greatest-pid - restart-pid) restart-pid in if leb k greatest-pid then k else q) (fun-ext h) e
+
 module _ {v u : View} {s r : ℕ} (w : Pair v u s r) {n m : ℕ} (l : Twins v u s r n m) where
   pub free-twins : (k : ℕ) → free-pid v n k ≡ free-pid u m k
   unfolding free-pid
@@ -52,9 +58,7 @@ module _ {v u : View} {s r : ℕ} (w : Pair v u s r) {n m : ℕ} (l : Twins v u 
 
   -- the next number is the same
   pub next-twins : next-pid v n ≡ next-pid u m
-  unfolding next-pid
-  next-twins =
-      ap₂ (λ (f : ℕ → Bool) (a : ℕ). let k = lowest f (greatest-pid - a) (suc a) in let q = lowest f (suc greatest-pid - restart-pid) restart-pid in if leb k greatest-pid then k else q) (fun-ext free-twins) last-twins
+  next-twins = next-same v u n m free-twins last-twins
 
 -- ---- a birth, on one table: what is read of the others is what it was
 
@@ -178,9 +182,7 @@ unborn-free {v} f n k h =
     ap not (bool-ext held false (λ a. let (i, l, g) = any-elim _ _ a in absurd (unborn-unseen f n i h (left _ _ g))) (λ a. absurd (false≢true a)))
 
 pub next-unborn : {v u : View} (f : Facts v) (g : Facts u) (n m : ℕ) → So (unborn v n) → So (unborn u m) → v .last n ≡ u .last m → next-pid v n ≡ next-pid u m
-unfolding next-pid
-next-unborn f g n m h k e =
-    ap₂ (λ (x : ℕ → Bool) (a : ℕ). let y = lowest x (greatest-pid - a) (suc a) in let q = lowest x (suc greatest-pid - restart-pid) restart-pid in if leb y greatest-pid then y else q) (fun-ext (λ i. unborn-free f n i h ∙ sym (unborn-free g m i k))) e
+next-unborn {v} {u} f g n m h k e = next-same v u n m (λ i. unborn-free f n i h ∙ sym (unborn-free g m i k)) e
 
 -- where two children are born: in twin namespaces, or in unborn ones below twin namespaces
 pub record Unborns (v u : View) (s r n m : ℕ) : Type 0 where
