@@ -24,8 +24,8 @@ extern "C" {
 /* What lampfunnel_run answers where the buffer is too short. */
 #define LAMPFUNNEL_SHORT SIZE_MAX
 
-/* The words of a table: 16 for each of 64 process slots, then 5 for each of 32 namespace slots. */
-#define LAMPFUNNEL_TABLE_WORDS ((size_t)1184)
+/* The words of a table: 15 for each of 64 process slots, then 5 for each of 32 namespace slots. */
+#define LAMPFUNNEL_TABLE_WORDS ((size_t)(64 * 15 + 32 * 5))
 
 /*
  * Runs a whole script from the fresh table, the root init alone at slot 0. Each line gives one line of answer; the
@@ -41,9 +41,8 @@ size_t lampfunnel_run(const uint8_t *script, size_t script_len, uint8_t *out, si
  * Whether words are a sound table: 1 or 0; 2 where they are not LAMPFUNNEL_TABLE_WORDS.
  *
  * A process: own and children's namespace, parent, state (0 running, 1 stopped, 2 ended with a number, 3 by a
- * signal), that number or signal, handled and pending signals (bit s for signal s), the mark "has unshared", and
- * eight numbers. A namespace: parent, level, last number, condition (0 unborn, 1 alive, 2 dead), its init. 255 is
- * "none".
+ * signal), that number or signal, handled and pending signals (bit s for signal s), and eight numbers. A namespace:
+ * parent, level, last number, condition (0 unborn, 1 alive, 2 dead), its init. 255 is "none".
  */
 uint8_t lampfunnel_is_sound(const uint32_t *words, size_t len);
 

@@ -1,7 +1,6 @@
 -- A birth and a new namespace, with the slot given. The definitions of `table` take the lowest free one; proofs/Given.antt
 -- says that there these are the same.
 use Prim.Native.Nat.{ℕ}
-use mathlib.Core.Bool.{false}
 use mathlib.Core.List.{List}
 use Rattle.rules.specs.Births.{newborn, joined}
 use Rattle.table.specs.Slots.{is-unborn, to-pid, put, put-namespace, changed}
@@ -28,7 +27,7 @@ namespace-at t slot parent level =
 -- the child's record, its numbers given
 abbrev pub child-with : ℕ → ℕ → List Pid → Process
 child-with caller n pids =
-    record { own = record { 0 = n }; children = record { 0 = n }; parent = record { 0 = caller }; state = Running; handled = 0; pending = 0; unshared = false; pids = pids }
+    record { own = record { 0 = n }; children = record { 0 = n }; parent = record { 0 = caller }; state = Running; handled = 0; pending = 0; pids = pids }
 
 -- a namespace in which the child at a slot takes the number k: it becomes the last; if the namespace is unborn the child is
 -- its init

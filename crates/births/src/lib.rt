@@ -20,7 +20,7 @@ ghost use Rattle.births.specs.Births.{birth-at, namespace-at, child-with
 
 // ---- one record
 
-// A child runs, its children's namespace is its own, signals and mark are empty.
+// A child runs, its children's namespace is its own, signals are empty.
 fn newborn(caller: ProcSlot, n: NsSlot, pids: [Pid; LEVELS]) -> Process
     ensures { λ r. ⌜ r ≡ child-with (caller .0) (n .0) pids ⌝ }
 {
@@ -31,7 +31,6 @@ fn newborn(caller: ProcSlot, n: NsSlot, pids: [Pid; LEVELS]) -> Process
         state: State::Running,
         handled: 0,
         pending: 0,
-        unshared: false,
         pids: pids,
     }
 }

@@ -3,9 +3,9 @@
 use Prim.Native.Nat.{ℕ, _<_, _≤_}
 use native.Mathlib.Decide.{decLt}
 use native.Mathlib.Omega.{arith}
-use mathlib.Core.Bool.{true, false, So}
+use mathlib.Core.Bool.{Bool, true, false, not, So}
 use mathlib.Core.List.{List, map}
-use mathlib.Core.Path.{_≡_, refl, sym, ap, _∙_}
+use mathlib.Core.Path.{_≡_, refl, sym, ap, ap₂, _∙_}
 use borrow.Author.Tests.{eq-eqb, ne-eqb}
 use denote.Laws.{Is}
 use lib.Dec.{eqb}
@@ -18,7 +18,7 @@ use Rattle.rules.proofs.Laws.Below.{level-deepest}
 use Rattle.rules.proofs.Laws.ReadAt.{read-at}
 use Rattle.rules.proofs.Laws.Tests.{left}
 use Rattle.rules.specs.Answers.{answers}
-use Rattle.rules.specs.Calls.{own-level, getpid, getppid}
+use Rattle.rules.specs.Calls.{own-level, elsewhere, getpid, getppid}
 use Rattle.table.specs.Limits.{deepest}
 use Rattle.table.specs.Fresh.{empty-process}
 use Rattle.table.specs.Slots.{process, namespace, pid-at, put}
@@ -54,6 +54,9 @@ put-changed t i p f e = go (decLt i long)
 module _ (t : Table) (c : ℕ) (p : Process) (e : p ≡ getD (t .processes) c empty-process) where
   pub own-level-read : (s : Namespace) → s ≡ namespace t (p .own .0) → s .level ≡ own-level (view t) c
   own-level-read s q = ap (λ u. u .level) q ∙ ap (λ n. namespace t n .level) (read-at t c p e .own)
+
+  pub elsewhere-read : (b : Bool) → b ≡ not (eqb (p .children .0) (p .own .0)) → b ≡ elsewhere (view t) c
+  elsewhere-read b q = q ∙ ap₂ (λ n m. not (eqb n m)) (read-at t c p e .children) (read-at t c p e .own)
 
   -- the number of the process at c in the caller's own namespace, whose level l is
   pub getpid-read : (l k : ℕ) (r : Outcome) → l ≡ own-level (view t) c → k ≡ pid-at p l → r ≡ answers t k → r ≡ getpid t c

@@ -47,12 +47,12 @@ module _ (p : Process) (u : Val) (s : shadow (P.the-field .row .own (P.the-field
   pids-fit : Fit p
   pids-fit l =
       each-gives (K.the-field .into) (K.the-field .row .own) (λ (k : Pid). k .0 < 65536) (λ k v a. a .1 .1 .0 .1) no-pid (p .pids) _
-      (s .1 .1 .1 .1 .1 .1 .1 .1 .1 .0 .1 .1) l (λ h. omega arith)
+      (s .1 .1 .1 .1 .1 .1 .1 .1 .0 .1 .1) l (λ h. omega arith)
 
   process-shaped : Shaped p
   process-shaped =
       both _ _
-      (both _ _ (eq-eqb _ levels (length-mapped (K.the-field .into) (p .pids) levels (s .1 .1 .1 .1 .1 .1 .1 .1 .1 .0 .1 .0 .1)))
+      (both _ _ (eq-eqb _ levels (length-mapped (K.the-field .into) (p .pids) levels (s .1 .1 .1 .1 .1 .1 .1 .1 .0 .1 .0 .1)))
       (lt-ltb _ (2 ^ signals) (s .1 .1 .1 .1 .1 .1 .0 .1)))
       (lt-ltb _ (2 ^ signals) (s .1 .1 .1 .1 .1 .1 .1 .0 .1))
 

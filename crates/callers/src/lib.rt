@@ -1,4 +1,5 @@
-// The caller: its namespace's level, whom a number names there, and the calls that only ask: getpid and getppid.
+// The caller: its namespace's level, whether its children are born into another one, whom a number names in its own, and
+// the calls that only ask: getpid and getppid.
 use arguments::names_one;
 use arguments::natural_of;
 use outcomes::answers;
@@ -12,7 +13,7 @@ use tree::levels;
 use tree::pid_in;
 use tree::ups;
 ghost use mathlib.Core.Path.{_≡_};
-ghost use Rattle.rules.specs.Calls.{own-level, named as named-in, getpid as getpid-of, getppid as getppid-of};
+ghost use Rattle.rules.specs.Calls.{own-level, elsewhere, named as named-in, getpid as getpid-of, getppid as getppid-of};
 ghost use Rattle.rules.specs.Read.{view};
 
 // The slot that says that a number names nobody.
@@ -26,6 +27,14 @@ pub fn own_level(t: Table, caller: ProcSlot) -> u8
     let own = p.own;
     let home = t.namespace(own);
     home.level
+}
+
+// Whether the children's namespace is not the caller's own.
+pub fn is_elsewhere(t: Table, caller: ProcSlot) -> bool
+    ensures { λ r. ⌜ r ≡ elsewhere (view t) (caller .0) ⌝ }
+{
+    let p = t.process(caller);
+    p.children.0 != p.own.0
 }
 
 // The slot of the process that a number names in the caller's namespace. Nobody has a number of 0 or below, or one

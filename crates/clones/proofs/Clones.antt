@@ -16,7 +16,7 @@ use Rattle.rules.proofs.Laws.ReadAt.{read-at}
 use Rattle.table.proofs.Table as T
 use Rattle.rules.specs.Answers.{refused}
 use Rattle.rules.specs.Births.{birth}
-use Rattle.rules.specs.Calls.{own-level, born, clone, clone-new}
+use Rattle.rules.specs.Calls.{own-level, elsewhere, born, clone, clone-new}
 use Rattle.table.specs.Fresh.{empty-process}
 use Rattle.table.specs.Limits.{process-slots, namespace-slots, deepest}
 use Rattle.rules.specs.Pids.{next-pid, free-slot, free-namespace-slot}
@@ -29,7 +29,7 @@ use Rattle.table.specs.declared.Namespace.{Namespace}
 use Rattle.table.specs.declared.Outcome.{Outcome}
 use Rattle.table.specs.declared.ProcSlot.{ProcSlot}
 use Rattle.table.specs.declared.Process.{Process}
-use Rattle.table.specs.declared.Refusal.the-variants.{Enospc, Enomem, Eagain}
+use Rattle.table.specs.declared.Refusal.the-variants.{Einval, Enospc, Enomem, Eagain}
 use Rattle.table.specs.declared.Table.{Table}
 
 -- the child's number k and its slot i, and the table with it
@@ -67,30 +67,41 @@ module _ (t : Table) (c : ℕ) (p : Process) (s : Namespace) (b : Bool) (r : Out
         (if-no _ _ _ _ (ne-eqb _ process-slots (λ h. o (f ∙ h)))
         (a f ∙ ap (born t c) (birth-given t u i c (p .children .0) f g ∙ ap (birth t c) for-children)))
 
--- ---- new: l is the caller's level as `own_level` gives it, i and n are what `free_slot` and `free_namespace_slot` give
+-- ---- new: b is what `is_elsewhere` gives of the caller, l its level as `own_level` gives it, i and n are what `free_slot`
+-- and `free_namespace_slot` give
 
-module _ (t : Table) (c l : ℕ) (k : l ≡ own-level (view t) c) where
-  module _ (r : Outcome) where
+module _ (t : Table) (c : ℕ) (b : Bool) (z : b ≡ elsewhere (view t) c) (r : Outcome) where
+  pub clone-new-elsewhere : b ≡ true → r ≡ refused t Einval → r ≡ clone-new t c
+  unfolding clone-new
+  clone-new-elsewhere y a = if-yes _ _ _ _ (sym z ∙ y) a
+
+  module _ (l : ℕ) (x : b ≡ false) (k : l ≡ own-level (view t) c) where
+    home : elsewhere (view t) c ≡ false
+    home = sym z ∙ x
+
     pub clone-new-deep : (vs : List Val) → Is T.the-row t vs → deepest ≤ l → r ≡ refused t Enospc → So (sound t) → So (runs (view t) c) → r ≡ clone-new t c
     unfolding clone-new
-    clone-new-deep vs is d a s h = if-yes _ _ _ _ (too-deep t c l k vs is d s h) a
+    clone-new-deep vs is d a s h = if-no _ _ _ _ home (if-yes _ _ _ _ (too-deep t c l k vs is d s h) a)
 
     module _ (i : ℕ) (d : l < deepest) (f : i ≡ free-slot (view t)) where
       pub clone-new-full : i ≡ process-slots → r ≡ refused t Eagain → r ≡ clone-new t c
       unfolding clone-new
       clone-new-full h a =
-          if-no _ _ _ _ (not-deep t c l k d) (if-yes _ _ _ _ (or-true _ _ (eq-eqb _ process-slots (sym f ∙ h))) a)
+          if-no _ _ _ _ home
+          (if-no _ _ _ _ (not-deep t c l k d) (if-yes _ _ _ _ (or-true _ _ (eq-eqb _ process-slots (sym f ∙ h))) a))
 
       module _ (n : ℕ) (o : i ≡ process-slots → ⊥) (g : n ≡ free-namespace-slot (view t)) where
         pub clone-new-crowded : n ≡ namespace-slots → r ≡ refused t Eagain → r ≡ clone-new t c
         unfolding clone-new
         clone-new-crowded h a =
-            if-no _ _ _ _ (not-deep t c l k d) (if-yes _ _ _ _ (or-true-later _ _ (eq-eqb _ namespace-slots (sym g ∙ h))) a)
+            if-no _ _ _ _ home
+            (if-no _ _ _ _ (not-deep t c l k d) (if-yes _ _ _ _ (or-true-later _ _ (eq-eqb _ namespace-slots (sym g ∙ h))) a))
 
         -- p is the process read at the caller's slot, u the table with the namespace, and w the one with the child
         pub clone-new-born : (p : Process) (u w : Table) → (n ≡ namespace-slots → ⊥) → p ≡ getD (t .processes) c empty-process → u ≡ namespace-at t n (p .own .0) (l + 1) → w ≡ birth-at u i c n → (i ≡ free-slot (view t) → r ≡ born t c w) → r ≡ clone-new t c
         unfolding clone-new
         clone-new-born p u w m e x y a =
-            if-no _ _ _ _ (not-deep t c l k d)
+            if-no _ _ _ _ home
+            (if-no _ _ _ _ (not-deep t c l k d)
             (if-no _ _ _ _ (or-false _ _ (ne-eqb _ process-slots (λ h. o (f ∙ h))) (ne-eqb _ namespace-slots (λ h. m (g ∙ h))))
-            (a f ∙ ap (born t c) (clone-new-given t u w c n i (p .own .0) l g (read-at t c p e .own) k x f y)))
+            (a f ∙ ap (born t c) (clone-new-given t u w c n i (p .own .0) l g (read-at t c p e .own) k x f y))))

@@ -1,6 +1,7 @@
 // clone, plain and new: a child is born, if it is not refused, in document 01's order.
 use births::birth;
 use births::new_namespace;
+use callers::is_elsewhere;
 use callers::own_level;
 use numbers::next_pid;
 use outcomes::refused;
@@ -65,8 +66,12 @@ pub fn clone(t: Table, caller: ProcSlot) -> Outcome
 pub fn clone_new(t: Table, caller: ProcSlot) -> Outcome
     ensures { λ r. ⌜ (So (sound t) → So (runs (view t) (caller .0)) → r ≡ clone-new-of t (caller .0)) ⌝ }
 {
+    let elsewhere = is_elsewhere(t, caller);
     let level = own_level(t, caller);
     let slot = free_slot(t);
+    if elsewhere {
+        return refused(t, Refusal::Einval);
+    }
     if DEEPEST <= level {
         return refused(t, Refusal::Enospc);
     }

@@ -34,7 +34,7 @@ ghost use Rattle.ending.specs.Holding.{mark-at, with-marks, marks-of, ke
 
 // ---- one record
 
-// A process that has ended has no children's namespace, signals or mark.
+// A process that has ended has no children's namespace or signals.
 fn ended(p: Process, how: End) -> Process
     ensures { λ r. ⌜ r ≡ as-ended p how ⌝ }
 {
@@ -48,7 +48,6 @@ fn ended(p: Process, how: End) -> Process
         state: State::Ended(how),
         handled: 0,
         pending: 0,
-        unshared: false,
         pids: pids,
     }
 }

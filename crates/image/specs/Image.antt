@@ -1,7 +1,6 @@
--- A table written as words of 32 bits, for a host that holds one: 16 words for each process slot, then 5 for each
+-- A table written as words of 32 bits, for a host that holds one: 15 words for each process slot, then 5 for each
 -- namespace slot. Each word gives its field by its low bits, so any words are some table.
 use Prim.Native.Nat.{ℕ, zero, suc, _+_, _*_, _%_}
-use mathlib.Core.Bool.{Bool, true, false, not}
 use mathlib.Core.List.{List, [], _∷_}
 use lib.Dec.{eqb}
 use lib.ListN.{getD, replicate}
@@ -21,16 +20,16 @@ use Rattle.table.specs.declared.Table.{Table}
 
 -- words for each process, for each namespace, and in all
 abbrev pub process-words : ℕ
-process-words = 16
+process-words = 15
 
 abbrev pub namespace-words : ℕ
 namespace-words = 5
 
 abbrev pub namespaces-at : ℕ
-namespaces-at = 1024
+namespaces-at = process-slots * process-words
 
 abbrev pub image-words : ℕ
-image-words = 1184
+image-words = namespaces-at + namespace-slots * namespace-words
 
 -- the low 8 and the low 16 bits of the word at k
 unfoldable pub byte-at : List ℕ → ℕ → ℕ
@@ -56,7 +55,7 @@ life-from kind init =
 unfoldable pub pids-from : List ℕ → ℕ → List Pid
 pids-from ws k = changed-to (λ l p. pid-at-word ws (k + l)) no-pid levels (replicate levels no-pid)
 
--- own and children's namespace, parent, state, how it ended, handled, pending, mark, eight numbers
+-- own and children's namespace, parent, state, how it ended, handled, pending, eight numbers
 unfoldable pub process-from : List ℕ → ℕ → Process
 process-from ws k =
     record {
@@ -66,8 +65,7 @@ process-from ws k =
       state = state-from (byte-at ws (k + 3)) (byte-at ws (k + 4));
       handled = getD ws (k + 5) 0;
       pending = getD ws (k + 6) 0;
-      unshared = not (eqb (byte-at ws (k + 7)) 0);
-      pids = pids-from ws (k + 8);
+      pids = pids-from ws (k + 7);
     }
 
 -- parent, level, last number, condition, init

@@ -19,13 +19,13 @@ ghost use lib.ListN.{length};
 ghost use Rattle.image.specs.Image.{image-words, process-words, namespace-words, byte-at, pid-at-word, state-from, life-from, pids-from, process-from, namespace-from, processes-from, namespaces-from, table-from};
 ghost use Rattle.table.specs.Limits.{levels};
 
-pub const IMAGE_WORDS: usize = 1184;
-
-const PROCESS_WORDS: usize = 16;
-
-const NAMESPACES_AT: usize = 1024;
+const PROCESS_WORDS: usize = 15;
 
 const NAMESPACE_WORDS: usize = 5;
+
+const NAMESPACES_AT: usize = PROCESS_SLOTS * PROCESS_WORDS;
+
+pub const IMAGE_WORDS: usize = NAMESPACES_AT + NAMESPACE_SLOTS * NAMESPACE_WORDS;
 
 // The low 8 bits of a word.
 fn byte(words: &[u32], k: usize) -> u8
@@ -92,7 +92,6 @@ fn process(words: &[u32], k: usize) -> Process
     let children = NsSlot(byte(words, k + 1));
     let parent = ProcSlot(byte(words, k + 2));
     let state = state(byte(words, k + 3), byte(words, k + 4));
-    let mark = byte(words, k + 7);
     Process {
         own,
         children,
@@ -100,8 +99,7 @@ fn process(words: &[u32], k: usize) -> Process
         state,
         handled: words[k + 5],
         pending: words[k + 6],
-        unshared: mark != 0,
-        pids: pids(words, k + 8),
+        pids: pids(words, k + 7),
     }
 }
 

@@ -2,7 +2,7 @@
 use Prim.Native.Nat.{ℕ, _<_, _≤_, _+_}
 use mathlib.Core.Bool.{Bool, true, false, So}
 use mathlib.Core.List.{List}
-use mathlib.Core.Path.{_≡_, sym, ap, ap₂, _∙_}
+use mathlib.Core.Path.{_≡_, sym, ap, _∙_}
 use borrow.Author.Tests.{eq-eqb, ne-eqb}
 use denote.Laws.{Is}
 use lib.Dec.{eqb}
@@ -18,12 +18,12 @@ use Rattle.table.proofs.Chains.{if-yes, if-no, or-true, or-true-later, or-false
 use Rattle.table.proofs.Table as T
 use Rattle.rules.proofs.Laws.ReadAt.{read-at}
 use Rattle.rules.specs.Answers.{refused, answers}
-use Rattle.rules.specs.Calls.{own-level, new-namespace, set-children, unshare, named, setns}
+use Rattle.rules.specs.Calls.{elsewhere, own-level, new-namespace, set-children, unshare, named, setns}
 use Rattle.rules.specs.Freeing.{freed}
 use Rattle.table.specs.Fresh.{empty-process}
 use Rattle.table.specs.Limits.{process-slots, namespace-slots, deepest}
 use Rattle.rules.specs.Pids.{free-namespace-slot}
-use Rattle.table.specs.Slots.{process, is-ended, put}
+use Rattle.table.specs.Slots.{is-ended, put}
 use Rattle.rules.specs.Read.{view}
 use Rattle.rules.specs.Sound.{sound}
 use Rattle.rules.specs.Step.{runs}
@@ -35,10 +35,10 @@ use Rattle.table.specs.declared.Refusal.the-variants.{Einval, Enospc, Eagain, E
 use Rattle.table.specs.declared.Table.{Table}
 
 -- p is the process read at the caller's slot c
-pub children-set : (t u r : Table) (c n : ℕ) (mark : Bool) (p : Process) → p ≡ getD (t .processes) c empty-process → u ≡ put t c (with-children p n mark) → r ≡ freed u → r ≡ set-children t c n mark
+pub children-set : (t u r : Table) (c n : ℕ) (p : Process) → p ≡ getD (t .processes) c empty-process → u ≡ put t c (with-children p n) → r ≡ freed u → r ≡ set-children t c n
 unfolding set-children
-children-set t u r c n mark p e d f =
-    f ∙ ap freed (d ∙ put-changed t c p (λ q. with-children q n mark) e)
+children-set t u r c n p e d f =
+    f ∙ ap freed (d ∙ put-changed t c p (λ q. with-children q n) e)
 
 -- i is the slot that `named` gives of the argument z
 module _ (t : Table) (c i : ℕ) (z : ℤ) (fits : SFits w32 z) (r : Outcome) (e : i ≡ named (view t) c (toZ w32 (ofZ w32 z))) where
@@ -48,7 +48,7 @@ module _ (t : Table) (c i : ℕ) (z : ℤ) (fits : SFits w32 z) (r : Outcome) (e
   abbrev Sets : ℕ → Outcome
   Sets j =
       if eqb j process-slots or view t .ended j then refused t Esrch
-      else answers (set-children t c (view t .own j) (process t c .unshared)) 0
+      else answers (set-children t c (view t .own j)) 0
 
   comes : r ≡ Sets i → r ≡ setns t c z
   unfolding setns
@@ -65,46 +65,41 @@ module _ (t : Table) (c i : ℕ) (z : ℤ) (fits : SFits w32 z) (r : Outcome) (e
     pub setns-ended : b ≡ true → r ≡ refused t Esrch → r ≡ setns t c z
     setns-ended y a = comes (if-yes _ _ _ _ (or-true-later _ _ (sym ended ∙ y)) a)
 
-    -- s is the process read at the caller's slot
-    pub setns-sets : (s : Process) (u : Table) → b ≡ false → s ≡ getD (t .processes) c empty-process → u ≡ set-children t c (p .own .0) (s .unshared) → r ≡ answers u 0 → r ≡ setns t c z
-    setns-sets s u n f g a =
+    pub setns-sets : (u : Table) → b ≡ false → u ≡ set-children t c (p .own .0) → r ≡ answers u 0 → r ≡ setns t c z
+    setns-sets u n g a =
         comes
         (if-no _ _ _ _ (or-false _ _ (ne-eqb i process-slots o) (sym ended ∙ n))
-        (a
-        ∙ ap (λ x. answers x 0) (g ∙ ap₂ (set-children t c) (read-at t i p d .own) (read-at t c s f .unshared))))
+        (a ∙ ap (λ x. answers x 0) (g ∙ ap (set-children t c) (read-at t i p d .own))))
 
--- ---- unshare: p is the process read at the caller's slot
+-- ---- unshare: p is the process read at the caller's slot, and b what `is_elsewhere` gives of it
 
-module _ (t : Table) (c : ℕ) (p : Process) (r : Outcome) (e : p ≡ getD (t .processes) c empty-process) where
-  marked : p .unshared ≡ process t c .unshared
-  marked = read-at t c p e .unshared
-
-  pub unshare-marked : p .unshared ≡ true → r ≡ refused t Einval → r ≡ unshare t c
+module _ (t : Table) (c : ℕ) (p : Process) (r : Outcome) (b : Bool) (e : p ≡ getD (t .processes) c empty-process) (q : b ≡ elsewhere (view t) c) where
+  pub unshare-elsewhere : b ≡ true → r ≡ refused t Einval → r ≡ unshare t c
   unfolding unshare
-  unshare-marked y a = if-yes _ _ _ _ (sym marked ∙ y) a
+  unshare-elsewhere y a = if-yes _ _ _ _ (sym q ∙ y) a
 
-  module _ (l : ℕ) (o : p .unshared ≡ false) (k : l ≡ own-level (view t) c) where
+  module _ (l : ℕ) (o : b ≡ false) (k : l ≡ own-level (view t) c) where
     pub unshare-deep : (vs : List Val) → Is T.the-row t vs → deepest ≤ l → r ≡ refused t Enospc → So (sound t) → So (runs (view t) c) → r ≡ unshare t c
     unfolding unshare
     unshare-deep vs is d a s h =
-        if-no _ _ _ _ (sym marked ∙ o) (if-yes _ _ _ _ (too-deep t c l k vs is d s h) a)
+        if-no _ _ _ _ (sym q ∙ o) (if-yes _ _ _ _ (too-deep t c l k vs is d s h) a)
 
     module _ (n : ℕ) (d : l < deepest) (g : n ≡ free-namespace-slot (view t)) where
       pub unshare-crowded : n ≡ namespace-slots → r ≡ refused t Eagain → r ≡ unshare t c
       unfolding unshare
       unshare-crowded h a =
-          if-no _ _ _ _ (sym marked ∙ o)
+          if-no _ _ _ _ (sym q ∙ o)
           (if-no _ _ _ _ (not-deep t c l k d) (if-yes _ _ _ _ (eq-eqb _ namespace-slots (sym g ∙ h)) a))
 
       -- u is the table with the namespace, and w the one where it is the caller's
-      pub unshare-sets : (u w : Table) → (n ≡ namespace-slots → ⊥) → u ≡ namespace-at t n (p .own .0) (l + 1) → w ≡ set-children u c n true → r ≡ answers w 0 → r ≡ unshare t c
+      pub unshare-sets : (u w : Table) → (n ≡ namespace-slots → ⊥) → u ≡ namespace-at t n (p .own .0) (l + 1) → w ≡ set-children u c n → r ≡ answers w 0 → r ≡ unshare t c
       unfolding unshare
       unshare-sets u w m x y a =
-          if-no _ _ _ _ (sym marked ∙ o)
+          if-no _ _ _ _ (sym q ∙ o)
           (if-no _ _ _ _ (not-deep t c l k d)
           (if-no _ _ _ _ (ne-eqb _ namespace-slots (λ h. m (g ∙ h)))
           (a
           ∙ ap (λ z. answers z 0)
           (y
-          ∙ ap (λ z. set-children z c n true) (namespace-given t u c n (p .own .0) l g (read-at t c p e .own) k x)
-          ∙ ap (λ j. set-children (new-namespace t c) c j true) g))))
+          ∙ ap (λ z. set-children z c n) (namespace-given t u c n (p .own .0) l g (read-at t c p e .own) k x)
+          ∙ ap (λ j. set-children (new-namespace t c) c j) g))))

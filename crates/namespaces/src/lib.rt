@@ -1,6 +1,7 @@
 // unshare and setns: the namespace that the caller's children are born into.
 use births::new_namespace;
 use callers::NOBODY;
+use callers::is_elsewhere;
 use callers::named;
 use callers::own_level;
 use ending::free_unheld;
@@ -25,16 +26,12 @@ ghost use Rattle.rules.specs.Step.{runs};
 // What says that no slot of namespaces is free.
 const FULL: u8 = NAMESPACE_SLOTS as u8;
 
-// The caller's children's namespace becomes n, with or without the mark; the caller's own stays.
-fn set_children(t: Table, caller: ProcSlot, n: NsSlot, mark: bool) -> Table
-    ensures { λ r. ⌜ r ≡ set-children t (caller .0) (n .0) mark ⌝ }
+// The caller's children's namespace becomes n; the caller's own stays.
+fn set_children(t: Table, caller: ProcSlot, n: NsSlot) -> Table
+    ensures { λ r. ⌜ r ≡ set-children t (caller .0) (n .0) ⌝ }
 {
     let p = t.process(caller);
-    let q = Process {
-        children: n,
-        unshared: mark,
-        ..p
-    };
+    let q = Process { children: n, ..p };
     free_unheld(t.with_process(caller, q))
 }
 
@@ -42,8 +39,9 @@ pub fn unshare(t: Table, caller: ProcSlot) -> Outcome
     ensures { λ r. ⌜ (So (sound t) → So (runs (view t) (caller .0)) → r ≡ unshare-of t (caller .0)) ⌝ }
 {
     let p = t.process(caller);
+    let elsewhere = is_elsewhere(t, caller);
     let level = own_level(t, caller);
-    if p.unshared {
+    if elsewhere {
         return refused(t, Refusal::Einval);
     }
     if DEEPEST <= level {
@@ -55,7 +53,7 @@ pub fn unshare(t: Table, caller: ProcSlot) -> Outcome
     }
     let own = p.own;
     let u = new_namespace(t, n, own, level + 1);
-    answers(set_children(u, caller, n, true), 0)
+    answers(set_children(u, caller, n), 0)
 }
 
 pub fn setns(t: Table, caller: ProcSlot, n: i32) -> Outcome
@@ -70,6 +68,5 @@ pub fn setns(t: Table, caller: ProcSlot, n: i32) -> Outcome
         return refused(t, Refusal::Esrch);
     }
     let own = target.own;
-    let p = t.process(caller);
-    answers(set_children(t, caller, own, p.unshared), 0)
+    answers(set_children(t, caller, own), 0)
 }

@@ -101,6 +101,33 @@ edges =
     ∷ (fresh, (0, Kill (minus 1) (pos 9), refuses 3) ∷ (0, Kill (pos 0) (pos 9), refuses 38) ∷ (0, Kill (pos 5) (pos 32), refuses 22) ∷ (0, Kill (pos 0) (pos 32), refuses 22) ∷ [])
     -- unshare, clone, child exits, clone: -12
     ∷ (fresh, (0, Unshare, says 0) ∷ (0, Clone, says 2) ∷ (1, Exit (pos 0), says 0) ∷ (0, Clone, refuses 12) ∷ [])
+    -- unshare and clone new give -22 while the children's namespace isn't the own one (W-203): an unborn one; after setns
+    -- back to the own one both are granted again
+    ∷ (
+      fresh,
+      (0, Unshare, says 0)
+          ∷ (0, Unshare, refuses 22)
+          ∷ (0, CloneNew, refuses 22)
+          ∷ (0, Setns (pos 1), says 0)
+          ∷ (0, Unshare, says 0)
+          ∷ (0, Setns (pos 1), says 0)
+          ∷ (0, CloneNew, says 2)
+          ∷ [],
+    )
+    -- one that lives below, and a dead one
+    ∷ (
+      fresh,
+      (0, CloneNew, says 2)
+          ∷ (0, Setns (pos 2), says 0)
+          ∷ (0, Unshare, refuses 22)
+          ∷ (0, CloneNew, refuses 22)
+          ∷ (1, Exit (pos 0), says 0)
+          ∷ (0, Unshare, refuses 22)
+          ∷ (0, CloneNew, refuses 22)
+          ∷ (0, Setns (pos 1), says 0)
+          ∷ (0, Unshare, says 0)
+          ∷ [],
+    )
     -- 63 processes: clone works; 64: -11; after a wait, it works
     ∷ (
       crowd 62,

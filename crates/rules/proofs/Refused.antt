@@ -74,10 +74,10 @@ entries =
     -- an unborn namespace with a last number, with a namespace below it, with two holders, with a holder further up
     ∷ (
       unborn-namespaces,
-      put-namespace (root-as (with-children root-init 1 true)) 1 (ns 0 1 5 Unborn)
-          ∷ put (table-of (exited 2 0 (2 ∷ 2 ∷ 2 ∷ []) ∷ []) (root ∷ ns 0 1 0 Unborn ∷ ns 1 2 2 Dead ∷ [])) 0 (with-children root-init 1 true)
-          ∷ put (table-of (with-children second 1 true ∷ []) (root ∷ ns 0 1 0 Unborn ∷ [])) 0 (with-children root-init 1 true)
-          ∷ put (table-of (inner ∷ []) (root ∷ ns 0 1 1 (alive-with 1) ∷ ns 1 2 0 Unborn ∷ [])) 0 (with-children root-init 2 true)
+      put-namespace (root-as (with-children root-init 1)) 1 (ns 0 1 5 Unborn)
+          ∷ put (table-of (exited 2 0 (2 ∷ 2 ∷ 2 ∷ []) ∷ []) (root ∷ ns 0 1 0 Unborn ∷ ns 1 2 2 Dead ∷ [])) 0 (with-children root-init 1)
+          ∷ put (table-of (with-children second 1 ∷ []) (root ∷ ns 0 1 0 Unborn ∷ [])) 0 (with-children root-init 1)
+          ∷ put (table-of (inner ∷ []) (root ∷ ns 0 1 1 (alive-with 1) ∷ ns 1 2 0 Unborn ∷ [])) 0 (with-children root-init 2)
           ∷ [],
     )
     -- a last number of 32,768
@@ -108,7 +108,7 @@ entries =
     -- an init whose parent is two levels up
     ∷ (first-parents, table-of (inner ∷ running 2 0 (3 ∷ 2 ∷ 1 ∷ []) ∷ []) (root ∷ ns 0 1 2 (alive-with 1) ∷ ns 1 2 1 (alive-with 2) ∷ []) ∷ [])
     -- a children's namespace above the own one
-    ∷ (children-namespaces, table-of (with-children inner 0 false ∷ []) (root ∷ ns 0 1 1 (alive-with 1) ∷ []) ∷ [])
+    ∷ (children-namespaces, table-of (with-children inner 0 ∷ []) (root ∷ ns 0 1 1 (alive-with 1) ∷ []) ∷ [])
     -- signals 0, 9 and 19 handled
     ∷ (
       handled-signals,
@@ -116,11 +116,10 @@ entries =
     )
     -- a signal pending and not handled
     ∷ (pending-signals, with-child (with-signals second (2 ^ 15) (2 ^ 10)) ∷ [])
-    -- an ended process with a children's namespace, with the mark, with signals
+    -- an ended process with a children's namespace, with signals
     ∷ (
       ended-bare,
-      with-child (with-children second-ended 0 false)
-          ∷ with-child (with-children second-ended no-slot true)
+      with-child (with-children second-ended 0)
           ∷ with-child (with-signals second-ended (2 ^ 15) 0)
           ∷ with-child (with-signals second-ended (2 ^ 15) (2 ^ 15))
           ∷ [],

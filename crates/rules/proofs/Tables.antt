@@ -1,6 +1,5 @@
 -- Small tables, written down for computed facts.
 use Prim.Native.Nat.{ℕ, zero, suc, _-_}
-use mathlib.Core.Bool.{false}
 use mathlib.Core.List.{List, [], _∷_, _++_, map}
 use lib.ListN.{length, replicate}
 use Rattle.table.specs.Fresh.{empty-process, empty-namespace, root-init}
@@ -19,7 +18,7 @@ use Rattle.table.specs.declared.Table.{Table}
 
 -- a running process with an own namespace, a parent and numbers from the root's level down
 abbrev pub running : ℕ → ℕ → List ℕ → Process
-running n p ks = record { own = record { 0 = n }; children = record { 0 = n }; parent = record { 0 = p }; state = Running; handled = 0; pending = 0; unshared = false; pids = map to-pid ks ++ replicate (levels - length ks) no-pid }
+running n p ks = record { own = record { 0 = n }; children = record { 0 = n }; parent = record { 0 = p }; state = Running; handled = 0; pending = 0; pids = map to-pid ks ++ replicate (levels - length ks) no-pid }
 
 -- the same, ended
 abbrev pub exited : ℕ → ℕ → List ℕ → Process

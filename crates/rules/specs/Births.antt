@@ -1,6 +1,5 @@
 -- A birth, of clone: the child's record, and what it changes in its namespace and those above.
 use Prim.Native.Nat.{ℕ}
-use mathlib.Core.Bool.{false}
 use mathlib.Core.List.{List}
 use lib.Dec.{leb}
 use lib.ListN.{replicate}
@@ -22,10 +21,10 @@ new-pids v n =
     changed-to (λ l p. if leb l (v .level n) then to-pid (next-pid v (above-at v n l)) else p) no-pid levels
     (replicate levels no-pid)
 
--- The child runs, its parent is the caller, children's namespace its own, signals and mark empty.
+-- The child runs, its parent is the caller, children's namespace its own, signals empty.
 unfoldable pub newborn : View → ℕ → ℕ → Process
 newborn v caller n =
-    record { own = record { 0 = n }; children = record { 0 = n }; parent = record { 0 = caller }; state = Running; handled = 0; pending = 0; unshared = false; pids = new-pids v n }
+    record { own = record { 0 = n }; children = record { 0 = n }; parent = record { 0 = caller }; state = Running; handled = 0; pending = 0; pids = new-pids v n }
 
 -- In n and above, the number becomes the last; if n is unborn the child is its init.
 -- (What becomes of the namespace s at slot m.)

@@ -1,7 +1,7 @@
 -- "The calls", by a running caller c of a sound table. Each tests for its refusals in document 01's order:
 -- -22, -38, -3, -16, -10, -28, -12, -11.
 use Prim.Native.Nat.{ℕ, zero, suc, pred, _-_, _%_}
-use mathlib.Core.Bool.{Bool, true, false, not}
+use mathlib.Core.Bool.{Bool, false, not}
 use mathlib.Core.List.{List, [], _∷_}
 use lib.Dec.{eqb, leb, ltb}
 use lib.IntN.{ℤ, pos, negsuc}
@@ -49,6 +49,10 @@ pid-to v c i = pid-seen v (v .own c) i
 abbrev pub own-level : View → ℕ → ℕ
 own-level v c = v .level (v .own c)
 
+-- -22 of unshare and clone new: the children's namespace isn't the caller's own (W-203).
+abbrev pub elsewhere : View → ℕ → Bool
+elsewhere v c = not (eqb (v .children c) (v .own c))
+
 -- No room: 64 processes, or 32 namespaces, counted before the call.
 abbrev pub processes-full : View → Bool
 processes-full v = eqb (free-slot v) process-slots
@@ -80,23 +84,24 @@ new-namespace t c =
 -- New: a fresh namespace whose parent is the caller's own, child as init.
 unfoldable pub clone-new : Table → ℕ → Outcome
 clone-new t c =
-    if eqb (own-level (view t) c) deepest then refused t Enospc
+    if elsewhere (view t) c then refused t Einval
+    else (if eqb (own-level (view t) c) deepest then refused t Enospc
     else (if processes-full (view t) or namespaces-full (view t) then refused t Eagain
-    else born t c (birth (new-namespace t c) c (free-namespace-slot (view t))))
+    else born t c (birth (new-namespace t c) c (free-namespace-slot (view t)))))
 
 -- ---- unshare and setns
 
--- The caller's children's namespace becomes n, with or without the mark; the caller's own stays.
-unfoldable pub set-children : Table → ℕ → ℕ → Bool → Table
-set-children t c n mark = freed (put t c (with-children (process t c) n mark))
+-- The caller's children's namespace becomes n; the caller's own stays.
+unfoldable pub set-children : Table → ℕ → ℕ → Table
+set-children t c n = freed (put t c (with-children (process t c) n))
 
--- unshare: an unborn namespace below the caller's own becomes its children's namespace; sets the mark; 0.
+-- unshare: an unborn namespace below the caller's own becomes its children's namespace; 0.
 unfoldable pub unshare : Table → ℕ → Outcome
 unshare t c =
-    if process t c .unshared then refused t Einval
+    if elsewhere (view t) c then refused t Einval
     else (if eqb (own-level (view t) c) deepest then refused t Enospc
     else (if namespaces-full (view t) then refused t Eagain
-    else answers (set-children (new-namespace t c) c (free-namespace-slot (view t)) true) 0))
+    else answers (set-children (new-namespace t c) c (free-namespace-slot (view t))) 0))
 
 -- the slot of the process that a number names in the caller's namespace, or 64; nobody has a number of 0 or below
 unfoldable pub named : View → ℕ → ℤ → ℕ
@@ -109,7 +114,7 @@ unfoldable pub setns : Table → ℕ → ℤ → Outcome
 setns t c n =
     let i = named (view t) c n in
     if eqb i process-slots or view t .ended i then refused t Esrch
-    else answers (set-children t c (view t .own i) (process t c .unshared)) 0
+    else answers (set-children t c (view t .own i)) 0
 
 -- ---- getpid and getppid
 

@@ -76,15 +76,19 @@ full v = all process-slots (taken v)
 abbrev pub namespaces-taken : View → Bool
 namespaces-taken v = all namespace-slots (namespace-taken v)
 
+-- the lines of the two calls that make a namespace: the children's namespace isn't the own one (W-203), the own level is
+-- the deepest, or there is no room
+abbrev pub making-lines : View → ℕ → Bool → Refusal → Bool
+making-lines v c no-room =
+    given-if Einval (not (eqb (v .children c) (v .own c)))
+    (given-if Enospc (eqb (v .level (v .own c)) deepest) (given-if Eagain no-room no-more))
+
 -- "Negative numbers", by the call: what its lines of the table say of a call by the process at c, whatever the other
 -- lines say.
 unfoldable pub lines : View → ℕ → Call → Refusal → Bool
 lines v c Clone = given-if Enomem (dead v (v .children c)) (given-if Eagain (full v) no-more)
-lines v c CloneNew =
-    given-if Enospc (eqb (v .level (v .own c)) deepest) (given-if Eagain (full v or namespaces-taken v) no-more)
-lines v c Unshare =
-    given-if Einval (v .unshared c)
-    (given-if Enospc (eqb (v .level (v .own c)) deepest) (given-if Eagain (namespaces-taken v) no-more))
+lines v c CloneNew = making-lines v c (full v or namespaces-taken v)
+lines v c Unshare = making-lines v c (namespaces-taken v)
 lines v c (Setns n) = given-if Esrch (not (any process-slots (λ i. numbered v c n i and not (v .ended i)))) no-more
 lines v c (Kill n s) =
     given-if Einval (not (within 0 signals s))
@@ -175,10 +179,9 @@ pub record Born (t u : Table) (c k n a : ℕ) : Type 0 where
   -- Its slot was empty.
   pub new : So (taken (view t) k) → ⊥
   pub here : So (taken (view u) k)
-  -- Its parent is the caller, its own namespace n, and its children's too; it runs, without signals and mark.
+  -- Its parent is the caller, its own namespace n, and its children's too; it runs, without signals.
   pub kin : (view u .parent k ≡ c) × (view u .own k ≡ n) × (view u .children k ≡ n)
-  pub bare :
-      (view u .state k ≡ Running) × (view u .handled k ≡ 0) × (view u .pending k ≡ 0) × (view u .unshared k ≡ false)
+  pub bare : (view u .state k ≡ Running) × (view u .handled k ≡ 0) × (view u .pending k ≡ 0)
   -- If n is unborn (or a slot not taken yet) the child is its init.
   pub first : So (unborn (view t) n) → So (alive (view u) n) × (init (view u) n ≡ k)
   -- The answer is its number in the caller's namespace.

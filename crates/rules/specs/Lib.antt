@@ -1,5 +1,6 @@
 -- Document 01 as definitions, in reading order: when a table is sound, the calls and their answers, and the promises
--- about them. It begins in the crate table (numbers, slots, the fresh table).
+-- about them. It begins in the crate table (numbers, slots, the fresh table). What a request of document 02 has changed
+-- is marked with the request's number.
 pub mod Read
 pub mod Sound
 pub mod Pids

@@ -13,7 +13,7 @@ use Rattle.table.specs.declared.Table.{Table}
 -- What there is to read, each as a function of the slot. A test rests only on the fields that it names.
 pub record View : Type 0 where
   -- Of a process: own and children's namespace, parent, state, whether it has ended, handled and pending signals,
-  -- the mark "has unshared", and its number at a level.
+  -- and its number at a level.
   pub own : ℕ → ℕ
   pub children : ℕ → ℕ
   pub parent : ℕ → ℕ
@@ -21,7 +21,6 @@ pub record View : Type 0 where
   pub ended : ℕ → Bool
   pub handled : ℕ → ℕ
   pub pending : ℕ → ℕ
-  pub unshared : ℕ → Bool
   pub pid : ℕ → ℕ → ℕ
   -- Of a namespace: parent (one up), level, last number, condition.
   pub up : ℕ → ℕ
@@ -39,7 +38,6 @@ view t =
       ended = λ i. is-ended (process t i .state);
       handled = λ i. process t i .handled;
       pending = λ i. process t i .pending;
-      unshared = λ i. process t i .unshared;
       pid = λ i l. pid-at (process t i) l;
       up = λ n. namespace t n .parent .0;
       level = λ n. namespace t n .level;

@@ -1,6 +1,5 @@
 -- A record with a field changed.
 use Prim.Native.Nat.{ℕ}
-use mathlib.Core.Bool.{Bool, false}
 use Rattle.table.specs.Limits.{no-slot}
 use Rattle.table.specs.declared.End.{End}
 use Rattle.table.specs.declared.Life.{Life}
@@ -12,21 +11,20 @@ use Rattle.table.specs.declared.State.the-variants.{Ended}
 -- ---- a process
 
 abbrev pub with-state : Process → State → Process
-with-state p s = record { own = p .own; children = p .children; parent = p .parent; state = s; handled = p .handled; pending = p .pending; unshared = p .unshared; pids = p .pids }
+with-state p s = record { own = p .own; children = p .children; parent = p .parent; state = s; handled = p .handled; pending = p .pending; pids = p .pids }
 
 abbrev pub with-signals : Process → ℕ → ℕ → Process
-with-signals p h q = record { own = p .own; children = p .children; parent = p .parent; state = p .state; handled = h; pending = q; unshared = p .unshared; pids = p .pids }
+with-signals p h q = record { own = p .own; children = p .children; parent = p .parent; state = p .state; handled = h; pending = q; pids = p .pids }
 
 abbrev pub with-parent : Process → ℕ → Process
-with-parent p i = record { own = p .own; children = p .children; parent = record { 0 = i }; state = p .state; handled = p .handled; pending = p .pending; unshared = p .unshared; pids = p .pids }
+with-parent p i = record { own = p .own; children = p .children; parent = record { 0 = i }; state = p .state; handled = p .handled; pending = p .pending; pids = p .pids }
 
--- children's namespace and mark
-abbrev pub with-children : Process → ℕ → Bool → Process
-with-children p n u = record { own = p .own; children = record { 0 = n }; parent = p .parent; state = p .state; handled = p .handled; pending = p .pending; unshared = u; pids = p .pids }
+abbrev pub with-children : Process → ℕ → Process
+with-children p n = record { own = p .own; children = record { 0 = n }; parent = p .parent; state = p .state; handled = p .handled; pending = p .pending; pids = p .pids }
 
--- An ended process has no children's namespace, signals or mark.
+-- An ended process has no children's namespace or signals.
 abbrev pub as-ended : Process → End → Process
-as-ended p e = record { own = p .own; children = record { 0 = no-slot }; parent = p .parent; state = Ended e; handled = 0; pending = 0; unshared = false; pids = p .pids }
+as-ended p e = record { own = p .own; children = record { 0 = no-slot }; parent = p .parent; state = Ended e; handled = 0; pending = 0; pids = p .pids }
 
 -- ---- a namespace
 

@@ -49,7 +49,7 @@ inits v = each-namespace v (λ n. alive v n implies living v (init v n) and eqb 
 unfoldable pub zero-process : View → ℕ → Bool
 zero-process v i =
     eqb (v .own i) 0 and eqb (v .children i) 0 and eqb (v .parent i) 0 and is-running (v .state i) and eqb (v .handled i) 0
-    and eqb (v .pending i) 0 and not (v .unshared i) and all levels (λ l. eqb (v .pid i l) 0)
+    and eqb (v .pending i) 0 and all levels (λ l. eqb (v .pid i l) 0)
 
 -- all zero, and unborn
 unfoldable pub zero-namespace : View → ℕ → Bool
@@ -151,11 +151,11 @@ handled-signals v =
 unfoldable pub pending-signals : View → Bool
 pending-signals v = each-process v (λ i. all signals (λ s. has (v .pending i) s implies has (v .handled i) s))
 
--- An ended process has no children's namespace, signals or mark;
+-- An ended process has no children's namespace or signals;
 unfoldable pub ended-bare : View → Bool
 ended-bare v =
     each-process v
-    (λ i. v .ended i implies eqb (v .children i) no-slot and eqb (v .handled i) 0 and eqb (v .pending i) 0 and not (v .unshared i))
+    (λ i. v .ended i implies eqb (v .children i) no-slot and eqb (v .handled i) 0 and eqb (v .pending i) 0)
 
 -- a kept number is 0 to 255, a signal 1 to 31
 abbrev pub kept-end : State → Bool

@@ -114,7 +114,7 @@ module _ {v u : View} {s r : ℕ} (w : Pair v u s r) {c d : ℕ} {n m k l : ℕ}
     unfolding row living
     old-children =
         by-test (v .ended i)
-        (λ e. name-no-slot v′ s _ (w .facts-v .ended-bare i (taken-v x) e .0 .0 .0) ∙ sym (name-no-slot u′ r _ (w .facts-u .ended-bare j (taken-u x) (sym (ended-twins w x) ∙ e) .0 .0 .0)))
+        (λ e. name-no-slot v′ s _ (w .facts-v .ended-bare i (taken-v x) e .0 .0) ∙ sym (name-no-slot u′ r _ (w .facts-u .ended-bare j (taken-u x) (sym (ended-twins w x) ∙ e) .0 .0)))
         (λ e.
         let li : So (living v i) = both _ _ (taken-v x) (ap not e) in
         let lj : So (living u j) = sym (living-twins w x) ∙ li in
@@ -143,7 +143,7 @@ module _ {v u : View} {s r : ℕ} (w : Pair v u s r) {c d : ℕ} {n m k l : ℕ}
     old-rows =
         let ei = ne-eqb i k (old a c i (taken-v x)) in
         let ej = ne-eqb j l (old b d j (taken-u x)) in
-        row-by v′ u′ s r i j (left-pids v c n k i ei (levels - v .level s) (v .level s) ∙ ap (λ (o : Row). o .pids) rows ∙ sym (left-pids u d m l j ej (levels - u .level r) (u .level r))) (rw (ei, ej) (ap (λ (o : Row). o .state) rows)) (rw (ei, ej) (ap (λ (o : Row). o .handled) rows)) (rw (ei, ej) (ap (λ (o : Row). o .pending) rows)) (rw (ei, ej) (ap (λ (o : Row). o .unshared) rows))
+        row-by v′ u′ s r i j (left-pids v c n k i ei (levels - v .level s) (v .level s) ∙ ap (λ (o : Row). o .pids) rows ∙ sym (left-pids u d m l j ej (levels - u .level r) (u .level r))) (rw (ei, ej) (ap (λ (o : Row). o .state) rows)) (rw (ei, ej) (ap (λ (o : Row). o .handled) rows)) (rw (ei, ej) (ap (λ (o : Row). o .pending) rows))
         (rw (ei, ej) (pid-in-grown a c s (v .parent i) (parent-old a i (taken-v x)) ∙ ap (λ (o : Row). o .parent) rows ∙ sym (pid-in-grown b d r (u .parent j) (parent-old b j (taken-u x)))))
         (rw (ei, ej) (name-born a c s (v .own i) (own-not-unborn v (w .facts-v) i (taken-v x)) ∙ ap (λ (o : Row). o .own) rows ∙ sym (name-born b d r (u .own j) (own-not-unborn u (w .facts-u) j (taken-u x)))))
         (rw (ei, ej) old-children)
@@ -173,7 +173,7 @@ module _ {v u : View} {s r : ℕ} (w : Pair v u s r) {c d : ℕ} {n m k l : ℕ}
   new-rows =
       let ek = eq-eqb k k refl in
       let el = eq-eqb l l refl in
-      row-by v′ u′ s r k l new-pids (rw (ek, el)) (rw (ek, el)) (rw (ek, el)) (rw (ek, el))
+      row-by v′ u′ s r k l new-pids (rw (ek, el)) (rw (ek, el)) (rw (ek, el))
       (rw (ek, el) (pid-in-grown a c s c (old a c c (taken-v tc)) ∙ pid-in-seen v s c (tc .seen-v) ∙ tc .pids ∙ sym (pid-in-grown b d r d (old b d d (taken-u tc)) ∙ pid-in-seen u r d (tc .seen-u))))
       (rw (ek, el) cradle-name) (rw (ek, el) cradle-name) new-last
 

@@ -199,7 +199,7 @@ module _ {t u : Table} {s r i j : ℕ} (w : Ready t u s r i j) where
   signal-kept a b a′ b′ k l ea eb e h g =
       let z = shown t u (w .pair) (w .twin) in
       both-change w k l e h g (taken-s w) (taken-r w)
-      (same-put t u (w .pair) (w .twin) (w .sound-t .shape) (w .sound-u .shape) (record { states = z .states; handleds = ea; pendings = eb; marks = z .marks; childrens = z .childrens }) (refl, refl, refl) (refl, refl, refl))
+      (same-put t u (w .pair) (w .twin) (w .sound-t .shape) (w .sound-u .shape) (record { states = z .states; handleds = ea; pendings = eb; childrens = z .childrens }) (refl, refl, refl) (refl, refl, refl))
 
 -- handle, and poll
 pub handle-same : (z : ℤ) (on : Bool) → MadeSame (Handle z on)

@@ -20,7 +20,7 @@ use Rattle.sameness.proofs.BirthSame.{birth-same}
 use Rattle.sameness.proofs.Cases.{by-test}
 use Rattle.sameness.proofs.Born.{cradle-stands, Cradles, next-twins, Room, below-grown, seen-grown, life-born, life-other, bottom, old}
 use Rattle.sameness.proofs.Calls.{Kept, Ready, MadeSame, stands-same, both-refuse, owns-twins, the-rows, own-lives, taken-s, taken-r, MadeLeaves, as-it-was, outsider, stands-leaves, untouched-made}
-use Rattle.sameness.proofs.Readers.{children-names, children-unborn, twin-eqb, children-taken}
+use Rattle.sameness.proofs.Readers.{children-names, children-unborn, home-twins, twin-eqb, children-taken}
 use Rattle.sameness.proofs.Same.{Same, same-trans}
 use Rattle.sameness.proofs.Twins.{Pair, Twin, Twins, taken-v, taken-u, twins-named, twins-level, owns, flip-same}
 use Rattle.sameness.proofs.Freeing.{freed-alike, freed-leaves}
@@ -29,7 +29,7 @@ use Rattle.sameness.proofs.NewNamespace.{the-namespace, new-name, new-t
 use Rattle.sameness.proofs.Still.{Still, near-here, same-still, stands-still, near, put-still}
 use Rattle.rules.specs.Answers.{is-no-room, refused, number-of, refusal-number, answers, granted, is-refused}
 use Rattle.rules.specs.Births.{birth}
-use Rattle.rules.specs.Calls.{born, clone, clone-new, new-namespace, own-level, set-children, unshare}
+use Rattle.rules.specs.Calls.{born, clone, clone-new, elsewhere, new-namespace, own-level, set-children, unshare}
 use Rattle.table.specs.Limits.{process-slots, deepest, namespace-slots}
 use Rattle.rules.specs.Pids.{free-slot, free-namespace-slot, next-pid}
 use Rattle.table.specs.Slots.{is-dead, is-alive, process}
@@ -198,7 +198,7 @@ module _ {t u : Table} {s r c d : ℕ} (w : Ready t u s r c d) (ot : own-level (
         pids = ap (view t .pid c) (still-t .levels s (near-here (st .facts) s)) ∙ w .twin .pids ∙ sym (ap (view u .pid d) (still-u .levels r (near-here (su .facts) r)));
       }
 
-  unshared-kept : Kept t u s r (answers (set-children tn c (free-namespace-slot (view t)) true) 0) (answers (set-children un d (free-namespace-slot (view u)) true) 0)
+  unshared-kept : Kept t u s r (answers (set-children tn c (free-namespace-slot (view t))) 0) (answers (set-children un d (free-namespace-slot (view u))) 0)
   unfolding set-children answers granted
   unshared-kept =
       let z = shown tn un new-pair new-twin in
@@ -208,7 +208,7 @@ module _ {t u : Table} {s r c d : ℕ} (w : Ready t u s r c d) (ot : own-level (
         refl,
         freed-alike t u a b (new-pair .alive-v) (new-pair .alive-u)
             (same-put tn un new-pair new-twin (gt .shape-of) (gu .shape-of)
-            (record { states = z .states; handleds = z .handleds; pendings = z .pendings; marks = refl; childrens = new-name st c rt s ∙ sym (new-name su d ru r) })
+            (record { states = z .states; handleds = z .handleds; pendings = z .pendings; childrens = new-name st c rt s ∙ sym (new-name su d ru r) })
             (refl, refl, refl) (refl, refl, refl)),
       )
 
@@ -238,34 +238,41 @@ module _ {t u : Table} {s r c d : ℕ} (w : Ready t u s r c d) (ot : own-level (
 levels-alike : {t u : Table} {s r c d : ℕ} → Ready t u s r c d → own-level (view t) c ≡ own-level (view u) d
 levels-alike w = twins-level (w .pair) (owns-twins w)
 
+-- the callers' children are born elsewhere on both tables or on neither
+homes-alike : {t u : Table} {s r c d : ℕ} → Ready t u s r c d → elsewhere (view t) c ≡ elsewhere (view u) d
+homes-alike {t} {c} w = ap not (home-twins (w .pair) (w .twin) (runs-lives t c (w .runs-t)) (own-lives w))
+
 -- unshare by twin callers
 pub unshare-same : MadeSame Unshare
 unfolding MadeSame make unshare answers granted
 unshare-same t u s r c d w h g =
-    let mark = shown t u (w .pair) (w .twin) .marks in
+    let away = homes-alike w in
     let deep = ap (λ n. eqb n deepest) (levels-alike w) in
-    by-test (process t c .unshared) (λ em. rw (em, sym mark ∙ em, unshare) (both-refuse w Einval))
+    by-test (elsewhere (view t) c) (λ em. rw (em, sym away ∙ em, unshare) (both-refuse w Einval))
     (λ em. by-test (eqb (own-level (view t) c) deepest)
-    (λ ea. rw (em, sym mark ∙ em, ea, sym deep ∙ ea, unshare) (both-refuse w Enospc))
+    (λ ea. rw (em, sym away ∙ em, ea, sym deep ∙ ea, unshare) (both-refuse w Enospc))
     (λ ea. by-test (eqb (free-namespace-slot (view t)) namespace-slots)
     (λ eb. rw (em, ea, eb, unshare) (no-room-left t u s r (unshare u d)))
     (λ eb. by-test (eqb (free-namespace-slot (view u)) namespace-slots)
-    (λ eb′. rw (sym mark ∙ em, sym deep ∙ ea, eb′, unshare) (no-room-right t u s r (unshare t c)))
-    (λ eb′. rw (em, sym mark ∙ em, ea, sym deep ∙ ea, eb, eb′, unshare)
+    (λ eb′. rw (sym away ∙ em, sym deep ∙ ea, eb′, unshare) (no-room-right t u s r (unshare t c)))
+    (λ eb′. rw (em, sym away ∙ em, ea, sym deep ∙ ea, eb, eb′, unshare)
     (unshared-kept w (eqb-false _ _ ea) (eqb-false _ _ (sym deep ∙ ea)) (eqb-false _ _ eb) (eqb-false _ _ eb′))))))
 
 -- clone new by twin callers
 pub clone-new-same : MadeSame CloneNew
 unfolding MadeSame make clone-new
 clone-new-same t u s r c d w h g =
+    let away = homes-alike w in
     let deep = ap (λ n. eqb n deepest) (levels-alike w) in
-    by-test (eqb (own-level (view t) c) deepest) (λ ea. rw (ea, sym deep ∙ ea, clone-new) (both-refuse w Enospc))
+    by-test (elsewhere (view t) c) (λ em. rw (em, sym away ∙ em, clone-new) (both-refuse w Einval))
+    (λ em. by-test (eqb (own-level (view t) c) deepest)
+    (λ ea. rw (em, sym away ∙ em, ea, sym deep ∙ ea, clone-new) (both-refuse w Enospc))
     (λ ea. by-test (eqb (free-slot (view t)) process-slots or eqb (free-namespace-slot (view t)) namespace-slots)
-    (λ eb. rw (ea, eb, clone-new) (no-room-left t u s r (clone-new u d)))
+    (λ eb. rw (em, ea, eb, clone-new) (no-room-left t u s r (clone-new u d)))
     (λ eb. by-test (eqb (free-slot (view u)) process-slots or eqb (free-namespace-slot (view u)) namespace-slots)
-    (λ eb′. rw (sym deep ∙ ea, eb′, clone-new) (no-room-right t u s r (clone-new t c)))
-    (λ eb′. rw (ea, sym deep ∙ ea, eb, eb′, clone-new)
-    (cloned-kept w (eqb-false _ _ ea) (eqb-false _ _ (sym deep ∙ ea)) (eqb-false _ _ (or-false-right _ _ eb)) (eqb-false _ _ (or-false-right _ _ eb′)) (eqb-false _ _ (or-false-left _ _ eb)) (eqb-false _ _ (or-false-left _ _ eb′)) (rw (ea, eb, clone-new) at h) (rw (sym deep ∙ ea, eb′, clone-new) at g)))))
+    (λ eb′. rw (sym away ∙ em, sym deep ∙ ea, eb′, clone-new) (no-room-right t u s r (clone-new t c)))
+    (λ eb′. rw (em, sym away ∙ em, ea, sym deep ∙ ea, eb, eb′, clone-new)
+    (cloned-kept w (eqb-false _ _ ea) (eqb-false _ _ (sym deep ∙ ea)) (eqb-false _ _ (or-false-right _ _ eb)) (eqb-false _ _ (or-false-right _ _ eb′)) (eqb-false _ _ (or-false-left _ _ eb)) (eqb-false _ _ (or-false-left _ _ eb′)) (rw (em, ea, eb, clone-new) at h) (rw (sym away ∙ em, sym deep ∙ ea, eb′, clone-new) at g))))))
 
 -- ---- by an outsider: the child is born outside S
 
@@ -336,9 +343,11 @@ clone-leaves t s i h hs k a g =
 pub clone-new-leaves : MadeLeaves CloneNew
 unfolding MadeLeaves make clone-new refused
 clone-new-leaves t s i h hs k a g =
-    by-test (eqb (own-level (view t) i) deepest) (λ ea. rw (ea, clone-new) (as-it-was t s hs))
+    by-test (elsewhere (view t) i) (λ em. rw (em, clone-new) (as-it-was t s hs))
+    (λ em. by-test (eqb (own-level (view t) i) deepest)
+    (λ ea. rw (em, ea, clone-new) (as-it-was t s hs))
     (λ ea. by-test (eqb (free-slot (view t)) process-slots or eqb (free-namespace-slot (view t)) namespace-slots)
-    (λ eb. rw (ea, eb, clone-new) (as-it-was t s hs))
+    (λ eb. rw (em, ea, eb, clone-new) (as-it-was t s hs))
     (λ eb.
     let x = free-namespace-slot (view t) in
     let room : x ≡ namespace-slots → ⊥ = eqb-false _ _ (or-false-right _ _ eb) in
@@ -348,15 +357,15 @@ clone-new-leaves t s i h hs k a g =
     let f₁ = namespace-sane t (sane t h) i li (eqb-false _ _ ea) room in
     let tx = new-taken (sane t h) i room in
     let o = new-outside (sane t h) i room s hs (lives-taken (view t) i li) (f₁ .facts) (outsider t s i CloneNew a) in
-    rw (ea, eb, clone-new)
-    (stands-leaves h (rw (ea, eb, clone-new) at g) hs (birth-stands f₁ i x tx room₁ s o (stands-still (facts t h) still hs))
-    (same-trans (birth-leaves f₁ i x tx room₁ s o) (same-still (facts t h) still)))))
+    rw (em, ea, eb, clone-new)
+    (stands-leaves h (rw (em, ea, eb, clone-new) at g) hs (birth-stands f₁ i x tx room₁ s o (stands-still (facts t h) still hs))
+    (same-trans (birth-leaves f₁ i x tx room₁ s o) (same-still (facts t h) still))))))
 
 -- unshare
 pub unshare-leaves : MadeLeaves Unshare
 unfolding MadeLeaves make unshare set-children answers granted refused namespace-taken
 unshare-leaves t s i h hs k a g =
-    by-test (process t i .unshared) (λ em. rw (em, unshare) (as-it-was t s hs))
+    by-test (elsewhere (view t) i) (λ em. rw (em, unshare) (as-it-was t s hs))
     (λ em. by-test (eqb (own-level (view t) i) deepest)
     (λ ea. rw (em, ea, unshare) (as-it-was t s hs))
     (λ ea. by-test (eqb (free-namespace-slot (view t)) namespace-slots)
@@ -369,5 +378,5 @@ unshare-leaves t s i h hs k a g =
     rw (em, ea, eb, unshare)
     (freed-leaves h (unshare-sane t h i k (eqb-false _ _ ea) room) hs (stands-still (facts t h) still hs)
     (same-trans
-    (same-still f₁ (put-still t₁ f₁ i (with-children (process t₁ i) (free-namespace-slot (view t)) true) (refl, refl, refl) s (still .seens i ∙ outsider t s i Unshare a)))
+    (same-still f₁ (put-still t₁ f₁ i (with-children (process t₁ i) (free-namespace-slot (view t))) (refl, refl, refl) s (still .seens i ∙ outsider t s i Unshare a)))
     (same-still (facts t h) still))))))

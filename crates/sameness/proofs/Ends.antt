@@ -174,7 +174,6 @@ module _ {v u : View} {s r : ℕ} (p : Pair v u s r) {x y : ℕ} (e : End) (k : 
         states = λ z. if slot z then Ended e else rows z .state;
         handleds = λ z. if slot z then 0 else rows z .handled;
         pendings = λ z. if slot z then 0 else rows z .pending;
-        marks = λ z. if slot z then false else rows z .unshared;
         parents = parent-after (p .facts-v) x e s i ∙ (λ z. if slot z then rows z .parent else (if child z then reapers z else rows z .parent)) ∙ sym (parent-after (p .facts-u) y e r j);
         childrens = children-after (p .facts-v) x e s i ∙ (λ z. if slot z then none z else rows z .children) ∙ sym (children-after (p .facts-u) y e r j);
         lasts = λ z. rows z .last;
@@ -232,7 +231,7 @@ module _ {v u : View} {s r : ℕ} (p : Pair v u s r) {x y : ℕ} (e : End) (k : 
   child-names {i} {j} m =
       by-test (seen v (v .own x) i) (λ o. rw (o, sym (sees m) ∙ o) (none no-slot no-slot refl refl))
       (λ o. by-test (v .ended i)
-      (λ d. rw (o, sym (sees m) ∙ o) (none _ _ (p .facts-v .ended-bare i (taken-v m) d .0 .0 .0) (p .facts-u .ended-bare j (taken-u m) (sym (ended-twins p m) ∙ d) .0 .0 .0)))
+      (λ d. rw (o, sym (sees m) ∙ o) (none _ _ (p .facts-v .ended-bare i (taken-v m) d .0 .0) (p .facts-u .ended-bare j (taken-u m) (sym (ended-twins p m) ∙ d) .0 .0)))
       (λ d. rw (o, sym (sees m) ∙ o) (living-names m (both _ _ (taken-v m) (ap not d)) o)))
     where
       none : (a b : ℕ) → a ≡ no-slot → b ≡ no-slot → name v′ s a ≡ name u′ r b
@@ -250,7 +249,6 @@ module _ {v u : View} {s r : ℕ} (p : Pair v u s r) {x y : ℕ} (e : End) (k : 
       (λ z. if going z then Running else (if sees m z then (if slot z then Ended e else (if ended-twins p m z then rows z .state else Ended (Signaled sigkill))) else rows z .state))
       (λ z. if going z then 0 else (if sees m z then 0 else rows z .handled))
       (λ z. if going z then 0 else (if sees m z then 0 else rows z .pending))
-      (λ z. if going z then false else (if sees m z then false else rows z .unshared))
       (parent-left (p .facts-v) x e s i (taken-v m) q ∙ ap (λ (o : Row). o .parent) rows ∙ sym (parent-left (p .facts-u) y e r j (taken-u m) q′))
       (rw (here v x i q, here u y j q′) (namesakes (own-names p m)))
       (rw (here v x i q, here u y j q′) (child-names m))

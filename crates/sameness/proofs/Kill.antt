@@ -188,8 +188,8 @@ unfolding resumed with-pending
 resumed-shown {t} {u} {s} {r} {p} {q} z = subst (λ b. Shown t u s r (resumed p) (if b then with-pending (with-state q Running) 18 else with-state q Running)) (ap (λ h. has h 18) (z .handleds)) (go (has (p .handled) 18))
   where
     go : (b : Bool) → Shown t u s r (if b then with-pending (with-state p Running) 18 else with-state p Running) (if b then with-pending (with-state q Running) 18 else with-state q Running)
-    go true = record { states = refl; handleds = z .handleds; pendings = ap (λ h. with-signal h 18) (z .pendings); marks = z .marks; childrens = z .childrens }
-    go false = record { states = refl; handleds = z .handleds; pendings = z .pendings; marks = z .marks; childrens = z .childrens }
+    go true = record { states = refl; handleds = z .handleds; pendings = ap (λ h. with-signal h 18) (z .pendings); childrens = z .childrens }
+    go false = record { states = refl; handleds = z .handleds; pendings = z .pendings; childrens = z .childrens }
 
 -- signal 0 ends nobody
 finish-pos : (v : View) (f x n : ℕ) → action-on v f x n ≡ Finish → 1 ≤ n
@@ -220,12 +220,12 @@ module _ {t u : Table} {s r f g : ℕ} (w : Midway t u s r f g) {x y : ℕ} (n :
   action-onward Nothing e = (w, λ a b h. h)
   action-onward Resume e = light-onward w k lx (resumed-shown z) (resumed-placed (process t x)) (resumed-placed (process u y)) (acted-t Resume lx) (acted-u Resume (ly w k lx))
   action-onward Stop e =
-      light-onward w k lx (record { states = refl; handleds = z .handleds; pendings = z .pendings; marks = z .marks; childrens = z .childrens })
+      light-onward w k lx (record { states = refl; handleds = z .handleds; pendings = z .pendings; childrens = z .childrens })
       (refl, refl, refl) (refl, refl, refl) (acted-t Stop lx) (acted-u Stop (ly w k lx))
   action-onward Finish e = end-same (Signaled n) w k hx lx (both _ _ (le-leb 1 n (finish-pos (view t) f x n e)) (lt-ltb n signals low)) (finish-own (view t) f x n e)
   action-onward Pend e =
       let a = subst (Good (view t) x n) e (action-good (view t) x n f (w .sane-t .facts) (root-safe (w .sane-t .facts) f x hx)) in
-      light-onward w k lx (record { states = z .states; handleds = z .handleds; pendings = ap (λ q. with-signal q n) (z .pendings); marks = z .marks; childrens = z .childrens })
+      light-onward w k lx (record { states = z .states; handleds = z .handleds; pendings = ap (λ q. with-signal q n) (z .pendings); childrens = z .childrens })
       (refl, refl, refl) (refl, refl, refl) (acted-t Pend a) (acted-u Pend (ly w k lx, subst (λ h. So (has h n)) (z .handleds) (a .1)))
 
 module _ (n : ℕ) (low : n < signals) where

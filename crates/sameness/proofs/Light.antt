@@ -1,4 +1,4 @@
--- A process put at its slot with its place kept: own namespace, parent and numbers. Its state, its signals, its mark
+-- A process put at its slot with its place kept: own namespace, parent and numbers. Its state, its signals
 -- and its children's namespace may change; two tables on which twins change alike stay the same to S.
 use Prim.Native.Nat.{ℕ, zero, suc}
 use native.Mathlib.Omega.{arith}
@@ -68,7 +68,6 @@ pub record Shown (t u : Table) (s r : ℕ) (p q : Process) : Type 0 where
   pub states : p .state ≡ q .state
   pub handleds : p .handled ≡ q .handled
   pub pendings : p .pending ≡ q .pending
-  pub marks : p .unshared ≡ q .unshared
   pub childrens : name (view t) s (p .children .0) ≡ name (view u) r (q .children .0)
 
 pub shown : (t u : Table) {s r : ℕ} (w : Pair (view t) (view u) s r) {i j : ℕ} → Twin (view t) (view u) s r i j → Shown t u s r (process t i) (process u j)
@@ -79,7 +78,6 @@ shown t u w k =
       states = ap (λ (q : Row). q .state) e;
       handleds = ap (λ (q : Row). q .handled) e;
       pendings = ap (λ (q : Row). q .pending) e;
-      marks = ap (λ (q : Row). q .unshared) e;
       childrens = ap (λ (q : Row). q .children) e;
     }
 
@@ -106,7 +104,6 @@ module _ (t u : Table) {s r c d : ℕ} (w : Pair (view t) (view u) s r) (k : Twi
         states = z .states;
         handleds = z .handleds;
         pendings = z .pendings;
-        marks = z .marks;
         parents = parent-pid-kept t c p a (w .facts-v) s i ∙ ap (λ (o : Row). o .parent) e ∙ sym (parent-pid-kept u d q b (w .facts-u) r j);
         childrens = name-remain (w .facts-v) (put-remain t c p a) s _ refl refl ∙ z .childrens ∙ sym (name-remain (w .facts-u) (put-remain u d q b) r _ refl refl);
         lasts = ap (λ (o : Row). o .last) e;

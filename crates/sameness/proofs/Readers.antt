@@ -11,12 +11,12 @@ use Rattle.rules.proofs.Laws.Below.{below-trans}
 use Rattle.rules.proofs.Laws.Facts.{seen-taken, Facts, seen-below, lives-taken}
 use Rattle.rules.proofs.Laws.Find.{Found, find-cases}
 use Rattle.rules.proofs.Laws.Lists.{In, in-map}
-use Rattle.rules.proofs.Laws.Slots.{alive-taken, pid-unique, alive-not-unborn}
+use Rattle.rules.proofs.Laws.Slots.{alive-taken, pid-unique, alive-not-unborn, own-not-unborn}
 use Rattle.rules.proofs.Laws.Tests.{isnt-so, no-so, left, right, both, bool-ext}
 use Rattle.sameness.proofs.Anchor.{below-up, name-unborn, is-unborn-name}
 use Rattle.sameness.proofs.Cases.{by-test}
 use Rattle.sameness.proofs.Same.{same-of-sheets, row-pid, level-lt, seen-listed}
-use Rattle.sameness.proofs.Twins.{Namesakes, parent-seen, parent-twin, taken-v, taken-u, twin-pid-in, Pair, Twin, Twins, flip-pair, flip-twin, twin-rows, twin-there, twin-unique, seen-twins, pid-twins, inits-twin, owns, twins-up}
+use Rattle.sameness.proofs.Twins.{Namesakes, parent-seen, parent-twin, taken-v, taken-u, twin-pid-in, Pair, Twin, Twins, flip-pair, flip-twin, twin-rows, twin-there, twin-unique, seen-twins, pid-twins, inits-twin, owns, own-names, alive-named, twins-named, twins-unique, twins-up}
 use Rattle.table.specs.Limits.{process-slots}
 use Rattle.table.specs.Slots.{is-ended}
 use Rattle.rules.specs.Read.{pid-seen, View, all-seen, alive, below, child-of, find, is-init, pid-in, seen, living, init, namespace-taken, unborn}
@@ -170,3 +170,16 @@ module _ {v u : View} {s r : ℕ} (w : Pair v u s r) {i j : ℕ} (k : Twin v u s
         born-v = h;
         born-u = sym children-unborn ∙ h;
       }
+
+-- a twin that holds its own namespace for its children has a twin that does
+home-there : {v u : View} {s r : ℕ} (w : Pair v u s r) {i j : ℕ} (k : Twin v u s r i j) → So (living v i) → So (alive v (v .own i)) → v .children i ≡ v .own i → u .children j ≡ u .own j
+home-there {v} w {i} k l a e =
+    twins-unique w
+    (twins-named w (children-names w k l (subst (λ n. unborn v n ≡ false) (sym e) (own-not-unborn v (w .facts-v) i (taken-v k)))) (subst (λ n. So (alive v n)) (sym e) a))
+    (owns w k a) e
+
+pub home-twins : {v u : View} {s r : ℕ} (w : Pair v u s r) {i j : ℕ} (k : Twin v u s r i j) → So (living v i) → So (alive v (v .own i)) → eqb (v .children i) (v .own i) ≡ eqb (u .children j) (u .own j)
+home-twins w k l a =
+    bool-ext _ _
+    (λ h. eq-eqb _ _ (home-there w k l a (eqb-true _ _ h)))
+    (λ h. eq-eqb _ _ (home-there (flip-pair w) (flip-twin k) (sym (living-twins w k) ∙ l) (sym (alive-named w (own-names w k)) ∙ a) (eqb-true _ _ h)))

@@ -157,15 +157,15 @@ pub record Remain (v v′ : View) (K Q : ℕ → Bool) : Type 0 where
   pub inits : (n : ℕ) → So (K n) → So (Q (init v n))
 
 -- a row by what may change
-abbrev pub lit : View → ℕ → ℕ → State → ℕ → ℕ → Bool → ℕ → Name → ℕ → Row
-lit v s i st h q m p c z = record { pids = values (v .pid i) (levels - v .level s) (v .level s); state = st; handled = h; pending = q; unshared = m; parent = p; own = name v s (v .own i); children = c; last = z }
+abbrev pub lit : View → ℕ → ℕ → State → ℕ → ℕ → ℕ → Name → ℕ → Row
+lit v s i st h q p c z = record { pids = values (v .pid i) (levels - v .level s) (v .level s); state = st; handled = h; pending = q; parent = p; own = name v s (v .own i); children = c; last = z }
 
 module _ {v v′ : View} {K Q : ℕ → Bool} (f : Facts v) (w : Remain v v′ K Q) where
   pub name-remain : (s n : ℕ) → So (K s) → So (K n) → name v′ s n ≡ name v s n
   name-remain s n hs = name-stays f (w .places .tree) (w .lives) s (λ m k. pid-in-remain f (w .places) s (init v m) hs (w .inits m k)) n
 
   -- the row of one that remains, but for what may change
-  pub row-remain : (s i : ℕ) → So (K s) → So (Q i) → So (taken v i) → row v′ s i ≡ lit v s i (v′ .state i) (v′ .handled i) (v′ .pending i) (v′ .unshared i) (pid-in v′ s (v′ .parent i)) (name v′ s (v′ .children i)) (if is-init v i then v′ .last (v .own i) else 0)
+  pub row-remain : (s i : ℕ) → So (K s) → So (Q i) → So (taken v i) → row v′ s i ≡ lit v s i (v′ .state i) (v′ .handled i) (v′ .pending i) (pid-in v′ s (v′ .parent i)) (name v′ s (v′ .children i)) (if is-init v i then v′ .last (v .own i) else 0)
   unfolding row is-init
   row-remain s i hs h ht =
       let own = w .places .owns i h in
@@ -175,7 +175,6 @@ module _ {v v′ : View} {K Q : ℕ → Bool} (f : Facts v) (w : Remain v v′ K
         state = v′ .state i;
         handled = v′ .handled i;
         pending = v′ .pending i;
-        unshared = v′ .unshared i;
         parent = pid-in v′ s (v′ .parent i);
         own = (ap (name v′ s) own ∙ name-remain s (v .own i) hs kept) k;
         children = name v′ s (v′ .children i);
@@ -187,7 +186,6 @@ pub record Lit (v u v′ u′ : View) (s r i j : ℕ) : Type 0 where
   pub states : v′ .state i ≡ u′ .state j
   pub handleds : v′ .handled i ≡ u′ .handled j
   pub pendings : v′ .pending i ≡ u′ .pending j
-  pub marks : v′ .unshared i ≡ u′ .unshared j
   pub parents : pid-in v′ s (v′ .parent i) ≡ pid-in u′ r (u′ .parent j)
   pub childrens : name v′ s (v′ .children i) ≡ name u′ r (u′ .children j)
   pub lasts : (if is-init v i then v′ .last (v .own i) else 0) ≡ (if is-init u j then u′ .last (u .own j) else 0)
@@ -201,5 +199,5 @@ same-remain {v} {u} {s} {r} w a b hs hr alike h =
     let e = twin-rows w k in
     let l = h i j k q in
     row-remain (w .facts-v) a s i hs q (taken-v k)
-    ∙ (λ z. record { pids = e z .pids; state = l .states z; handled = l .handleds z; pending = l .pendings z; unshared = l .marks z; parent = l .parents z; own = e z .own; children = l .childrens z; last = l .lasts z })
+    ∙ (λ z. record { pids = e z .pids; state = l .states z; handled = l .handleds z; pending = l .pendings z; parent = l .parents z; own = e z .own; children = l .childrens z; last = l .lasts z })
     ∙ sym (row-remain (w .facts-u) b r j hr (sym (alike i j k) ∙ q) (taken-u k)))

@@ -82,10 +82,10 @@ sheets-of-same {v} {u} {s} {r} h g hs hr w =
     }
 
 -- a row by its parts
-pub row-by : (v u : View) (s r i j : ℕ) → values (v .pid i) (levels - v .level s) (v .level s) ≡ values (u .pid j) (levels - u .level r) (u .level r) → v .state i ≡ u .state j → v .handled i ≡ u .handled j → v .pending i ≡ u .pending j → v .unshared i ≡ u .unshared j → pid-in v s (v .parent i) ≡ pid-in u r (u .parent j) → name v s (v .own i) ≡ name u r (u .own j) → name v s (v .children i) ≡ name u r (u .children j) → (if is-init v i then v .last (v .own i) else 0) ≡ (if is-init u j then u .last (u .own j) else 0) → row v s i ≡ row u r j
+pub row-by : (v u : View) (s r i j : ℕ) → values (v .pid i) (levels - v .level s) (v .level s) ≡ values (u .pid j) (levels - u .level r) (u .level r) → v .state i ≡ u .state j → v .handled i ≡ u .handled j → v .pending i ≡ u .pending j → pid-in v s (v .parent i) ≡ pid-in u r (u .parent j) → name v s (v .own i) ≡ name u r (u .own j) → name v s (v .children i) ≡ name u r (u .children j) → (if is-init v i then v .last (v .own i) else 0) ≡ (if is-init u j then u .last (u .own j) else 0) → row v s i ≡ row u r j
 unfolding row
-row-by v u s r i j a b c d e f g h z =
-    λ k. record { pids = a k; state = b k; handled = c k; pending = d k; unshared = e k; parent = f k; own = g k; children = h k; last = z k }
+row-by v u s r i j a b c d f g h z =
+    λ k. record { pids = a k; state = b k; handled = c k; pending = d k; parent = f k; own = g k; children = h k; last = z k }
 
 pub same-trans : {v u x : View} {s r q : ℕ} → Same v u s r → Same u x r q → Same v x s q
 same-trans a b =

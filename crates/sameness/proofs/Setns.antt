@@ -40,17 +40,17 @@ named-twins w (negsuc k) = inl (refl, refl)
 
 module _ {t u : Table} {s r i j : ℕ} (w : Ready t u s r i j) where
   -- both callers take the own namespaces of two twins that they see
-  set-children-kept : {x y : ℕ} → Twin (view t) (view u) s r x y → So (seen (view t) (view t .own i) x) → So (seen (view u) (view u .own j) y) → Kept t u s r (answers (set-children t i (view t .own x) (process t i .unshared)) 0) (answers (set-children u j (view u .own y) (process u j .unshared)) 0)
+  set-children-kept : {x y : ℕ} → Twin (view t) (view u) s r x y → So (seen (view t) (view t .own i) x) → So (seen (view u) (view u .own j) y) → Kept t u s r (answers (set-children t i (view t .own x)) 0) (answers (set-children u j (view u .own y)) 0)
   unfolding set-children row answers granted
   set-children-kept {x} {y} k sx sy =
       let z = shown t u (w .pair) (w .twin) in
-      let a = setns-sane t (w .sound-t) i x (process t i .unshared) (runs-lives t i (w .runs-t)) sx in
-      let b = setns-sane u (w .sound-u) j y (process u j .unshared) (runs-lives u j (w .runs-u)) sy in
+      let a = setns-sane t (w .sound-t) i x (runs-lives t i (w .runs-t)) sx in
+      let b = setns-sane u (w .sound-u) j y (runs-lives u j (w .runs-u)) sy in
       inr (
         refl,
         freed-alike t u a b (w .pair .alive-v) (w .pair .alive-u)
             (same-put t u (w .pair) (w .twin) (w .sound-t .shape) (w .sound-u .shape)
-            (record { states = z .states; handleds = z .handleds; pendings = z .pendings; marks = z .marks; childrens = ap (λ (q : Row). q .own) (twin-rows (w .pair) k) })
+            (record { states = z .states; handleds = z .handleds; pendings = z .pendings; childrens = ap (λ (q : Row). q .own) (twin-rows (w .pair) k) })
             (refl, refl, refl) (refl, refl, refl)),
       )
 
@@ -74,5 +74,5 @@ unfolding MadeLeaves make setns set-children answers granted refused namespace-t
 setns-leaves z t s i h hs k a g =
     by-test (eqb (named (view t) i z) process-slots or view t .ended (named (view t) i z)) (λ e. rw (e, setns) (as-it-was t s hs))
     (λ e. rw (e, setns)
-    (freed-still h (setns-sane t h i _ (process t i .unshared) (runs-lives t i k) (named-seen (view t) i z (eqb-false _ _ (or-false-left _ _ e)))) hs
-    (put-still t (facts t h) i (with-children (process t i) (view t .own (named (view t) i z)) (process t i .unshared)) (refl, refl, refl) s (outsider t s i (Setns z) a))))
+    (freed-still h (setns-sane t h i _ (runs-lives t i k) (named-seen (view t) i z (eqb-false _ _ (or-false-left _ _ e)))) hs
+    (put-still t (facts t h) i (with-children (process t i) (view t .own (named (view t) i z))) (refl, refl, refl) s (outsider t s i (Setns z) a))))

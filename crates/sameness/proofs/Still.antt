@@ -49,7 +49,7 @@ module _ {v : View} (f : Facts v) (s : ℕ) where
   unfolding living
   near-children i h =
       let ti = seen-taken v s i h in
-      by-test (v .ended i) (λ e. inr (f .ended-bare i ti e .0 .0 .0))
+      by-test (v .ended i) (λ e. inr (f .ended-bare i ti e .0 .0))
       (λ e. inl (or-left _ _ (below-trans v f _ _ s (children-below f i (both _ _ ti (ap not e))) (seen-below v s i h))))
 
 -- ---- all of it stays
@@ -61,10 +61,9 @@ pub record Look : Type 0 where
   pub state : State
   pub handled : ℕ
   pub pending : ℕ
-  pub unshared : Bool
 
 abbrev pub look : View → ℕ → Look
-look v i = record { own = v .own i; children = v .children i; state = v .state i; handled = v .handled i; pending = v .pending i; unshared = v .unshared i }
+look v i = record { own = v .own i; children = v .children i; state = v .state i; handled = v .handled i; pending = v .pending i }
 
 -- the namespaces near S, and the processes of S, stand as they stood
 pub record Still (v v′ : View) (s : ℕ) : Type 0 where
@@ -104,7 +103,6 @@ module _ {v v′ : View} {s : ℕ} (f : Facts v) (w : Still v v′ s) where
         state = e k .state;
         handled = e k .handled;
         pending = e k .pending;
-        unshared = e k .unshared;
         parent = (pid-in-still (v′ .parent i) ∙ w .parents i q) k;
         own = (ap (λ (l : Look). name v′ s (l .own)) e ∙ name-still (v .own i) near-own) k;
         children = (ap (λ (l : Look). name v′ s (l .children)) e ∙ child) k;
@@ -134,7 +132,7 @@ put-still t f c p k s o =
       levels = λ n h. refl;
       lives = λ n h. refl;
       seens = λ i. seen-remain f (put-remain t c p k .places) s i refl;
-      looks = λ i h. ap (λ q. record { own = q .own .0; children = q .children .0; state = q .state; handled = q .handled; pending = q .pending; unshared = q .unshared }) (same i h);
+      looks = λ i h. ap (λ q. record { own = q .own .0; children = q .children .0; state = q .state; handled = q .handled; pending = q .pending }) (same i h);
       pids = λ i l h. ap (λ q. pid-at q l) (same i h);
       parents = λ i h. ap (λ q. pid-in (view t) s (q .parent .0)) (same i h);
       lasts = λ i h. refl;

@@ -128,7 +128,6 @@ module _ {v u : View} {s r : ℕ} (w : Pair v u s r) {x y : ℕ} (k : Twin v u s
         states = λ z. if slot z then Running else rows z .state;
         handleds = λ z. if slot z then 0 else rows z .handled;
         pendings = λ z. if slot z then 0 else rows z .pending;
-        marks = λ z. if slot z then false else rows z .unshared;
         parents = reap-parent (w .facts-v) x (taken-v k) ex s i (taken-v m) q ∙ ap (λ (o : Row). o .parent) rows ∙ sym (reap-parent (w .facts-u) y (taken-u k) ey r j (taken-u m) q′);
         childrens = reap-children (w .facts-v) x (taken-v k) ex s i q ∙ ap (λ (o : Row). o .children) rows ∙ sym (reap-children (w .facts-u) y (taken-u k) ey r j q′);
         lasts = ap (λ (o : Row). o .last) rows;

@@ -1,7 +1,7 @@
 -- Demand 3 is not empty: tables and lists to which it applies; for each of the four touches a call by which the sheet
 -- changes; and two tables on which the lack of room makes the answers differ. By computation.
 use Prim.Native.Nat.{ℕ}
-use mathlib.Core.Bool.{Bool, true, false, So}
+use mathlib.Core.Bool.{Bool, true, So}
 use mathlib.Core.List.{List, [], _∷_, map}
 use mathlib.Core.Option.{some}
 use mathlib.Core.Path.{_≡_, refl, sym, _∙_}
@@ -41,7 +41,7 @@ lone-init =
     record {
       level = 1;
       rows =
-          record { pids = 1 ∷ 0 ∷ 0 ∷ 0 ∷ 0 ∷ 0 ∷ 0 ∷ []; state = Running; handled = 0; pending = 0; unshared = false; parent = 0; own = by-init 1; children = by-init 1; last = 1 } ∷ [];
+          record { pids = 1 ∷ 0 ∷ 0 ∷ 0 ∷ 0 ∷ 0 ∷ 0 ∷ []; state = Running; handled = 0; pending = 0; parent = 0; own = by-init 1; children = by-init 1; last = 1 } ∷ [];
     }
 
 -- the same inside calls, with other calls between

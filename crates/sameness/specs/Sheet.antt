@@ -1,6 +1,6 @@
 -- "The sheet of a namespace" (the sheet is document 01's own term).
 use Prim.Native.Nat.{ℕ, zero, suc, _-_}
-use mathlib.Core.Bool.{Bool, true, false}
+use mathlib.Core.Bool.{true, false}
 use mathlib.Core.List.{List, map}
 use lib.Dec.{eqb}
 use Rattle.table.specs.Limits.{levels, no-slot}
@@ -18,14 +18,13 @@ pub data Name : Type 0 where
   unborn-name : Name
   no-name : Name
 
--- A row for each process: numbers from S's level down; state; signals; mark; parent's number in S or 0; own and
+-- A row for each process: numbers from S's level down; state; signals; parent's number in S or 0; own and
 -- children's namespace; and for a living init, its namespace's last number. No slot appears.
 pub record Row : Type 0 where
   pub pids : List ℕ
   pub state : State
   pub handled : ℕ
   pub pending : ℕ
-  pub unshared : Bool
   pub parent : ℕ
   pub own : Name
   pub children : Name
@@ -64,7 +63,6 @@ row v s i =
       state = v .state i;
       handled = v .handled i;
       pending = v .pending i;
-      unshared = v .unshared i;
       parent = pid-in v s (v .parent i);
       own = name v s (v .own i);
       children = name v s (v .children i);

@@ -24,7 +24,7 @@ use Rattle.sound.specs.Quick.{ProcessRow, process-row, namespace-row, pr
 -- an empty slot and what lies past the last one read alike
 pub empty-row : process-row empty-process ≡ process-row no-process
 empty-row =
-    ap (λ (f : ℕ → ℕ). record { taken = false; own = 0; children = 0; parent = 0; state = Running; ended = false; handled = 0; pending = 0; unshared = false; pid = f })
+    ap (λ (f : ℕ → ℕ). record { taken = false; own = 0; children = 0; parent = 0; state = Running; ended = false; handled = 0; pending = 0; pid = f })
     (fun-ext (λ l. ap (λ (p : Pid). p .0) (getD-replicate no-pid levels l)))
 
 -- past the last slot the code takes an empty record, o

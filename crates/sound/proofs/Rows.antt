@@ -115,32 +115,6 @@ fails-7-6 a b c d e f g p = sym (and-false (a and b and c and d and e and f) g (
 
 pub ruleset row-7 = (passes-7, fails-7-1, fails-7-2, fails-7-3, fails-7-4, fails-7-5, fails-7-6)
 
-pub passes-8 : (a b c d e f g h x : Bool) → a ≡ true → b ≡ true → c ≡ true → d ≡ true → e ≡ true → f ≡ true → g ≡ true → x ≡ h → x ≡ a and b and c and d and e and f and g and h
-passes-8 a b c d e f g h x p1 p2 p3 p4 p5 p6 p7 q = passes-2 (a and b and c and d and e and f and g) h x (sym (passes-7 a b c d e f g true p1 p2 p3 p4 p5 p6 (sym p7))) q
-
-pub fails-8-1 : (a b c d e f g h : Bool) → a ≡ false → false ≡ a and b and c and d and e and f and g and h
-fails-8-1 a b c d e f g h p = sym (and-false (a and b and c and d and e and f and g) h (sym (fails-7-1 a b c d e f g p)))
-
-pub fails-8-2 : (a b c d e f g h : Bool) → b ≡ false → false ≡ a and b and c and d and e and f and g and h
-fails-8-2 a b c d e f g h p = sym (and-false (a and b and c and d and e and f and g) h (sym (fails-7-2 a b c d e f g p)))
-
-pub fails-8-3 : (a b c d e f g h : Bool) → c ≡ false → false ≡ a and b and c and d and e and f and g and h
-fails-8-3 a b c d e f g h p = sym (and-false (a and b and c and d and e and f and g) h (sym (fails-7-3 a b c d e f g p)))
-
-pub fails-8-4 : (a b c d e f g h : Bool) → d ≡ false → false ≡ a and b and c and d and e and f and g and h
-fails-8-4 a b c d e f g h p = sym (and-false (a and b and c and d and e and f and g) h (sym (fails-7-4 a b c d e f g p)))
-
-pub fails-8-5 : (a b c d e f g h : Bool) → e ≡ false → false ≡ a and b and c and d and e and f and g and h
-fails-8-5 a b c d e f g h p = sym (and-false (a and b and c and d and e and f and g) h (sym (fails-7-5 a b c d e f g p)))
-
-pub fails-8-6 : (a b c d e f g h : Bool) → f ≡ false → false ≡ a and b and c and d and e and f and g and h
-fails-8-6 a b c d e f g h p = sym (and-false (a and b and c and d and e and f and g) h (sym (fails-7-6 a b c d e f g p)))
-
-pub fails-8-7 : (a b c d e f g h : Bool) → g ≡ false → false ≡ a and b and c and d and e and f and g and h
-fails-8-7 a b c d e f g h p = sym (and-false (a and b and c and d and e and f and g) h (and-false-later (a and b and c and d and e and f) g p))
-
-pub ruleset row-8 = (passes-8, fails-8-1, fails-8-2, fails-8-3, fails-8-4, fails-8-5, fails-8-6, fails-8-7)
-
 -- ---- a choice by a test t: a where it holds, b where it does not
 
 pub takes : (t a b x : Bool) → t ≡ true → x ≡ a → x ≡ (t implies a) and (t or b)

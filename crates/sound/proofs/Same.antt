@@ -217,7 +217,7 @@ module _ (v : View) (p : Facts v) (h : Held v) where
       go i k e (yes z) = reach-zero (v .parent) process-slots i z
       go i true t (no o) = p .parents i t o .1
       go i false e (no o) =
-          let z : v .parent i ≡ 0 = (simp tests at (p .empty-process i (λ t. false≢true (sym e ∙ t)))) .0 .0 .0 .0 .0 .1 in
+          let z : v .parent i ≡ 0 = (simp tests at (p .empty-process i (λ t. false≢true (sym e ∙ t)))) .0 .0 .0 .0 .1 in
           reach-step (v .parent) 63 i (reach-zero (v .parent) 63 (v .parent i) z)
 
   quick-from : So (quick v)
@@ -245,7 +245,7 @@ abbrev Member : View → ℕ → Type 0
 Member v i =
     (((((Stands v (v .own i) × (So (unborn v (v .own i)) → ⊥)) × So (kept-end (v .state i))) × SignalsOk (v .handled i) (v .pending i))
     × ((l : ℕ) → l < levels → pid-ok v i l))
-    × ((So (v .ended i) → (((v .children i ≡ no-slot) × (v .handled i ≡ 0)) × (v .pending i ≡ 0)) × (So (v .unshared i) → ⊥))
+    × ((So (v .ended i) → ((v .children i ≡ no-slot) × (v .handled i ≡ 0)) × (v .pending i ≡ 0))
     × ((So (v .ended i) → ⊥)
     → (((So (dead v (v .own i)) → ⊥) × Stands v (v .children i)) × So (below v (v .children i) (v .own i)))
     × (So (unborn v (v .children i)) → v .own i ≡ v .up (v .children i)))))
@@ -402,7 +402,7 @@ module _ (v : View) (r : Past v) (q : So (quick v)) where
   holds-unborn : (n i : ℕ) → Stands v n → So (unborn v n) → Taken v i → v .children i ≡ n → v .own i ≡ v .up n
   holds-unborn n i s u t e =
       by-bool (v .ended i)
-      (λ x. let z = member-of i t .1 .0 x .0 .0 .0 in omega (arith, namespace-range n s))
+      (λ x. let z = member-of i t .1 .0 x .0 .0 in omega (arith, namespace-range n s))
       (λ x. member-of i t .1 .1 (λ y. false≢true (sym x ∙ y)) .1 (subst (λ m. So (unborn v m)) (sym e) u) ∙ ap (v .up) e)
 
   holder-key : (n i : ℕ) → Stands v n → So (unborn v n) → Taken v i → v .children i ≡ n → unborn-keys v i ≡ n

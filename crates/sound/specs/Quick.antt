@@ -29,7 +29,6 @@ pub record ProcessRow : Type 0 where
   pub ended : Bool
   pub handled : ℕ
   pub pending : ℕ
-  pub unshared : Bool
   pub pid : ℕ → ℕ
 
 pub record NamespaceRow : Type 0 where
@@ -50,7 +49,6 @@ process-at v i =
       ended = v .ended i;
       handled = v .handled i;
       pending = v .pending i;
-      unshared = v .unshared i;
       pid = v .pid i;
     }
 
@@ -65,7 +63,6 @@ process-row p =
       ended = is-ended (p .state);
       handled = p .handled;
       pending = p .pending;
-      unshared = p .unshared;
       pid = pid-at p;
     }
 
@@ -80,7 +77,7 @@ namespace-row n s =
 
 -- what an ended process has left
 unfoldable pub ended-ok : ProcessRow → Bool
-ended-ok p = eqb (p .children) no-slot and eqb (p .handled) 0 and eqb (p .pending) 0 and not (p .unshared)
+ended-ok p = eqb (p .children) no-slot and eqb (p .handled) 0 and eqb (p .pending) 0
 
 -- what a living one may have for its children; an unborn namespace only right below its own
 unfoldable pub living-ok : (ℕ → ℕ) → ProcessRow → NamespaceRow → NamespaceRow → Bool
@@ -120,7 +117,7 @@ parent-ok up p home parent =
 unfoldable pub blank : ProcessRow → Bool
 blank p =
     eqb (p .own) 0 and eqb (p .children) 0 and eqb (p .parent) 0 and is-running (p .state) and eqb (p .handled) 0
-    and eqb (p .pending) 0 and not (p .unshared) and all levels (λ l. eqb (p .pid l) 0)
+    and eqb (p .pending) 0 and all levels (λ l. eqb (p .pid l) 0)
 
 unfoldable pub process-ok : (ℕ → ℕ) → ℕ → ProcessRow → NamespaceRow → NamespaceRow → ProcessRow → Bool
 process-ok up i p home inner parent =

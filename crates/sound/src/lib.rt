@@ -51,10 +51,7 @@ fn ended_ok(p: Process) -> bool
     if p.handled != 0 {
         return false;
     }
-    if p.pending != 0 {
-        return false;
-    }
-    !p.unshared
+    p.pending == 0
 }
 
 // Whether what a living process holds for its children, if it is unborn, lies right below its own namespace.
@@ -252,9 +249,6 @@ fn is_blank(p: Process) -> bool
         return false;
     }
     if p.pending != 0 {
-        return false;
-    }
-    if p.unshared {
         return false;
     }
     no_pids(p)

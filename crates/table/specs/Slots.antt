@@ -24,7 +24,7 @@ abbrev pub no-pid : Pid
 no-pid = record { 0 = 0 }
 
 abbrev pub no-process : Process
-no-process = record { own = record { 0 = 0 }; children = record { 0 = 0 }; parent = record { 0 = 0 }; state = Running; handled = 0; pending = 0; unshared = false; pids = [] }
+no-process = record { own = record { 0 = 0 }; children = record { 0 = 0 }; parent = record { 0 = 0 }; state = Running; handled = 0; pending = 0; pids = [] }
 
 abbrev pub no-namespace : Namespace
 no-namespace = record { parent = record { 0 = 0 }; level = 0; last = no-pid; life = Unborn }

@@ -66,7 +66,7 @@ pub enum State {
 }
 
 // Own namespace, fixed at birth; children's namespace; parent; state; handled and pending signals, bit s for
-// signal s; the mark "has unshared"; and one number for each level from the root's to its own.
+// signal s; and one number for each level from the root's to its own.
 pub struct Process {
     pub own: NsSlot,
     pub children: NsSlot,
@@ -74,7 +74,6 @@ pub struct Process {
     pub state: State,
     pub handled: u32,
     pub pending: u32,
-    pub unshared: bool,
     pub pids: [Pid; LEVELS],
 }
 
@@ -169,7 +168,6 @@ pub fn empty_process() -> Process
         state: State::Running,
         handled: 0,
         pending: 0,
-        unshared: false,
         pids: [Pid(0); LEVELS],
     }
 }

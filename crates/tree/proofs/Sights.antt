@@ -45,7 +45,7 @@ module _ (v : View) (up : List NsSlot) (levels : List ℕ) (n i : ℕ) (p : Proc
 pub itself : (t : Table) (i : ℕ) → ReadAt (view t) i (process t i)
 unfolding taken
 itself t i =
-    record { own = refl; children = refl; parent = refl; state = refl; ended = refl; handled = refl; pending = refl; unshared = refl; pid = λ l. refl; taken = refl }
+    record { own = refl; children = refl; parent = refl; state = refl; ended = refl; handled = refl; pending = refl; pid = λ l. refl; taken = refl }
 
 module _ (t : Table) (up : List NsSlot) (levels : List ℕ) (n i : ℕ) (r : Bool) where
   -- r is the result of `seen`

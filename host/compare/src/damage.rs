@@ -16,7 +16,6 @@ pub const FIELDS: [&str; PROCESS_WORDS + NAMESPACE_WORDS] = [
     "process: how it ended",
     "process: handled signals",
     "process: pending signals",
-    "process: mark",
     "process: number at level 0",
     "process: number at level 1",
     "process: number at level 2",

@@ -1,6 +1,7 @@
 //! Scripts: the recorder, the proved library and the reference must give the same answers to each.
 
-use reference::script::run;
+use reference::calls::Call;
+use reference::script::{parse, run};
 use reference::table::Table;
 use scripts::generate::{arbitrary, bytes, round, script, KINDS};
 use std::io::{self, Write};
@@ -38,7 +39,7 @@ pub fn hold(recorder: &str) -> Result<(), String> {
     for (kind, scripts) in kinds() {
         let (mut number, mut lines) = (0, 0);
         for script in scripts {
-            seen.count(&hold_script(recorder, kind, &script)?);
+            seen.count(&script, &hold_script(recorder, kind, &script)?);
             number += 1;
             lines += script.split_inclusive(|&b| b == b'\n').count();
         }
@@ -50,19 +51,46 @@ pub fn hold(recorder: &str) -> Result<(), String> {
     Ok(())
 }
 
-/// Answers that the scripts must bring about: all refusals but -1000, which no script can, and the other forms.
-const FORMS: [&str; 13] =
-    ["-1001", "-22", "-38", "-3", "-16", "-10", "-28", "-12", "-11", "gave", "signal", "?", "other numbers"];
+/// Answers that the scripts must bring about: all refusals but -1000, which no script can, -22 also of the two calls
+/// that make a namespace, and the other forms.
+const FORMS: [&str; 15] = [
+    "-1001",
+    "-22",
+    "-22 of clone new",
+    "-22 of unshare",
+    "-38",
+    "-3",
+    "-16",
+    "-10",
+    "-28",
+    "-12",
+    "-11",
+    "gave",
+    "signal",
+    "?",
+    "other numbers",
+];
+
+/// The place in `FORMS` of an answer to a line.
+fn form_of(line: &[u8], answer: &str) -> usize {
+    let word = answer.split(' ').nth(1).unwrap_or(answer);
+    let form = match (word, parse(line)) {
+        ("-22", Some((_, Call::CloneNew))) => "-22 of clone new",
+        ("-22", Some((_, Call::Unshare))) => "-22 of unshare",
+        _ => word,
+    };
+    FORMS.iter().position(|known| *known == form).unwrap_or(FORMS.len() - 1)
+}
 
 /// How often each form of answer came.
 #[derive(Default)]
 struct Seen([usize; FORMS.len()]);
 
 impl Seen {
-    fn count(&mut self, answers: &[u8]) {
-        for line in String::from_utf8_lossy(answers).lines() {
-            let word = line.split(' ').nth(1).unwrap_or(line);
-            self.0[FORMS.iter().position(|form| *form == word).unwrap_or(FORMS.len() - 1)] += 1;
+    fn count(&mut self, script: &[u8], answers: &[u8]) {
+        let lines = script.split(|&b| b == b'\n');
+        for (line, answer) in lines.zip(String::from_utf8_lossy(answers).lines()) {
+            self.0[form_of(line, answer)] += 1;
         }
     }
 

@@ -21,12 +21,15 @@ use std::fmt;
 /// An answer has at most so many bytes, its line feed counted.
 pub const ANSWER_BYTES: usize = 32;
 
-/// The words of a table: 16 for each of 64 process slots, then 5 for each of 32 namespace slots.
+/// The words of a table: 15 for each of 64 process slots, then 5 for each of 32 namespace slots.
 ///
 /// A process: own and children's namespace, parent, state (0 running, 1 stopped, 2 ended with a number, 3 by a signal),
-/// that number or signal, handled and pending signals (bit s for signal s), the mark "has unshared", and eight numbers.
-/// A namespace: parent, level, last number, condition (0 unborn, 1 alive, 2 dead), its init. 255 is "none".
-pub const TABLE_WORDS: usize = 64 * 16 + 32 * 5;
+/// that number or signal, handled and pending signals (bit s for signal s), and eight numbers. A namespace: parent,
+/// level, last number, condition (0 unborn, 1 alive, 2 dead), its init. 255 is "none".
+pub const TABLE_WORDS: usize = NAMESPACES_AT + 32 * 5;
+
+/// Where the words of the namespaces start.
+pub const NAMESPACES_AT: usize = 64 * 15;
 
 mod proved {
     /// What `lampfunnel_run` answers where the buffer is too short.
@@ -107,12 +110,13 @@ pub fn run_into(script: &[u8], out: &mut [u8]) -> Result<usize, ShortBuffer> {
 /// Whether words are a sound table; `None` where they are not [`TABLE_WORDS`].
 ///
 /// ```
-/// use lampfunnel::{is_sound, TABLE_WORDS};
+/// use lampfunnel::{is_sound, NAMESPACES_AT, TABLE_WORDS};
 /// let mut words = [0; TABLE_WORDS];
 /// assert_eq!(is_sound(&words), Some(false));
 /// words[2] = 255; // the root init has no parent,
-/// words[8] = 1; // and number 1
-/// words[1024..1028].copy_from_slice(&[255, 0, 1, 1]); // the root namespace: no parent, level 0, last number 1, alive
+/// words[7] = 1; // and number 1
+/// // the root namespace: no parent, level 0, last number 1, alive
+/// words[NAMESPACES_AT..][..4].copy_from_slice(&[255, 0, 1, 1]);
 /// assert_eq!(is_sound(&words), Some(true));
 /// assert_eq!(is_sound(&words[1..]), None);
 /// ```
@@ -129,11 +133,11 @@ pub fn is_sound(words: &[u32]) -> Option<bool> {
 /// are not [`TABLE_WORDS`].
 ///
 /// ```
-/// use lampfunnel::{next_pid, TABLE_WORDS};
+/// use lampfunnel::{next_pid, NAMESPACES_AT, TABLE_WORDS};
 /// let mut words = [0; TABLE_WORDS];
-/// words[1026] = 32_766; // the last number of the root namespace
+/// words[NAMESPACES_AT + 2] = 32_766; // the last number of the root namespace
 /// assert_eq!(next_pid(&words, 0), Some(32_767));
-/// words[1026] = 32_767;
+/// words[NAMESPACES_AT + 2] = 32_767;
 /// assert_eq!(next_pid(&words, 0), Some(300));
 /// assert_eq!(next_pid(&[], 0), None);
 /// ```

@@ -187,7 +187,16 @@ impl Table {
         self.namespaces[n as usize] = Namespace { parent, level, last: 0, life: Life::Unborn };
     }
 
+    /// Whether the children's namespace is not the caller's own (W-203).
+    fn is_elsewhere(&self, c: u8) -> bool {
+        let p = &self.processes[c as usize];
+        p.children != p.own
+    }
+
     fn clone_new(&mut self, c: u8) -> Result<u16, Refusal> {
+        if self.is_elsewhere(c) {
+            return Err(EINVAL);
+        }
         if self.own_level(c) == LEVELS - 1 {
             return Err(ENOSPC);
         }
@@ -198,7 +207,7 @@ impl Table {
     }
 
     fn unshare(&mut self, c: u8) -> Result<u16, Refusal> {
-        if self.processes[c as usize].unshared {
+        if self.is_elsewhere(c) {
             return Err(EINVAL);
         }
         if self.own_level(c) == LEVELS - 1 {
@@ -207,7 +216,6 @@ impl Table {
         let n = self.free_namespace()?;
         self.put_namespace(c, n);
         self.processes[c as usize].children = n;
-        self.processes[c as usize].unshared = true;
         self.free_unheld();
         Ok(0)
     }

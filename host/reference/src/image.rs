@@ -1,9 +1,9 @@
-//! A table as words, in which a host hands one to the proved library: 16 for each process slot, then 5 for each
+//! A table as words, in which a host hands one to the proved library: 15 for each process slot, then 5 for each
 //! namespace slot. Each word gives its field by its low bits, so any words are some table.
 
 use crate::table::{End, Life, Namespace, Process, State, Table, LEVELS, NAMESPACES, PROCESSES};
 
-pub const PROCESS_WORDS: usize = 16;
+pub const PROCESS_WORDS: usize = 15;
 pub const NAMESPACES_AT: usize = PROCESSES * PROCESS_WORDS;
 pub const NAMESPACE_WORDS: usize = 5;
 pub const WORDS: usize = NAMESPACES_AT + NAMESPACES * NAMESPACE_WORDS;
@@ -21,8 +21,8 @@ fn process_words(p: &Process) -> [u32; PROCESS_WORDS] {
     };
     let mut words = [0; PROCESS_WORDS];
     words[..5].copy_from_slice(&[p.own, p.children, p.parent, kind, value].map(u32::from));
-    words[5..8].copy_from_slice(&[p.handled, p.pending, p.unshared.into()]);
-    words[8..].copy_from_slice(&p.pids.map(u32::from));
+    words[5..7].copy_from_slice(&[p.handled, p.pending]);
+    words[7..].copy_from_slice(&p.pids.map(u32::from));
     words
 }
 
@@ -55,17 +55,8 @@ fn process(w: &[u32]) -> Process {
         (2, status) => State::Ended(End::Exited(status)),
         (_, signal) => State::Ended(End::Signaled(signal)),
     };
-    let pids: [u16; LEVELS] = std::array::from_fn(|l| w[8 + l] as u16);
-    Process {
-        own: w[0] as u8,
-        children: w[1] as u8,
-        parent: w[2] as u8,
-        state,
-        handled: w[5],
-        pending: w[6],
-        unshared: w[7] as u8 != 0,
-        pids,
-    }
+    let pids: [u16; LEVELS] = std::array::from_fn(|l| w[7 + l] as u16);
+    Process { own: w[0] as u8, children: w[1] as u8, parent: w[2] as u8, state, handled: w[5], pending: w[6], pids }
 }
 
 fn namespace(w: &[u32]) -> Namespace {

@@ -69,7 +69,7 @@ fn pid_ok(pid: u16, l: usize, level: usize) -> bool {
 }
 
 fn ended_ok(p: &Process) -> bool {
-    p.children == NONE && p.handled == 0 && p.pending == 0 && !p.unshared
+    p.children == NONE && p.handled == 0 && p.pending == 0
 }
 
 fn living_ok(t: &Table, p: &Process, home: &Namespace) -> bool {

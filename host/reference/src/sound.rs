@@ -78,7 +78,6 @@ fn process_is_sound(t: &Table, i: u8, p: &Process) -> bool {
                 && p.children == NONE
                 && p.handled == 0
                 && p.pending == 0
-                && !p.unshared
         }
         State::Running | State::Stopped => {
             home.life != Life::Dead && t.namespace(p.children).is_some() && t.below(p.children, p.own)

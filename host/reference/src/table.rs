@@ -29,7 +29,6 @@ pub struct Process {
     pub state: State,
     pub handled: u32,
     pub pending: u32,
-    pub unshared: bool,
     pub pids: [u16; LEVELS],
 }
 
@@ -41,7 +40,6 @@ impl Process {
         state: State::Running,
         handled: 0,
         pending: 0,
-        unshared: false,
         pids: [0; LEVELS],
     };
 

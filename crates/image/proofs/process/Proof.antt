@@ -34,29 +34,23 @@ byte-requires-5 c κs = search needs
 state-requires : tie.Need-state-requires
 state-requires c κs = search needs
 
-add-byte-5 : tie.Need-add-byte-5
-add-byte-5 c = search needs
+add-t8 : tie.Need-add-t8
+add-t8 c = search needs
 
-byte-requires-6 : tie.Need-byte-requires-6
-byte-requires-6 c κs = search needs
+mul-t10 : tie.Need-mul-t10
+mul-t10 c = search needs
 
-add-t11 : tie.Need-add-t11
-add-t11 c = search needs
+shared-slice-read-t12 : tie.Need-shared-slice-read-t12
+shared-slice-read-t12 c = search needs
 
-mul-t9 : tie.Need-mul-t9
-mul-t9 c = search needs
+add-t13 : tie.Need-add-t13
+add-t13 c = search needs
 
-shared-slice-read-t13 : tie.Need-shared-slice-read-t13
-shared-slice-read-t13 c = search needs
+mul-t14 : tie.Need-mul-t14
+mul-t14 c = search needs
 
-add-t14 : tie.Need-add-t14
-add-t14 c = search needs
-
-mul-t15 : tie.Need-mul-t15
-mul-t15 c = search needs
-
-shared-slice-read-t17 : tie.Need-shared-slice-read-t17
-shared-slice-read-t17 c = search needs
+shared-slice-read-t16 : tie.Need-shared-slice-read-t16
+shared-slice-read-t16 c = search needs
 
 add-pids : tie.Need-add-pids
 add-pids c = search needs
@@ -82,14 +76,12 @@ process-spec =
     add-byte-4
     byte-requires-5
     state-requires
-    add-byte-5
-    byte-requires-6
-    add-t11
-    mul-t9
-    shared-slice-read-t13
-    add-t14
-    mul-t15
-    shared-slice-read-t17
+    add-t8
+    mul-t10
+    shared-slice-read-t12
+    add-t13
+    mul-t14
+    shared-slice-read-t16
     add-pids
     pids-requires
     returns)

@@ -25,9 +25,6 @@ refused-requires-2 c κs = search needs
 returns-2 : tie.Need-returns-2
 returns-2 c = search setns-ended
 
-process-requires-2 : tie.Need-process-requires-2
-process-requires-2 c κs = search needs
-
 set-children-requires : tie.Need-set-children-requires
 set-children-requires c κs = search needs
 
@@ -35,7 +32,7 @@ answers-requires : tie.Need-answers-requires
 answers-requires c κs = search needs
 
 returns-3 : tie.Need-returns-3
-returns-3 c = search (setns-sets, c .before .before .before .before .before .before .before .before .before .before .fits .n)
+returns-3 c = search (setns-sets, c .before .before .before .before .before .before .before .before .before .fits .n)
 
 pub setns-spec : {M : Type 1} → statement M
 setns-spec =
@@ -48,7 +45,6 @@ setns-spec =
     has-ended-requires
     refused-requires-2
     returns-2
-    process-requires-2
     set-children-requires
     answers-requires
     returns-3)

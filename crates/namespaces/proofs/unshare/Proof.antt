@@ -1,11 +1,14 @@
 -- `unshare` makes the tests of the definition. In a sound table no level is past the deepest, so `<=` tests for the deepest.
 use borrow.Author.Needs.{needs}
-use Rattle.namespaces.proofs.Children.{unshare-marked, unshare-deep, unshare-crowded, unshare-sets}
+use Rattle.namespaces.proofs.Children.{unshare-elsewhere, unshare-deep, unshare-crowded, unshare-sets}
 use Rattle.namespaces.proofs.unshare.Statement.{statement}
 use Rattle.namespaces.proofs.unshare.Tie as tie
 
 process-requires : tie.Need-process-requires
 process-requires c κs = search needs
+
+is-elsewhere-requires : tie.Need-is-elsewhere-requires
+is-elsewhere-requires c κs = search needs
 
 own-level-requires : tie.Need-own-level-requires
 own-level-requires c κs = search needs
@@ -14,7 +17,7 @@ refused-requires : tie.Need-refused-requires
 refused-requires c κs = search needs
 
 returns : tie.Need-returns
-returns c = λ s h. search unshare-marked
+returns c = λ s h. search unshare-elsewhere
 
 refused-requires-2 : tie.Need-refused-requires-2
 refused-requires-2 c κs = search needs
@@ -51,6 +54,7 @@ unshare-spec =
     tie.close
     (tie.spec
     process-requires
+    is-elsewhere-requires
     own-level-requires
     refused-requires
     returns

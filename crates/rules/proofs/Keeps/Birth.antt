@@ -122,7 +122,6 @@ with-born v c n k =
       ended = λ i. if eqb i k then false else v .ended i;
       handled = λ i. if eqb i k then 0 else v .handled i;
       pending = λ i. if eqb i k then 0 else v .pending i;
-      unshared = λ i. if eqb i k then false else v .unshared i;
       pid = λ i l. if eqb i k then (if leb l (v .level n) then next-pid v (above-at v n l) else 0) else v .pid i l;
       up = v .up;
       level = v .level;
@@ -416,7 +415,7 @@ module _ (t : Table) (g : So (shaped t)) (f : Facts (view t)) (c n : ℕ) (here 
   unfolding birth joined newborn
   birth-view =
       view-changed mid (λ i p. p) (joined v k n) mid-shaped (λ i l. refl) (λ m l. rw (out m l))
-      ∙ ap (λ (u : View). record { own = u .own; children = u .children; parent = u .parent; state = u .state; ended = u .ended; handled = u .handled; pending = u .pending; unshared = u .unshared; pid = u .pid; up = λ m. joined v k n m (namespace t m) .parent .0; level = λ m. joined v k n m (namespace t m) .level; last = λ m. joined v k n m (namespace t m) .last .0; life = λ m. joined v k n m (namespace t m) .life }) (view-put t g k x low)
+      ∙ ap (λ (u : View). record { own = u .own; children = u .children; parent = u .parent; state = u .state; ended = u .ended; handled = u .handled; pending = u .pending; pid = u .pid; up = λ m. joined v k n m (namespace t m) .parent .0; level = λ m. joined v k n m (namespace t m) .level; last = λ m. joined v k n m (namespace t m) .last .0; life = λ m. joined v k n m (namespace t m) .life }) (view-put t g k x low)
       ∙ (λ j. record {
         own = λ i. pick (λ p. p .own .0) (eqb i k) x (process t i) j;
         children = λ i. pick (λ p. p .children .0) (eqb i k) x (process t i) j;
@@ -425,7 +424,6 @@ module _ (t : Table) (g : So (shaped t)) (f : Facts (view t)) (c n : ℕ) (here 
         ended = λ i. pick (λ p. is-ended (p .state)) (eqb i k) x (process t i) j;
         handled = λ i. pick (λ p. p .handled) (eqb i k) x (process t i) j;
         pending = λ i. pick (λ p. p .pending) (eqb i k) x (process t i) j;
-        unshared = λ i. pick (λ p. p .unshared) (eqb i k) x (process t i) j;
         pid = λ i l. (pick (λ p. pid-at p l) (eqb i k) x (process t i) ∙ ap (λ z. if eqb i k then z else v .pid i l) (pids-are l)) j;
         up = λ m. kept-of (λ s. s .parent .0) (below v n m) (new m (namespace t m)) (namespace t m) refl j;
         level = λ m. kept-of (λ s. s .level) (below v n m) (new m (namespace t m)) (namespace t m) refl j;

@@ -66,7 +66,6 @@ view-of ps ss =
       ended = λ i. is-ended (ps i .state);
       handled = λ i. ps i .handled;
       pending = λ i. ps i .pending;
-      unshared = λ i. ps i .unshared;
       pid = λ i l. pid-at (ps i) l;
       up = λ n. ss n .parent .0;
       level = λ n. ss n .level;

@@ -23,7 +23,7 @@ use Rattle.rules.proofs.Laws.Steps.{made-or-refused, runs-lives, remain
 use Rattle.rules.proofs.Laws.Tests.{isnt-so, no-so, choose, both, isnt-not, or-false-left, or-false-right}
 use Rattle.rules.specs.Answers.{answers, granted, refused}
 use Rattle.rules.specs.Births.{birth}
-use Rattle.rules.specs.Calls.{clone, clone-new, exit, first-ended, getpid, getppid, handle, handle-off, handle-on, kill, named, names-group, natural, new-namespace, own-level, poll, reap, set-children, setns, status, targets, unshare, wait, within}
+use Rattle.rules.specs.Calls.{clone, clone-new, elsewhere, exit, first-ended, getpid, getppid, handle, handle-off, handle-on, kill, named, names-group, natural, new-namespace, own-level, poll, reap, set-children, setns, status, targets, unshare, wait, within}
 use Rattle.rules.specs.Claims.{KeepsSound}
 use Rattle.rules.specs.Delivery.{act, action-on, deliver, deliver-all, resumed, with-pending}
 use Rattle.rules.specs.Ends.{end}
@@ -52,8 +52,8 @@ use Rattle.table.specs.declared.Table.{Table}
 -- the changes that add no process
 pub data Change (t : Table) : Table → Type 0 where
   ends : (p : ℕ) (e : End) → Lives (view t) p → Other p → So (kept-end (Ended e)) → Change t (end t p e)
-  signals-of : (c : ℕ) → Lives (view t) c → (x : State) → is-ended x ≡ false → So (kept-end x) → (h q : ℕ) → SignalsOk h q → h < 2 ^ signals → q < 2 ^ signals → Change t (put t c (with-all (process t c) x h q (view t .children c) (view t .unshared c)))
-  turns : (c m : ℕ) (mark : Bool) → Lives (view t) c → MayHold (view t) c m → Change t (put t c (with-children (process t c) m mark))
+  signals-of : (c : ℕ) → Lives (view t) c → (x : State) → is-ended x ≡ false → So (kept-end x) → (h q : ℕ) → SignalsOk h q → h < 2 ^ signals → q < 2 ^ signals → Change t (put t c (with-all (process t c) x h q (view t .children c)))
+  turns : (c m : ℕ) → Lives (view t) c → MayHold (view t) c m → Change t (put t c (with-children (process t c) m))
   reaps : (d : ℕ) → So (view t .ended d) → Change t (put t d empty-process)
   makes-namespace : (c : ℕ) → Lives (view t) c → (view t .level (view t .own c) ≡ deepest → ⊥) → (free-namespace-slot (view t) ≡ namespace-slots → ⊥) → Change t (new-namespace t c)
 
@@ -72,7 +72,7 @@ namespace-sane t s c l a b =
 pub change-sane : (t u : Table) → Sane t → Change t u → Sane u
 change-sane t u s (ends p e l o ok) = end-sane t s p e l o ok
 change-sane t u s (signals-of c l x o k h q ok a b) = signalled-sane t s c l x o h q k ok a b
-change-sane t u s (turns c m mark l k) = set-children-sane t s c m mark l k
+change-sane t u s (turns c m l k) = set-children-sane t s c m l k
 change-sane t u s (reaps d o) = reaped-sane t s d o
 change-sane t u s (makes-namespace c l a b) = namespace-sane t s c l a b
 
@@ -208,23 +208,24 @@ module _ (t : Table) (c : ℕ) (h : SoundTable t) (r : So (runs (view t) c)) whe
       choose (Gives t) (dead v (v .children c)) (λ a. nothing-done) (λ a.
       choose (Gives t) (eqb (free-slot v) process-slots) (λ b. nothing-done) (λ b. born c (v .children c) (may-bear a b)))
   call-made CloneNew =
+      choose (Gives t) (elsewhere v c) (λ z. nothing-done) (λ z.
       choose (Gives t) (eqb (own-level v c) deepest) (λ a. nothing-done) (λ a.
       choose (Gives t) (eqb (free-slot v) process-slots or eqb (free-namespace-slot v) namespace-slots) (λ b. nothing-done) (λ b.
       let (x, l, m) = may-bear-new a b in
-      born-in-new c (free-namespace-slot v) x l m))
+      born-in-new c (free-namespace-slot v) x l m)))
   call-made Unshare =
-      choose (Gives t) (process t c .unshared) (λ a. nothing-done) (λ a.
+      choose (Gives t) (elsewhere v c) (λ a. nothing-done) (λ a.
       choose (Gives t) (eqb (own-level v c) deepest) (λ b. nothing-done) (λ b.
       choose (Gives t) (eqb (free-namespace-slot v) namespace-slots) (λ d. nothing-done) (λ d.
       let deep = eqb-false (own-level v c) deepest b in
       let room = eqb-false (free-namespace-slot v) namespace-slots d in
       let q = K.ready-next t c h r deep room in
-      freed-after _ (more (more start (makes-namespace c lives deep room)) (turns c (free-namespace-slot v) true (q .lives) (record { here = q .namespace; below = q .below; alone = λ u. (q .up-own u, q .alone) }))))))
+      freed-after _ (more (more start (makes-namespace c lives deep room)) (turns c (free-namespace-slot v) (q .lives) (record { here = q .namespace; below = q .below; alone = λ u. (q .up-own u, q .alone) }))))))
   call-made (Setns n) =
       choose (Gives t) (eqb (named v c n) process-slots or v .ended (named v c n)) (λ a. nothing-done) (λ a.
       let s : Seen v (v .own c) (named v c n) = named-seen v c n (eqb-false _ process-slots (or-false-left _ _ a)) in
       let m = f .members (named v c n) (seen-taken v (v .own c) _ s) in
-      freed-after _ (more start (turns c (v .own (named v c n)) (process t c .unshared) lives (record { here = m .0 .0; below = seen-below v (v .own c) _ s; alone = λ u. absurd (m .1 u) }))))
+      freed-after _ (more start (turns c (v .own (named v c n)) lives (record { here = m .0 .0; below = seen-below v (v .own c) _ s; alone = λ u. absurd (m .1 u) }))))
   call-made (Kill n s) =
       choose (Gives t) (not (within 0 signals s)) (λ a. nothing-done) (λ a.
       choose (Gives t) (names-group n) (λ b. nothing-done) (λ b.
@@ -244,15 +245,15 @@ module _ (t : Table) (c : ℕ) (h : SoundTable t) (r : So (runs (view t) c)) whe
       signalled c lives (v .handled c) (without-signal (v .pending c) (lowest-signal (process t c .pending))) (poll-ok _ _ _ k) x (omega (arith, without-signal-le (v .pending c) (lowest-signal (process t c .pending)), y)))
 
 -- the tables of setns and unshare before namespaces are freed
-pub setns-sane : (t : Table) → SoundTable t → (c i : ℕ) (mark : Bool) → Lives (view t) c → Seen (view t) (view t .own c) i → Sane (put t c (with-children (process t c) (view t .own i) mark))
-setns-sane t h c i mark l s =
+pub setns-sane : (t : Table) → SoundTable t → (c i : ℕ) → Lives (view t) c → Seen (view t) (view t .own c) i → Sane (put t c (with-children (process t c) (view t .own i)))
+setns-sane t h c i l s =
     let m = facts t h .members i (seen-taken (view t) (view t .own c) i s) in
-    set-children-sane t (sane t h) c (view t .own i) mark l (record { here = m .0 .0; below = seen-below (view t) (view t .own c) i s; alone = λ u. absurd (m .1 u) })
+    set-children-sane t (sane t h) c (view t .own i) l (record { here = m .0 .0; below = seen-below (view t) (view t .own c) i s; alone = λ u. absurd (m .1 u) })
 
-pub unshare-sane : (t : Table) (h : SoundTable t) (c : ℕ) (r : So (runs (view t) c)) → (own-level (view t) c ≡ deepest → ⊥) → (free-namespace-slot (view t) ≡ namespace-slots → ⊥) → Sane (put (new-namespace t c) c (with-children (process (new-namespace t c) c) (free-namespace-slot (view t)) true))
+pub unshare-sane : (t : Table) (h : SoundTable t) (c : ℕ) (r : So (runs (view t) c)) → (own-level (view t) c ≡ deepest → ⊥) → (free-namespace-slot (view t) ≡ namespace-slots → ⊥) → Sane (put (new-namespace t c) c (with-children (process (new-namespace t c) c) (free-namespace-slot (view t))))
 unshare-sane t h c r deep room =
     let q = K.ready-next t c h r deep room in
-    set-children-sane (new-namespace t c) (namespace-sane t (sane t h) c (lives t c h r) deep room) c (free-namespace-slot (view t)) true (q .lives) (record { here = q .namespace; below = q .below; alone = λ u. (q .up-own u, q .alone) })
+    set-children-sane (new-namespace t c) (namespace-sane t (sane t h) c (lives t c h r) deep room) c (free-namespace-slot (view t)) (q .lives) (record { here = q .namespace; below = q .below; alone = λ u. (q .up-own u, q .alone) })
 
 -- a call by a running caller leaves a sound table sound
 pub make-sound : (t : Table) (c : ℕ) (call : Call) → SoundTable t → So (runs (view t) c) → SoundTable (make t c call .table)

@@ -89,7 +89,7 @@ module _ (t : Table) (s : Sane t) (c n : ℕ) (m : MayBear (view t) c n) where
         new = free;
         here = there;
         kin = (ap (λ (p : Process). p .parent .0) self, ap (λ (p : Process). p .own .0) self, ap (λ (p : Process). p .children .0) self);
-        bare = (ap (λ (p : Process). p .state) self, ap (λ (p : Process). p .handled) self, ap (λ (p : Process). p .pending) self, ap (λ (p : Process). p .unshared) self);
+        bare = (ap (λ (p : Process). p .state) self, ap (λ (p : Process). p .handled) self, ap (λ (p : Process). p .pending) self);
         first = init-of-new;
         answer = e;
         others = λ i o. at i ∙ rw (ne-eqb i k o);

@@ -17,7 +17,7 @@ use Rattle.rules.proofs.Laws.Steps.{outcome-of}
 use Rattle.rules.proofs.Laws.Tests.{choose}
 use Rattle.rules.specs.Answers.{answers, granted, is-refused, refused}
 use Rattle.rules.specs.Births.{birth}
-use Rattle.rules.specs.Calls.{clone, clone-new, exit, first-ended, getpid, getppid, handle, kill, named, names-group, namespaces-full, natural, new-namespace, own-level, poll, processes-full, reap, setns, targets, unshare, wait, within}
+use Rattle.rules.specs.Calls.{clone, clone-new, elsewhere, exit, first-ended, getpid, getppid, handle, kill, named, names-group, namespaces-full, natural, new-namespace, own-level, poll, processes-full, reap, setns, targets, unshare, wait, within}
 use Rattle.rules.specs.Claims.{Born, CloneTells}
 use Rattle.rules.specs.Pids.{free-namespace-slot, free-slot, next-pid}
 use Rattle.rules.specs.Read.{View, child-of, dead, pid-seen, taken, unborn, view}
@@ -31,7 +31,7 @@ use Rattle.table.specs.declared.Answer.the-variants.{Number}
 use Rattle.table.specs.declared.Call.the-variants.{Clone, CloneNew, Unshare, Setns, Kill, Exit, Wait, Getpid, Getppid, Handle, Poll}
 use Rattle.table.specs.declared.Call.{Call}
 use Rattle.table.specs.declared.Outcome.{Outcome}
-use Rattle.table.specs.declared.Refusal.the-variants.{NotRunning, Enospc, Enomem, Eagain}
+use Rattle.table.specs.declared.Refusal.the-variants.{Einval, NotRunning, Enospc, Enomem, Eagain}
 use Rattle.table.specs.declared.Refusal.{Refusal}
 use Rattle.table.specs.declared.State.the-variants.{Running, Stopped, Ended}
 use Rattle.table.specs.declared.State.{State}
@@ -98,10 +98,11 @@ module _ (t : Table) (c : ℕ) (h : SoundTable t) (r : So (runs (view t) c)) (a 
   clone-new-told : ToldNew t c a (clone-new t c)
   unfolding clone-new
   clone-new-told =
+      choose (ToldNew t c a) (elsewhere v c) (λ w q. absurd (none-refused t Einval a q)) (λ w.
       choose (ToldNew t c a) (eqb (own-level v c) deepest) (λ x q. absurd (none-refused t Enospc a q)) (λ x.
       choose (ToldNew t c a) (processes-full v or namespaces-full v) (λ y q. absurd (none-refused t Eagain a q)) (λ y q.
       let (z, l, m) = may-bear-new t c h r x y in
-      (free-namespace-slot v, new-child z l m a (sym (same-answer _ a q) ∙ number-new z l m), K.free-namespace-is v (λ e. omega (arith, l, e)) .1, up-new z l m)))
+      (free-namespace-slot v, new-child z l m a (sym (same-answer _ a q) ∙ number-new z l m), K.free-namespace-is v (λ e. omega (arith, l, e)) .1, up-new z l m))))
 
 -- ---- no other call tells a slot
 
@@ -118,7 +119,7 @@ make-quiet : (t : Table) (c : ℕ) (call : Call) → (call ≡ Clone → ⊥) �
 unfolding make unshare setns kill exit wait getpid getppid handle poll answers granted refused
 make-quiet t c Clone o p = absurd (o refl)
 make-quiet t c CloneNew o p = absurd (p refl)
-make-quiet t c Unshare o p = choose Quiet (process t c .unshared) (λ a. refl) (λ a. choose Quiet (eqb (own-level (view t) c) deepest) (λ a. refl) (λ a. choose Quiet (namespaces-full (view t)) (λ a. refl) (λ a. refl)))
+make-quiet t c Unshare o p = choose Quiet (elsewhere (view t) c) (λ a. refl) (λ a. choose Quiet (eqb (own-level (view t) c) deepest) (λ a. refl) (λ a. choose Quiet (namespaces-full (view t)) (λ a. refl) (λ a. refl)))
 make-quiet t c (Setns n) o p = choose Quiet (eqb (named (view t) c n) process-slots or view t .ended (named (view t) c n)) (λ a. refl) (λ a. refl)
 make-quiet t c (Kill n s) o p = choose Quiet (not (within 0 signals s)) (λ a. refl) (λ a. choose Quiet (names-group n) (λ a. refl) (λ a. choose Quiet (eqb (length (targets (view t) c n)) 0) (λ a. refl) (λ a. refl)))
 make-quiet t c (Exit s) o p = choose Quiet (eqb c 0) (λ a. refl) (λ a. refl)

@@ -129,7 +129,6 @@ module _ (t : Table) (s : Sane t) (p : ℕ) (e : End) (here : Taken (view t) p) 
         ended = λ i. two (λ x. is-ended (x .state)) (eqb i p) (child-of v p i) (process t i) refl j;
         handled = λ i. two (λ x. x .handled) (eqb i p) (child-of v p i) (process t i) refl j;
         pending = λ i. two (λ x. x .pending) (eqb i p) (child-of v p i) (process t i) refl j;
-        unshared = λ i. two (λ x. x .unshared) (eqb i p) (child-of v p i) (process t i) refl j;
         pid = λ i l. none-of (λ x. pid-at x l) (eqb i p) (child-of v p i) (process t i) refl refl j;
         up = v .up;
         level = v .level;
@@ -178,7 +177,7 @@ module _ (t : Table) (s : Sane t) (p : ℕ) (e : End) (here : Taken (view t) p) 
       let low = f .in-namespace n (f .members p here .0 .0) in
       isnt-so (λ b. omega (arith, low, shallow-below v m n (no-level v f m (λ s. omega (arith, f .in-namespace m s))) b))
 
-  bare : (i : ℕ) → So (seen v n i) → So (v .ended i) → (((v .children i ≡ no-slot) × (v .handled i ≡ 0)) × (v .pending i ≡ 0)) × (So (v .unshared i) → ⊥)
+  bare : (i : ℕ) → So (seen v n i) → So (v .ended i) → ((v .children i ≡ no-slot) × (v .handled i ≡ 0)) × (v .pending i ≡ 0)
   bare i s d = f .ended-bare i (seen-taken v n i s) d
 
   -- what is read then
@@ -188,13 +187,12 @@ module _ (t : Table) (s : Sane t) (p : ℕ) (e : End) (here : Taken (view t) p) 
       view-changed t (init-ends v p e) (namespace-dies v n) g subtree-out (λ m l. rw (namespace-out m l))
       ∙ (λ j. record {
         own = λ i. plain e (process t i) (λ x. x .own .0) (seen v n i) (seen v n (v .parent i)) (eqb i p) (v .ended i) (λ x. refl) j;
-        children = λ i. cleared e (process t i) (λ x. x .children .0) no-slot (seen v n i) (seen v n (v .parent i)) (eqb i p) (v .ended i) (λ x. refl) (λ s d. bare i s d .0 .0 .0) j;
+        children = λ i. cleared e (process t i) (λ x. x .children .0) no-slot (seen v n i) (seen v n (v .parent i)) (eqb i p) (v .ended i) (λ x. refl) (λ s d. bare i s d .0 .0) j;
         parent = λ i. plain e (process t i) (λ x. x .parent .0) (seen v n i) (seen v n (v .parent i)) (eqb i p) (v .ended i) (λ x. refl) j;
         state = λ i. stated e (process t i) (seen v n i) (seen v n (v .parent i)) (eqb i p) (v .ended i) j;
         ended = λ i. cleared e (process t i) (λ x. is-ended (x .state)) true (seen v n i) (seen v n (v .parent i)) (eqb i p) (v .ended i) (λ x. refl) (λ s d. d) j;
-        handled = λ i. cleared e (process t i) (λ x. x .handled) 0 (seen v n i) (seen v n (v .parent i)) (eqb i p) (v .ended i) (λ x. refl) (λ s d. bare i s d .0 .0 .1) j;
-        pending = λ i. cleared e (process t i) (λ x. x .pending) 0 (seen v n i) (seen v n (v .parent i)) (eqb i p) (v .ended i) (λ x. refl) (λ s d. bare i s d .0 .1) j;
-        unshared = λ i. cleared e (process t i) (λ x. x .unshared) false (seen v n i) (seen v n (v .parent i)) (eqb i p) (v .ended i) (λ x. refl) (λ s d. isnt-so (bare i s d .1)) j;
+        handled = λ i. cleared e (process t i) (λ x. x .handled) 0 (seen v n i) (seen v n (v .parent i)) (eqb i p) (v .ended i) (λ x. refl) (λ s d. bare i s d .0 .1) j;
+        pending = λ i. cleared e (process t i) (λ x. x .pending) 0 (seen v n i) (seen v n (v .parent i)) (eqb i p) (v .ended i) (λ x. refl) (λ s d. bare i s d .1) j;
         pid = λ i l. (plain e (process t i) (λ x. pid-at x l) (seen v n i) (seen v n (v .parent i)) (eqb i p) (v .ended i) (λ x. refl) ∙ ap (λ z. if seen v n i and seen v n (v .parent i) then z else v .pid i l) (ap (λ x. x .0) (getD-replicate no-pid levels l))) j;
         up = λ m. dying (λ s. s .parent .0) (below v m n) (namespace t m) refl j;
         level = λ m. dying (λ s. s .level) (below v m n) (namespace t m) refl j;

@@ -67,8 +67,8 @@ end-shrinks t s p e l o ok = subst (Shrinks (view t)) (sym (end-view t s p e (li
 pub change-shrinks : (t u : Table) → Sane t → Change t u → Shrinks (view t) (view u)
 unfolding taken
 change-shrinks t u s (ends p e l o ok) = end-shrinks t s p e l o ok
-change-shrinks t u s (signals-of c l x o k h q ok a b) = subst (Shrinks (view t)) (sym (lights-view t s c l x o h q (view t .children c) (view t .unshared c))) (λ j y. (y, refl))
-change-shrinks t u s (turns c m mark l k) = subst (Shrinks (view t)) (sym (lights-view t s c l (view t .state c) (isnt-so (not-ended (view t) c l)) (view t .handled c) (view t .pending c) m mark)) (λ j y. (y, refl))
+change-shrinks t u s (signals-of c l x o k h q ok a b) = subst (Shrinks (view t)) (sym (lights-view t s c l x o h q (view t .children c))) (λ j y. (y, refl))
+change-shrinks t u s (turns c m l k) = subst (Shrinks (view t)) (sym (lights-view t s c l (view t .state c) (isnt-so (not-ended (view t) c l)) (view t .handled c) (view t .pending c) m)) (λ j y. (y, refl))
 change-shrinks t u s (reaps d o) = subst (Shrinks (view t)) (sym (reaped-view t s d o)) (without-shrinks (view t) d)
 change-shrinks t u s (makes-namespace c l a b) = subst (Shrinks (view t)) (sym (new-namespace-view t (s .shape-of) c (K.free-namespace-is (view t) b .0))) (λ j y. (y, refl))
 
@@ -149,7 +149,7 @@ change-stays : (t u : Table) → Sane t → Change t u → Stay (view t) (view u
 unfolding namespace-taken
 change-stays t u s (ends p e l o ok) = end-stays t s p e l
 change-stays t u s (signals-of c l x o k h q ok a b) = λ m h. (h, (refl, refl, λ o. inl refl))
-change-stays t u s (turns c m mark l k) = λ m h. (h, (refl, refl, λ o. inl refl))
+change-stays t u s (turns c m l k) = λ m h. (h, (refl, refl, λ o. inl refl))
 change-stays t u s (reaps d o) = λ m h. (h, (refl, refl, λ o. inl refl))
 change-stays t u s (makes-namespace c l a b) = new-stays t s c b
 

@@ -36,7 +36,6 @@ subtree-gone v n p e =
       ended = λ i. if gone v n i then false else (if seen v n i then true else v .ended i);
       handled = λ i. if gone v n i then 0 else (if seen v n i then 0 else v .handled i);
       pending = λ i. if gone v n i then 0 else (if seen v n i then 0 else v .pending i);
-      unshared = λ i. if gone v n i then false else (if seen v n i then false else v .unshared i);
       pid = λ i l. if gone v n i then 0 else v .pid i l;
       up = v .up;
       level = v .level;
@@ -148,7 +147,7 @@ module _ (v : View) (f : Facts v) (p : ℕ) (e : End) (lives : Lives v p) (its-i
   unfolding zero-process
   empty-w i o =
       ⊎-elim
-      (λ (g : So (gone v n i)). rw g (both _ _ (both _ _ (both _ _ (both _ _ (both _ _ (both _ _ (both _ _ refl refl) refl) refl) refl) refl) refl) (all-intro levels (λ k. eqb 0 0) (λ l h. refl))))
+      (λ (g : So (gone v n i)). rw g (both _ _ (both _ _ (both _ _ (both _ _ (both _ _ (both _ _ refl refl) refl) refl) refl) refl) (all-intro levels (λ k. eqb 0 0) (λ l h. refl))))
       (λ (g : gone v n i ≡ false). let x : Taken v i → ⊥ = (λ t. o (is-taken i g t)) in let s : seen v n i ≡ false = isnt-so (λ s. x (seen-taken v n i s)) in rw (g, s) (f .empty-process i x))
       (yes-or-no (gone v n i))
 
@@ -166,8 +165,8 @@ module _ (v : View) (f : Facts v) (p : ℕ) (e : End) (lives : Lives v p) (its-i
   ended-w i t (inl b) = rw (is-seen v n i t b)
   ended-w i t (inr d) = ⊎-elim (λ s. rw s) (λ o. rw o d) (yes-or-no (seen v n i))
 
-  bare-w : (i : ℕ) → Taken v i → So (if seen v n i then true else v .ended i) → ((((if seen v n i then no-slot else v .children i) ≡ no-slot) × ((if seen v n i then 0 else v .handled i) ≡ 0)) × ((if seen v n i then 0 else v .pending i) ≡ 0)) × (So (if seen v n i then false else v .unshared i) → ⊥)
-  bare-w i t = ⊎-elim (λ s. rw s (λ h. (((refl, refl), refl), λ z. false≢true z))) (λ o. rw o (f .ended-bare i t)) (yes-or-no (seen v n i))
+  bare-w : (i : ℕ) → Taken v i → So (if seen v n i then true else v .ended i) → (((if seen v n i then no-slot else v .children i) ≡ no-slot) × ((if seen v n i then 0 else v .handled i) ≡ 0)) × ((if seen v n i then 0 else v .pending i) ≡ 0)
+  bare-w i t = ⊎-elim (λ s. rw s (λ h. ((refl, refl), refl))) (λ o. rw o (f .ended-bare i t)) (yes-or-no (seen v n i))
 
   ended-as : (a b c : Bool) (i : ℕ) (d : Bool) → v .ended i ≡ d → (if a then false else (if b then true else v .ended i)) ≡ is-ended (if a then Running else (if b then (if c then Ended e else (if d then v .state i else Ended (Signaled 9))) else v .state i))
   ended-as true b c i d h = refl

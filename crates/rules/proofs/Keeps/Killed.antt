@@ -60,7 +60,7 @@ targets-distinct v f c here (negsuc n) =
 -- an empty slot names the root init
 empty-parent : (u : Table) → Facts (view u) → (i : ℕ) → (Taken (view u) i → ⊥) → view u .parent i ≡ 0
 unfolding zero-process
-empty-parent u f i o = (simp tests at (f .empty-process i o)) .0 .0 .0 .0 .0 .1
+empty-parent u f i o = (simp tests at (f .empty-process i o)) .0 .0 .0 .0 .1
 
 module _ (t : Table) (c : ℕ) (h : SoundTable t) (r : So (runs (view t) c)) (n s : ℤ) (low : natural s < signals) where
   abbrev v : View

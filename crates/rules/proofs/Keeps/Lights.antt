@@ -1,7 +1,7 @@
--- Another state, not ended, other signals, another children's namespace and mark of one living process keep all facts
--- but those that freeing restores.
+-- Another state, not ended, other signals or another children's namespace of one living process keep all facts but those
+-- that freeing restores.
 use Prim.Native.Nat.{ℕ}
-use mathlib.Core.Bool.{So, false, Bool}
+use mathlib.Core.Bool.{So, false}
 use mathlib.Core.Logic.{⊎-elim, _⊎_, inl, inr}
 use mathlib.Core.Path.{sym, subst, _≡_, ap, _∙_, refl}
 use borrow.Author.Tests.{eq-eqb, ne-eqb}
@@ -15,8 +15,8 @@ use Rattle.table.specs.Tests.{if_then_else_}
 use Rattle.table.specs.declared.State.{State}
 
 -- the view with these of the process at c
-abbrev pub with-lights : View → ℕ → State → ℕ → ℕ → ℕ → Bool → View
-with-lights v c s h q m u =
+abbrev pub with-lights : View → ℕ → State → ℕ → ℕ → ℕ → View
+with-lights v c s h q m =
     record {
       own = v .own;
       children = λ i. if eqb i c then m else v .children i;
@@ -25,7 +25,6 @@ with-lights v c s h q m u =
       ended = v .ended;
       handled = λ i. if eqb i c then h else v .handled i;
       pending = λ i. if eqb i c then q else v .pending i;
-      unshared = λ i. if eqb i c then u else v .unshared i;
       pid = v .pid;
       up = v .up;
       level = v .level;
@@ -46,9 +45,9 @@ holds-still v f c l =
     let (s, b) = f .children c t l in
     record { here = s; below = b; alone = λ u. (f .unborn-own _ s u c t refl, λ i k e. f .unborn-one _ s u i c k e t refl) }
 
-module _ (v : View) (f : Facts v) (c : ℕ) (s : State) (h q m : ℕ) (mark : Bool) (c-lives : Lives v c) (runs : is-ended s ≡ false) (ok : So (kept-end s)) (fine : SignalsOk h q) (hold : MayHold v c m) where
+module _ (v : View) (f : Facts v) (c : ℕ) (s : State) (h q m : ℕ) (c-lives : Lives v c) (runs : is-ended s ≡ false) (ok : So (kept-end s)) (fine : SignalsOk h q) (hold : MayHold v c m) where
   abbrev w : View
-  w = with-lights v c s h q m mark
+  w = with-lights v c s h q m
 
   -- who holds an unborn one holds it as before, or is c
   holder-w : (n i : ℕ) → w .children i ≡ n → ((i ≡ c) × (m ≡ n)) ⊎ (v .children i ≡ n)

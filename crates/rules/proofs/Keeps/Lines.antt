@@ -16,9 +16,9 @@ use Rattle.rules.proofs.Laws.Find.{Lowest, lowest-is, named-seen, find-
 use Rattle.rules.proofs.Laws.Steps.{runs-lives}
 use Rattle.rules.proofs.Laws.Tests.{isnt-so, no-so, left, right, both, isnt-not, not-iff, or-iff, cases, or-left, or-right, any-elim, any-intro, all-elim, all-intro, choose}
 use Rattle.rules.specs.Answers.{refused, granted, answers}
-use Rattle.rules.specs.Calls.{clone, clone-new, exit, first-ended, getpid, getppid, handle, kill, named, names-group, own-level, poll, reap, setns, targets, unshare, wait, within, processes-full, namespaces-full}
-use Rattle.rules.specs.Claims.{AnswersListed, given-if, line, lines, not-running, place, numbered, meant}
-use Rattle.table.specs.Limits.{namespace-slots, process-slots, signals}
+use Rattle.rules.specs.Calls.{clone, clone-new, elsewhere, exit, first-ended, getpid, getppid, handle, kill, named, names-group, own-level, poll, reap, setns, targets, unshare, wait, within, processes-full, namespaces-full}
+use Rattle.rules.specs.Claims.{AnswersListed, given-if, line, lines, making-lines, not-running, place, numbered, meant}
+use Rattle.table.specs.Limits.{deepest, namespace-slots, process-slots, signals}
 use Rattle.rules.specs.Pids.{free-namespace-slot, free-slot}
 use Rattle.table.specs.Slots.{is-running, process}
 use Rattle.rules.specs.Read.{View, child-of, dead, namespace-taken, taken, view}
@@ -192,9 +192,13 @@ reap-none t c i Running = refl
 reap-none t c i Stopped = refl
 reap-none t c i (Ended e) = refl
 
+-- lines after the first two, which don't hold
+abbrev after-two : (Refusal → Bool) → Refusal → Bool
+after-two f = given-if Unsound false (given-if NotRunning false f)
+
 -- the lines from -22 on
 abbrev later : View → ℕ → Call → Refusal → Bool
-later v c call = given-if Unsound false (given-if NotRunning false (lines v c call))
+later v c call = after-two (lines v c call)
 
 module _ (t : Table) (c : ℕ) (h : SoundTable t) (r : So (runs (view t) c)) where
   abbrev v : View
@@ -217,6 +221,19 @@ module _ (t : Table) (c : ℕ) (h : SoundTable t) (r : So (runs (view t) c)) whe
   abbrev both-full : Bool
   both-full = all process-slots (taken v) or all namespace-slots (namespace-taken v)
 
+  -- a call that makes a namespace, and gives o where nothing refuses it; x is its test of the room, y the line's
+  making-first : (x y : Bool) (o : Outcome) → x ≡ y → given o ≡ 10 → given (if elsewhere v c then refused t Einval else (if eqb (own-level v c) deepest then refused t Enospc else (if x then refused t Eagain else o))) ≡ first (after-two (making-lines v c y))
+  unfolding refused place-of place first lowest refusal-at
+  making-first x y o e g =
+      choose Is (elsewhere v c) (λ a. hit (elsewhere v c) 2 _ a) (λ a.
+      choose Is (eqb (own-level v c) deepest) (λ b. past (elsewhere v c) 2 _ _ a (hit (eqb (own-level v c) deepest) 7 _ b)) (λ b.
+      choose Is x
+      (λ d. past (elsewhere v c) 2 _ _ a (past (eqb (own-level v c) deepest) 7 _ _ b (hit y 9 _ (sym e ∙ d))))
+      (λ d. past (elsewhere v c) 2 _ _ a (past (eqb (own-level v c) deepest) 7 _ _ b (past y 9 _ _ (sym e ∙ d) g)))))
+    where
+      Is : Outcome → Type 0
+      Is o = given o ≡ first (after-two (making-lines v c y))
+
   abbrev Is : Call → Outcome → Type 0
   Is call o = given o ≡ first (later v c call)
 
@@ -227,17 +244,8 @@ module _ (t : Table) (c : ℕ) (h : SoundTable t) (r : So (runs (view t) c)) whe
       choose (Is Clone) (processes-full v)
       (λ b. past (dead v (v .children c)) 8 _ _ a (hit (all process-slots (taken v)) 9 _ (sym processes ∙ b)))
       (λ b. past (dead v (v .children c)) 8 _ _ a (past (all process-slots (taken v)) 9 _ _ (sym processes ∙ b) refl)))
-  make-first CloneNew =
-      choose (Is CloneNew) (eqb (own-level v c) 7) (λ a. hit (eqb (own-level v c) 7) 7 _ a) (λ a.
-      choose (Is CloneNew) (processes-full v or namespaces-full v)
-      (λ b. past (eqb (own-level v c) 7) 7 _ _ a (hit both-full 9 _ (sym (ap₂ _or_ processes namespaces) ∙ b)))
-      (λ b. past (eqb (own-level v c) 7) 7 _ _ a (past both-full 9 _ _ (sym (ap₂ _or_ processes namespaces) ∙ b) refl)))
-  make-first Unshare =
-      choose (Is Unshare) (v .unshared c) (λ a. hit (v .unshared c) 2 _ a) (λ a.
-      choose (Is Unshare) (eqb (own-level v c) 7) (λ b. past (v .unshared c) 2 _ _ a (hit (eqb (own-level v c) 7) 7 _ b)) (λ b.
-      choose (Is Unshare) (namespaces-full v)
-      (λ d. past (v .unshared c) 2 _ _ a (past (eqb (own-level v c) 7) 7 _ _ b (hit (all namespace-slots (namespace-taken v)) 9 _ (sym namespaces ∙ d))))
-      (λ d. past (v .unshared c) 2 _ _ a (past (eqb (own-level v c) 7) 7 _ _ b (past (all namespace-slots (namespace-taken v)) 9 _ _ (sym namespaces ∙ d) refl)))))
+  make-first CloneNew = making-first (processes-full v or namespaces-full v) both-full _ (ap₂ _or_ processes namespaces) refl
+  make-first Unshare = making-first (namespaces-full v) (all namespace-slots (namespace-taken v)) _ namespaces refl
   make-first (Setns n) =
       let e = named-numbered v f c here n in
       choose (Is (Setns n)) (eqb (named v c n) process-slots or v .ended (named v c n)) (λ a. hit (lines v c (Setns n) Esrch) 4 _ (sym e ∙ a)) (λ a. past (lines v c (Setns n) Esrch) 4 _ _ (sym e ∙ a) refl)

@@ -33,7 +33,6 @@ member-gone v p q e =
       ended = λ i. if eqb i p then true else v .ended i;
       handled = λ i. if eqb i p then 0 else v .handled i;
       pending = λ i. if eqb i p then 0 else v .pending i;
-      unshared = λ i. if eqb i p then false else v .unshared i;
       pid = v .pid;
       up = v .up;
       level = v .level;
@@ -200,7 +199,7 @@ module _ (v : View) (f : Facts v) (p : ℕ) (e : End) (lives : Lives v p) (no-in
         first-parents = λ i t o x. parent-own i t ∙ f .first-parents i t o x;
         children = λ i t h. let (a, o) = lives-w i h in subst (λ m. Stands v m × Below v m (v .own i)) (sym (same-child i o)) (f .children i t a);
         signal-sets = λ i t. ⊎-elim (λ x. rw (eq-eqb i p x) no-signals) (λ o. rw (ne-eqb i p o) (f .signal-sets i t)) (is i);
-        ended-bare = λ i t. ⊎-elim (λ x. rw (eq-eqb i p x) (λ h. (((refl, refl), refl), λ z. false≢true z))) (λ o. rw (ne-eqb i p o) (f .ended-bare i t)) (is i);
+        ended-bare = λ i t. ⊎-elim (λ x. rw (eq-eqb i p x) (λ h. ((refl, refl), refl))) (λ o. rw (ne-eqb i p o) (f .ended-bare i t)) (is i);
         ends-kept = λ i t. ⊎-elim (λ x. rw (eq-eqb i p x) ok) (λ o. rw (ne-eqb i p o) (f .ends-kept i t)) (is i);
       }
     where

@@ -28,7 +28,6 @@ with-namespace v a j =
       ended = v .ended;
       handled = v .handled;
       pending = v .pending;
-      unshared = v .unshared;
       pid = v .pid;
       up = λ m. if eqb m j then a else v .up m;
       level = λ m. if eqb m j then suc (v .level a) else v .level m;

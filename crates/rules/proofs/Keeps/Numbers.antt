@@ -61,8 +61,8 @@ end-leaves t s p e l o ok = subst (Leave (view t)) (sym (end-view t s p e (lives
 change-leaves : (t u : Table) → Sane t → Change t u → Leave (view t) (view u)
 unfolding taken
 change-leaves t u s (ends p e l o ok) = end-leaves t s p e l o ok
-change-leaves t u s (signals-of c l x o k h q ok a b) = subst (Leave (view t)) (sym (lights-view t s c l x o h q (view t .children c) (view t .unshared c))) (λ j y. (y, λ l. refl))
-change-leaves t u s (turns c m mark l k) = subst (Leave (view t)) (sym (lights-view t s c l (view t .state c) (isnt-so (not-ended (view t) c l)) (view t .handled c) (view t .pending c) m mark)) (λ j y. (y, λ l. refl))
+change-leaves t u s (signals-of c l x o k h q ok a b) = subst (Leave (view t)) (sym (lights-view t s c l x o h q (view t .children c))) (λ j y. (y, λ l. refl))
+change-leaves t u s (turns c m l k) = subst (Leave (view t)) (sym (lights-view t s c l (view t .state c) (isnt-so (not-ended (view t) c l)) (view t .handled c) (view t .pending c) m)) (λ j y. (y, λ l. refl))
 change-leaves t u s (reaps d o) = subst (Leave (view t)) (sym (reaped-view t s d o)) (without-leaves (view t) d)
 change-leaves t u s (makes-namespace c l a b) = subst (Leave (view t)) (sym (new-namespace-view t (s .shape-of) c (K.free-namespace-is (view t) b .0))) (λ j y. (y, λ l. refl))
 

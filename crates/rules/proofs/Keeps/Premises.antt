@@ -68,7 +68,7 @@ signalled-sound t c h lives a b la lb ok =
     let o = isnt-so (not-ended (view t) c lives) in
     let k = facts t h .ends-kept c (lives-taken (view t) c lives) in
     let s = signalled-sane t (sane t h) c lives (view t .state c) o a b k ok la lb in
-    sound-from _ (s .shape-of) (s .facts) (subst Held (sym (lights-view t (sane t h) c lives (view t .state c) o a b (view t .children c) (view t .unshared c))) (lights-held (view t) (facts t h) c (view t .state c) a b (view t .children c) (view t .unshared c) lives o k ok (holds-still (view t) (facts t h) c lives) refl (held-in t h)))
+    sound-from _ (s .shape-of) (s .facts) (subst Held (sym (lights-view t (sane t h) c lives (view t .state c) o a b (view t .children c))) (lights-held (view t) (facts t h) c (view t .state c) a b (view t .children c) lives o k ok (holds-still (view t) (facts t h) c lives) refl (held-in t h)))
 
 module _ (t : Table) (c : ℕ) (h : SoundTable t) (r : So (runs (view t) c)) where
   abbrev v : View

@@ -2,7 +2,7 @@
 use Prim.Native.Nat.{ℕ, suc, _<_, _^_}
 use native.Mathlib.Decide.{decLt}
 use native.Mathlib.Omega.{arith}
-use mathlib.Core.Bool.{Bool, false, So, false≢true}
+use mathlib.Core.Bool.{false, So, false≢true}
 use mathlib.Core.Path.{_≡_, refl, sym, _∙_, ap, subst}
 use borrow.Author.Tests.{lt-ltb, ltb-true}
 use lib.Dec.{eqb}
@@ -28,20 +28,20 @@ use Rattle.table.specs.declared.Process.{Process}
 use Rattle.table.specs.declared.State.{State}
 use Rattle.table.specs.declared.Table.{Table}
 
--- ---- one process's state, signals, children's namespace and mark
+-- ---- one process's state, signals and children's namespace
 
-abbrev pub with-all : Process → State → ℕ → ℕ → ℕ → Bool → Process
-with-all p s h q m u = record { own = p .own; children = record { 0 = m }; parent = p .parent; state = s; handled = h; pending = q; unshared = u; pids = p .pids }
+abbrev pub with-all : Process → State → ℕ → ℕ → ℕ → Process
+with-all p s h q m = record { own = p .own; children = record { 0 = m }; parent = p .parent; state = s; handled = h; pending = q; pids = p .pids }
 
-module _ (t : Table) (sane : Sane t) (c : ℕ) (c-lives : Lives (view t) c) (s : State) (runs : is-ended s ≡ false) (h q m : ℕ) (mark : Bool) where
+module _ (t : Table) (sane : Sane t) (c : ℕ) (c-lives : Lives (view t) c) (s : State) (runs : is-ended s ≡ false) (h q m : ℕ) where
   abbrev y : Process
-  y = with-all (process t c) s h q m mark
+  y = with-all (process t c) s h q m
 
   low-c : c < process-slots
   low-c = sane .facts .in-range c (lives-taken (view t) c c-lives)
 
   -- what is read then
-  pub lights-view : view (put t c y) ≡ with-lights (view t) c s h q m mark
+  pub lights-view : view (put t c y) ≡ with-lights (view t) c s h q m
   lights-view =
       view-put t (sane .shape-of) c y low-c
       ∙ (λ j. record {
@@ -52,7 +52,6 @@ module _ (t : Table) (sane : Sane t) (c : ℕ) (c-lives : Lives (view t) c) (s :
         ended = λ i. pick-same t (sane .shape-of) c (λ p. is-ended (p .state)) y (runs ∙ sym (isnt-so (not-ended (view t) c c-lives))) i j;
         handled = λ i. pick (λ p. p .handled) (eqb i c) y (process t i) j;
         pending = λ i. pick (λ p. p .pending) (eqb i c) y (process t i) j;
-        unshared = λ i. pick (λ p. p .unshared) (eqb i c) y (process t i) j;
         pid = λ i l. pick-same t (sane .shape-of) c (λ p. pid-at p l) y refl i j;
         up = view t .up;
         level = view t .level;
@@ -64,7 +63,7 @@ module _ (t : Table) (sane : Sane t) (c : ℕ) (c-lives : Lives (view t) c) (s :
   lights-sane a b d e hold =
       record {
         shape-of = shaped-put t (sane .shape-of) c y low-c (both _ _ (both _ _ (left _ _ (left _ _ (shape-at t (sane .shape-of) c low-c))) (lt-ltb h (2 ^ signals) d)) (lt-ltb q (2 ^ signals) e));
-        facts = subst Facts (sym lights-view) (lights-facts (view t) (sane .facts) c s h q m mark c-lives runs a b hold);
+        facts = subst Facts (sym lights-view) (lights-facts (view t) (sane .facts) c s h q m c-lives runs a b hold);
       }
 
 -- the sets of signals of a living process
@@ -75,13 +74,13 @@ sets t s i l =
     (ltb-true _ _ (right _ _ (left _ _ g)), ltb-true _ _ (right _ _ g), s .facts .signal-sets i x)
 
 -- other signals and another state, and another children's namespace
-pub signalled-sane : (t : Table) (s : Sane t) (c : ℕ) → Lives (view t) c → (x : State) → is-ended x ≡ false → (h q : ℕ) → So (kept-end x) → SignalsOk h q → h < 2 ^ signals → q < 2 ^ signals → Sane (put t c (with-all (process t c) x h q (view t .children c) (view t .unshared c)))
-signalled-sane t s c l x o h q k ok a b = lights-sane t s c l x o h q (view t .children c) (view t .unshared c) k ok a b (holds-still (view t) (s .facts) c l)
+pub signalled-sane : (t : Table) (s : Sane t) (c : ℕ) → Lives (view t) c → (x : State) → is-ended x ≡ false → (h q : ℕ) → So (kept-end x) → SignalsOk h q → h < 2 ^ signals → q < 2 ^ signals → Sane (put t c (with-all (process t c) x h q (view t .children c)))
+signalled-sane t s c l x o h q k ok a b = lights-sane t s c l x o h q (view t .children c) k ok a b (holds-still (view t) (s .facts) c l)
 
-pub set-children-sane : (t : Table) (s : Sane t) (c m : ℕ) (mark : Bool) → Lives (view t) c → MayHold (view t) c m → Sane (put t c (with-children (process t c) m mark))
-set-children-sane t s c m mark l hold =
+pub set-children-sane : (t : Table) (s : Sane t) (c m : ℕ) → Lives (view t) c → MayHold (view t) c m → Sane (put t c (with-children (process t c) m))
+set-children-sane t s c m l hold =
     let (a, b, ok) = sets t s c l in
-    lights-sane t s c l (view t .state c) (isnt-so (not-ended (view t) c l)) (view t .handled c) (view t .pending c) m mark (s .facts .ends-kept c (lives-taken (view t) c l)) ok a b hold
+    lights-sane t s c l (view t .state c) (isnt-so (not-ended (view t) c l)) (view t .handled c) (view t .pending c) m (s .facts .ends-kept c (lives-taken (view t) c l)) ok a b hold
 
 -- ---- removal
 
@@ -108,7 +107,6 @@ module _ (t : Table) (sane : Sane t) (d : ℕ) (over : So (view t .ended d)) whe
         ended = λ i. pick (λ p. is-ended (p .state)) (eqb i d) empty-process (process t i) j;
         handled = λ i. pick (λ p. p .handled) (eqb i d) empty-process (process t i) j;
         pending = λ i. pick (λ p. p .pending) (eqb i d) empty-process (process t i) j;
-        unshared = λ i. pick (λ p. p .unshared) (eqb i d) empty-process (process t i) j;
         pid = λ i l. (pick (λ p. pid-at p l) (eqb i d) empty-process (process t i) ∙ ap (λ z. if eqb i d then z else view t .pid i l) (ap (λ p. p .0) (getD-replicate no-pid levels l))) j;
         up = view t .up;
         level = view t .level;
@@ -141,7 +139,6 @@ module _ (t : Table) (g : So (shaped t)) (c : ℕ) (low : free-namespace-slot (v
         ended = view t .ended;
         handled = view t .handled;
         pending = view t .pending;
-        unshared = view t .unshared;
         pid = view t .pid;
         up = λ m. pick (λ s. s .parent .0) (eqb m j) z (namespace t m) r;
         level = λ m. pick (λ s. s .level) (eqb m j) z (namespace t m) r;

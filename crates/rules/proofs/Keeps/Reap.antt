@@ -27,7 +27,6 @@ without v d =
       ended = λ i. if eqb i d then false else v .ended i;
       handled = λ i. if eqb i d then 0 else v .handled i;
       pending = λ i. if eqb i d then 0 else v .pending i;
-      unshared = λ i. if eqb i d then false else v .unshared i;
       pid = λ i l. if eqb i d then 0 else v .pid i l;
       up = v .up;
       level = v .level;
@@ -78,7 +77,7 @@ module _ (v : View) (f : Facts v) (d : ℕ) (over : So (v .ended d)) where
   unfolding zero-process taken
   empty-w i o =
       ⊎-elim
-      (λ x. rw (eq-eqb i d x) (both _ _ (both _ _ (both _ _ (both _ _ (both _ _ (both _ _ (both _ _ refl refl) refl) refl) refl) refl) refl) (all-intro levels (λ k. eqb 0 0) (λ l h. refl))))
+      (λ x. rw (eq-eqb i d x) (both _ _ (both _ _ (both _ _ (both _ _ (both _ _ (both _ _ refl refl) refl) refl) refl) refl) (all-intro levels (λ k. eqb 0 0) (λ l h. refl))))
       (λ y. rw y (f .empty-process i (λ t. o (rw y t)))) (same-or i d)
 
   above-w : (i : ℕ) → Taken w i → Other i → Below w (w .own i) (w .own (w .parent i))

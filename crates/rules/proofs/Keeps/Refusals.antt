@@ -6,7 +6,7 @@ use lib.Dec.{eqb}
 use lib.ListN.{length}
 use Rattle.rules.proofs.Laws.Tests.{choose}
 use Rattle.rules.specs.Answers.{refused, granted, answers, is-refused}
-use Rattle.rules.specs.Calls.{clone, clone-new, unshare, setns, getpid, getppid, exit, reap, wait, handle, poll, kill, processes-full, namespaces-full, own-level, named, natural, within, first-ended, targets, names-group}
+use Rattle.rules.specs.Calls.{clone, clone-new, elsewhere, unshare, setns, getpid, getppid, exit, reap, wait, handle, poll, kill, processes-full, namespaces-full, own-level, named, natural, within, first-ended, targets, names-group}
 use Rattle.rules.specs.Claims.{RefusalLeaves}
 use Rattle.table.specs.Limits.{no-slot, process-slots, deepest, signals, sigkill, sigstop}
 use Rattle.table.specs.Slots.{process}
@@ -51,8 +51,8 @@ module _ (t : Table) (c : ℕ) where
   make-leaves : (call : Call) → Leaves t (make t c call)
   unfolding make clone clone-new unshare setns kill exit wait getpid getppid handle poll answers granted is-refused
   make-leaves Clone = choose (Leaves t) (dead v (v .children c)) (λ a. refuses t Enomem) (λ a. choose (Leaves t) (processes-full v) (λ a. refuses t Eagain) (λ a. grants t _ refl))
-  make-leaves CloneNew = choose (Leaves t) (eqb (own-level v c) deepest) (λ a. refuses t Enospc) (λ a. choose (Leaves t) (processes-full v or namespaces-full v) (λ a. refuses t Eagain) (λ a. grants t _ refl))
-  make-leaves Unshare = choose (Leaves t) (process t c .unshared) (λ a. refuses t Einval) (λ a. choose (Leaves t) (eqb (own-level v c) deepest) (λ a. refuses t Enospc) (λ a. choose (Leaves t) (namespaces-full v) (λ a. refuses t Eagain) (λ a. grants t _ refl)))
+  make-leaves CloneNew = choose (Leaves t) (elsewhere v c) (λ a. refuses t Einval) (λ a. choose (Leaves t) (eqb (own-level v c) deepest) (λ a. refuses t Enospc) (λ a. choose (Leaves t) (processes-full v or namespaces-full v) (λ a. refuses t Eagain) (λ a. grants t _ refl)))
+  make-leaves Unshare = choose (Leaves t) (elsewhere v c) (λ a. refuses t Einval) (λ a. choose (Leaves t) (eqb (own-level v c) deepest) (λ a. refuses t Enospc) (λ a. choose (Leaves t) (namespaces-full v) (λ a. refuses t Eagain) (λ a. grants t _ refl)))
   make-leaves (Setns n) = choose (Leaves t) (eqb (named v c n) process-slots or v .ended (named v c n)) (λ a. refuses t Esrch) (λ a. grants t _ refl)
   make-leaves (Kill n s) = choose (Leaves t) (not (within 0 signals s)) (λ a. refuses t Einval) (λ a. choose (Leaves t) (names-group n) (λ a. refuses t Enosys) (λ a. choose (Leaves t) (eqb (length (targets v c n)) 0) (λ a. refuses t Esrch) (λ a. grants t _ refl)))
   make-leaves (Exit s) = choose (Leaves t) (eqb c 0) (λ a. refuses t Ebusy) (λ a. grants t _ refl)

@@ -195,7 +195,7 @@ module _ {k from : ℕ} {P : ℕ → Type 0} (t u w : Table) (s : Sane t) (r : S
           let (a, b) = x .kin i (taken-mid i h) in
           let c : is-ended (process u i .state) ≡ false = isnt-so (not-ended (view u) i l) in
           let d : is-ended (process t i .state) ≡ false = isnt-so (not-ended (view t) i (x .lives i l)) in
-          y .ended i h o ∙ rw (c, d) (ap₂ (λ own pids. with-parent (as-ended (record { own = own; children = process t i .children; parent = process t i .parent; state = process t i .state; handled = process t i .handled; pending = process t i .pending; unshared = process t i .unshared; pids = pids }) (Signaled k)) (view w .parent i)) a b)
+          y .ended i h o ∙ rw (c, d) (ap₂ (λ own pids. with-parent (as-ended (record { own = own; children = process t i .children; parent = process t i .parent; state = process t i .state; handled = process t i .handled; pending = process t i .pending; pids = pids }) (Signaled k)) (view w .parent i)) a b)
 
   both-removed : (i : ℕ) → Taken (view t) i → (Taken (view w) i → ⊥) → (m : ℕ) × Fell t w m × Seen (view t) m i × Seen (view t) m (view t .parent i)
   both-removed i h o =

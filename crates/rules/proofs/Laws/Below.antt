@@ -7,7 +7,7 @@ use mathlib.Core.Logic.{_⊎_, inl, inr, ⊎-elim}
 use mathlib.Core.Path.{_≡_, refl, sym, ap, subst}
 use borrow.Author.Tests.{eq-eqb, ne-eqb, eqb-true}
 use lib.Dec.{eqb}
-use Rattle.rules.proofs.Laws.Facts.{Facts, Taken, Stands, Below, Other, lives-or-ended}
+use Rattle.rules.proofs.Laws.Facts.{Facts, Taken, Lives, Stands, Below, Other, lives-or-ended}
 use Rattle.rules.proofs.Laws.Tests.{or-true}
 use Rattle.rules.proofs.Laws.Tree as Tree
 use Rattle.rules.proofs.Laws.Tree.{Stepwise, climb-step, climb-cases}
@@ -69,7 +69,7 @@ module _ (v : View) (p : Facts v) where
   pub below-child : (i n : ℕ) → Taken v i → Stands v n → Below v (v .children i) n → Stands v (v .children i)
   below-child i n t s h =
       ⊎-elim (λ a. p .children i t a .0)
-      (λ e. let q : v .children i ≡ no-slot = p .ended-bare i t e .0 .0 .0 in absurd (omega (arith, p .in-namespace n s, shallow-below v _ n (no-level (v .children i) (λ k. omega (arith, p .in-namespace (v .children i) k))) h)))
+      (λ e. let q : v .children i ≡ no-slot = p .ended-bare i t e .0 .0 in absurd (omega (arith, p .in-namespace n s, shallow-below v _ n (no-level (v .children i) (λ k. omega (arith, p .in-namespace (v .children i) k))) h)))
       (lives-or-ended v i t)
 
   -- what lies below has the same level or a greater one
@@ -140,3 +140,11 @@ module _ (v : View) (p : Facts v) where
       go : Dec (n ≡ 0) → v .level n ≤ deepest
       go (yes z) = omega (arith, ap (v .level) z, p .root-level)
       go (no o) = p .tree n s o .1
+
+  -- nothing lies below the deepest level: the children of a living process there are born into its own namespace
+  pub deepest-home : (i : ℕ) → Taken v i → Lives v i → v .level (v .own i) ≡ deepest → v .children i ≡ v .own i
+  deepest-home i t l e =
+      let (s, b) = p .children i t l in
+      ⊎-elim (λ q. q)
+      (λ (m, x, o, u, z). absurd (omega (arith, p .tree m x o .0 .1, ap (v .level) u, level-deepest m x)))
+      (last-step (v .children i) (v .own i) s b)

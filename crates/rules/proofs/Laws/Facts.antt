@@ -79,7 +79,7 @@ pub record Facts (v : View) : Type 0 where
   pub first-parents : (i : ℕ) → Taken v i → Other i → pid-seen v (v .own i) i ≡ 1 → v .own (v .parent i) ≡ v .up (v .own i)
   pub children : (i : ℕ) → Taken v i → Lives v i → Stands v (v .children i) × Below v (v .children i) (v .own i)
   pub signal-sets : (i : ℕ) → Taken v i → SignalsOk (v .handled i) (v .pending i)
-  pub ended-bare : (i : ℕ) → Taken v i → So (v .ended i) → (((v .children i ≡ no-slot) × (v .handled i ≡ 0)) × (v .pending i ≡ 0)) × (So (v .unshared i) → ⊥)
+  pub ended-bare : (i : ℕ) → Taken v i → So (v .ended i) → ((v .children i ≡ no-slot) × (v .handled i ≡ 0)) × (v .pending i ≡ 0)
   pub ends-kept : (i : ℕ) → Taken v i → So (kept-end (v .state i))
 
 -- who holds a namespace
@@ -153,7 +153,7 @@ is-held v p n (child m s o e) = or-iff _ _ .1 (λ z. any-intro _ _ m (p .in-name
 module _ (v : View) (p : Facts v) where
   -- what a process holds for its children is a namespace
   pub child-namespace : (i : ℕ) → Taken v i → v .children i < namespace-slots → Stands v (v .children i)
-  child-namespace i t l = ⊎-elim (λ a. p .children i t a .0) (λ e. let q : v .children i ≡ no-slot = p .ended-bare i t e .0 .0 .0 in absurd (omega arith)) (lives-or-ended v i t)
+  child-namespace i t l = ⊎-elim (λ a. p .children i t a .0) (λ e. let q : v .children i ≡ no-slot = p .ended-bare i t e .0 .0 in absurd (omega arith)) (lives-or-ended v i t)
 
   -- what is held is taken
   pub held-namespace : (n : ℕ) → n < namespace-slots → Holder v n → Stands v n
@@ -211,9 +211,9 @@ past-of t h =
     record {
       ended-is = λ i. refl;
       past = λ i o.
-          subst (λ (p : Process). So (eqb (p .own .0) 0 and eqb (p .children .0) 0 and eqb (p .parent .0) 0 and is-running (p .state) and eqb (p .handled) 0 and eqb (p .pending) 0 and not (p .unshared) and all levels (λ l. eqb (pid-at p l) 0)))
+          subst (λ (p : Process). So (eqb (p .own .0) 0 and eqb (p .children .0) 0 and eqb (p .parent .0) 0 and is-running (p .state) and eqb (p .handled) 0 and eqb (p .pending) 0 and all levels (λ l. eqb (pid-at p l) 0)))
           (sym (List·getD-eq-default (t .processes) no-process (omega (arith, eqb-true (length (t .processes)) process-slots (left _ _ (left _ _ h))))))
-          (both _ _ (both _ _ (both _ _ (both _ _ (both _ _ (both _ _ (both _ _ refl refl) refl) refl) refl) refl) refl) (all-intro levels (λ k. eqb 0 0) (λ l h. refl)));
+          (both _ _ (both _ _ (both _ _ (both _ _ (both _ _ (both _ _ refl refl) refl) refl) refl) refl) (all-intro levels (λ k. eqb 0 0) (λ l h. refl)));
       past-namespaces = λ n o.
           subst (λ (s : Namespace). So (eqb (s .parent .0) 0 and eqb (s .level) 0 and eqb (s .last .0) 0 and is-unborn (s .life)))
           (sym (List·getD-eq-default (t .namespaces) no-namespace (omega (arith, eqb-true (length (t .namespaces)) namespace-slots (right _ _ (left _ _ h))))))

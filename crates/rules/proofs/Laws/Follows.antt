@@ -33,7 +33,7 @@ module _ (v : View) (r : Past v) (u : So (unborn-namespaces v)) (d : So (dead-me
         let q = (simp tests at u) n l s b in
         let (i, m, x) = q .0 .1 in
         let o : v .own i ≡ v .up n = q .1 i m (x .0) in
-        let k : v .children i ≡ no-slot = (simp tests at e) i m (x .0 .0) (ended i (x .0 .0) (subst (λ y. So (dead v y)) (sym o) z)) .0 .0 .0 in
+        let k : v .children i ≡ no-slot = (simp tests at e) i m (x .0 .0) (ended i (x .0 .0) (subst (λ y. So (dead v y)) (sym o) z)) .0 .0 in
         omega (arith, k, x .0 .1)
 
     not-alive : (n : ℕ) → n < namespace-slots → Stands v n → Other n → So (dead v (v .up n)) → So (alive v n) → ⊥

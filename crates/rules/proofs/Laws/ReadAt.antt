@@ -21,7 +21,6 @@ pub record ReadAt (v : View) (i : ℕ) (p : Process) : Type 0 where
   pub ended : is-ended (p .state) ≡ v .ended i
   pub handled : p .handled ≡ v .handled i
   pub pending : p .pending ≡ v .pending i
-  pub unshared : p .unshared ≡ v .unshared i
   pub pid : (l : ℕ) → pid-at p l ≡ v .pid i l
   pub taken : not (eqb (pid-at p 0) 0) ≡ taken v i
 
@@ -50,7 +49,6 @@ read-at t i p e =
       ended = ap (λ q. is-ended (q .state)) e ∙ alike (λ q. is-ended (q .state)) refl (t .processes) i;
       handled = ap (λ q. q .handled) e ∙ alike (λ q. q .handled) refl (t .processes) i;
       pending = ap (λ q. q .pending) e ∙ alike (λ q. q .pending) refl (t .processes) i;
-      unshared = ap (λ q. q .unshared) e ∙ alike (λ q. q .unshared) refl (t .processes) i;
       pid = pid;
       taken = ap (λ k. not (eqb k 0)) (pid 0);
     }

@@ -218,7 +218,7 @@ module _ (v : View) (f : Facts v) where
 
 -- a process holds a namespace for its children, or none
 pub children-of : (v : View) (f : Facts v) (i : ℕ) → So (taken v i) → So (namespace-taken v (v .children i)) ⊎ (v .children i ≡ no-slot)
-children-of v f i h = ⊎-elim (λ l. inl (f .children i h l .0)) (λ e. inr (f .ended-bare i h e .0 .0 .0)) (lives-or-ended v i h)
+children-of v f i h = ⊎-elim (λ l. inl (f .children i h l .0)) (λ e. inr (f .ended-bare i h e .0 .0)) (lives-or-ended v i h)
 
 -- who sees a parent sees the child
 pub child-seen : (v : View) (f : Facts v) (n i : ℕ) → So (taken v i) → So (seen v n (v .parent i)) → So (seen v n i)
