@@ -5,8 +5,9 @@
  *
  * For all of them: a pointer is not null, also where its length is 0, and is aligned for its type; an array has at
  * least as many elements as its length says. Nothing is read or written beyond that, nothing is kept after the call,
- * and nothing is allocated. Each may be called from several threads at once. lampfunnel_run took 138 kB of stack where
- * the end of a namespace took seven levels down: give a thread 256 kB or more.
+ * and nothing is allocated. Each may be called from several threads at once, and each thread should have
+ * LAMPFUNNEL_STACK_BYTES of stack: lampfunnel_run took 874,376 bytes where a namespace on level 1 ended with a chain of
+ * namespaces to level 32 below it.
  */
 #ifndef LAMPFUNNEL_H
 #define LAMPFUNNEL_H
@@ -24,8 +25,16 @@ extern "C" {
 /* What lampfunnel_run answers where the buffer is too short. */
 #define LAMPFUNNEL_SHORT SIZE_MAX
 
-/* The words of a table: 15 for each of 64 process slots, then 5 for each of 32 namespace slots. */
-#define LAMPFUNNEL_TABLE_WORDS ((size_t)(64 * 15 + 32 * 5))
+/* A table has so many process slots and namespace slots, and a process a number for each level from the root's on. */
+#define LAMPFUNNEL_PROCESSES 64
+#define LAMPFUNNEL_NAMESPACES 48
+#define LAMPFUNNEL_LEVELS 33
+
+/* Bytes of stack that are enough for each function. */
+#define LAMPFUNNEL_STACK_BYTES ((size_t)1 << 20)
+
+/* The words of a table: 7 and the numbers for each process slot, then 5 for each namespace slot. */
+#define LAMPFUNNEL_TABLE_WORDS ((size_t)(LAMPFUNNEL_PROCESSES * (7 + LAMPFUNNEL_LEVELS) + LAMPFUNNEL_NAMESPACES * 5))
 
 /*
  * Runs a whole script from the fresh table, the root init alone at slot 0. Each line gives one line of answer; the
@@ -41,8 +50,8 @@ size_t lampfunnel_run(const uint8_t *script, size_t script_len, uint8_t *out, si
  * Whether words are a sound table: 1 or 0; 2 where they are not LAMPFUNNEL_TABLE_WORDS.
  *
  * A process: own and children's namespace, parent, state (0 running, 1 stopped, 2 ended with a number, 3 by a
- * signal), that number or signal, handled and pending signals (bit s for signal s), and eight numbers. A namespace:
- * parent, level, last number, condition (0 unborn, 1 alive, 2 dead), its init. 255 is "none".
+ * signal), that number or signal, handled and pending signals (bit s for signal s), and a number for each level. A
+ * namespace: parent, level, last number, condition (0 unborn, 1 alive, 2 dead), its init. 255 is "none".
  */
 uint8_t lampfunnel_is_sound(const uint32_t *words, size_t len);
 

@@ -1,4 +1,4 @@
-// The end of a process, and the freeing of namespaces that nobody holds. A table is 2.5 kB and is copied at each call:
+// The end of a process, and the freeing of namespaces that nobody holds. A table is large and is copied at each call:
 // what is done at each slot takes one record, and the table goes only where it changes.
 use table::DEEPEST;
 use table::End;

@@ -1,5 +1,5 @@
--- A table written as words of 32 bits, for a host that holds one: 15 words for each process slot, then 5 for each
--- namespace slot. Each word gives its field by its low bits, so any words are some table.
+-- A table written as words of 32 bits, for a host that holds one: 7 words and a number for each level for each process
+-- slot, then 5 words for each namespace slot. Each word gives its field by its low bits, so any words are some table.
 use Prim.Native.Nat.{ℕ, zero, suc, _+_, _*_, _%_}
 use mathlib.Core.List.{List, [], _∷_}
 use lib.Dec.{eqb}
@@ -20,7 +20,7 @@ use Rattle.table.specs.declared.Table.{Table}
 
 -- words for each process, for each namespace, and in all
 abbrev pub process-words : ℕ
-process-words = 15
+process-words = 7 + levels
 
 abbrev pub namespace-words : ℕ
 namespace-words = 5
@@ -51,11 +51,11 @@ life-from kind init =
     if eqb kind 0 then Unborn
     else (if eqb kind 1 then Alive (record { 0 = init }) else Dead)
 
--- eight numbers
+-- a number for each level
 unfoldable pub pids-from : List ℕ → ℕ → List Pid
 pids-from ws k = changed-to (λ l p. pid-at-word ws (k + l)) no-pid levels (replicate levels no-pid)
 
--- own and children's namespace, parent, state, how it ended, handled, pending, eight numbers
+-- own and children's namespace, parent, state, how it ended, handled, pending, a number for each level
 unfoldable pub process-from : List ℕ → ℕ → Process
 process-from ws k =
     record {

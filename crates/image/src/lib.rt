@@ -19,7 +19,7 @@ ghost use lib.ListN.{length};
 ghost use Rattle.image.specs.Image.{image-words, process-words, namespace-words, byte-at, pid-at-word, state-from, life-from, pids-from, process-from, namespace-from, processes-from, namespaces-from, table-from};
 ghost use Rattle.table.specs.Limits.{levels};
 
-const PROCESS_WORDS: usize = 15;
+const PROCESS_WORDS: usize = 7 + LEVELS;
 
 const NAMESPACE_WORDS: usize = 5;
 
@@ -70,7 +70,7 @@ fn life(kind: u8, init: u8) -> Life
     Life::Dead
 }
 
-// Eight numbers.
+// A number for each level.
 fn pids(words: &[u32], k: usize) -> [Pid; LEVELS]
     requires { do ⌜ k + levels ≤ (← ⟦words.len()⟧) ⌝ }
     ensures { λ r. ⌜ r ≡ pids-from (now (words .entry)) k ⌝ }

@@ -1,28 +1,31 @@
--- "Edges to try": the ten lines, every starred edge and the room for processes; an edge for each shortcut that looks
--- harmless; and the kinds of delivery. By computation.
-use Prim.Native.Nat.{ℕ}
-use mathlib.Core.Bool.{true, false}
-use mathlib.Core.List.{List, [], _∷_, map}
+-- "Edges to try": the ten lines, every starred edge and the room for processes and namespaces; an edge for each shortcut
+-- that looks harmless; and the kinds of delivery. By computation.
+use Prim.Native.Nat.{ℕ, zero, suc}
+use mathlib.Core.Bool.{Bool, true, false, So}
+use mathlib.Core.List.{List, [], _∷_, _++_, map}
 use mathlib.Core.Option.{Option, none, some}
 use mathlib.Core.Path.{_≡_, refl}
 use lib.IntN.{ℤ, pos}
 use Rattle.rules.proofs.Open.{everything}
-use Rattle.rules.proofs.Tables.{running, exited, root-at, table-of, crowd, after}
+use Rattle.rules.proofs.Tables.{running, exited, root-at, table-of, crowd, served, after}
 use Rattle.rules.specs.Answers.{minus, number-of, end-of}
 use Rattle.table.specs.Fresh.{fresh}
+use Rattle.rules.specs.Sound.{shaped, sound}
 use Rattle.rules.specs.Step.{step}
+use Rattle.table.specs.Tests.{_and_}
 use Rattle.table.specs.declared.Answer.{Answer}
 use Rattle.table.specs.declared.Call.{Call}
 use Rattle.table.specs.declared.Call.the-variants.{Clone, CloneNew, Unshare, Setns, Kill, Exit, Wait, Getpid, Getppid, Handle, Poll}
 use Rattle.table.specs.declared.End.{End}
 use Rattle.table.specs.declared.End.the-variants.{Exited, Signaled}
+use Rattle.table.specs.declared.Outcome.{Outcome}
 use Rattle.table.specs.declared.Table.{Table}
 
 -- What document 01 shows of an answer: its number, and how a removed process ended.
-abbrev Shown : Type 0
+abbrev pub Shown : Type 0
 Shown = ℤ × Option End
 
-abbrev shown : Answer → Shown
+abbrev pub shown : Answer → Shown
 shown a = (number-of a, end-of a)
 
 abbrev says : ℕ → Shown
@@ -38,17 +41,32 @@ abbrev signal : ℕ → ℕ → Shown
 signal k s = (pos k, some (Signaled s))
 
 -- a line of a script, and what it must answer
-abbrev Line : Type 0
+abbrev pub Line : Type 0
 Line = ℕ × Call × Shown
 
-abbrev answers-to : Table → List Line → List Shown
-answers-to t [] = []
-answers-to t (l ∷ ls) = let r = step t (l .0) (l .1) in shown (r .reply .answer) ∷ answers-to (r .table) ls
+-- clone new by the processes at the n slots from c, each one's only child
+abbrev deeper : ℕ → ℕ → List Line
+deeper c zero = []
+deeper c (suc n) = (c, CloneNew, says 2) ∷ deeper (suc c) n
 
-abbrev Edge : Type 0
+-- n times clone new by the root init, with the answers from k on
+abbrev wider : ℕ → ℕ → List Line
+wider k zero = []
+wider k (suc n) = (0, CloneNew, says k) ∷ wider (suc k) n
+
+-- a table, and lines from there on
+abbrev pub Edge : Type 0
 Edge = Table × List Line
 
-abbrev edges : List Edge
+-- What the lines answer where f makes the calls.
+abbrev pub answers : (Table → ℕ → Call → Outcome) → Table → List Line → List Shown
+answers f t [] = []
+answers f t (l ∷ ls) = let r = f t (l .0) (l .1) in shown (r .reply .answer) ∷ answers f (r .table) ls
+
+abbrev pub all-answers : (Table → ℕ → Call → Outcome) → List Edge → List (List Shown)
+all-answers f es = map (λ (e : Edge). answers f (e .0) (e .1)) es
+
+abbrev pub edges : List Edge
 edges =
     -- the ten lines
     (
@@ -71,17 +89,19 @@ edges =
     ∷ (table-of (running 0 0 (300 ∷ []) ∷ []) (root-at 32767 ∷ []), (0, Clone, says 301) ∷ [])
     ∷ (table-of (exited 0 0 (300 ∷ []) ∷ []) (root-at 32767 ∷ []), (0, Clone, says 301) ∷ [])
     ∷ (table-of (exited 0 0 (300 ∷ []) ∷ []) (root-at 32767 ∷ []), (0, Wait, gave 300 0) ∷ (0, Clone, says 300) ∷ [])
-    -- level 6 may clone new, level 7 gets -28 (for any table: Levels.antt)
+    -- level 31 may clone new, level 32 gets -28 (for any table: Levels.antt), and may clone plainly
+    ∷ (fresh, deeper 0 32 ++ (32, CloneNew, refuses 28) ∷ (32, Unshare, refuses 28) ∷ (32, Clone, says 2) ∷ [])
+    -- 47 namespaces: clone new works; 48: it and unshare get -11, and plain clone works; after a wait, clone new works
     ∷ (
       fresh,
-      (0, CloneNew, says 2)
-          ∷ (1, CloneNew, says 2)
-          ∷ (2, CloneNew, says 2)
-          ∷ (3, CloneNew, says 2)
-          ∷ (4, CloneNew, says 2)
-          ∷ (5, CloneNew, says 2)
-          ∷ (6, CloneNew, says 2)
-          ∷ (7, CloneNew, refuses 28)
+      wider 2 47
+          ++ (0, CloneNew, refuses 11)
+          ∷ (1, Unshare, refuses 11)
+          ∷ (0, Clone, says 49)
+          ∷ (0, Kill (pos 2) (pos 9), says 0)
+          ∷ (0, CloneNew, refuses 11)
+          ∷ (0, Wait, signal 2 9)
+          ∷ (0, CloneNew, says 50)
           ∷ [],
     )
     -- a process that ends itself giving -1 is kept with 255; 256 is kept as 0, and -256 as 0
@@ -187,9 +207,25 @@ edges =
     )
     ∷ []
 
--- Every edge is answered as document 01 says; and where an init signals itself, the whole table stays as it was.
-pub edges-hold :
-    (map (λ (e : Edge). answers-to (e .0) (e .1)) edges ≡ map (λ (e : Edge). map (λ (l : Line). l .2) (e .1)) edges)
-    × (step fresh 0 (Kill (pos 1) (pos 9)) .table ≡ fresh)
+-- ---- what is computed of them
+
+abbrev pub sound-starts : List Edge → Bool
+sound-starts [] = true
+sound-starts (e ∷ es) = (shaped (e .0) and sound (e .0)) and sound-starts es
+
+abbrev pub expected : List Edge → List (List Shown)
+expected es = map (λ (e : Edge). map (λ (l : Line). l .2) (e .1)) es
+
+-- Every edge starts from a sound table and is answered as document 01 says. With the check: EdgesHold.antt.
+pub edges-start : So (sound-starts edges)
 unfolding everything
-edges-hold = (refl, refl)
+edges-start = refl
+
+pub edges-served : all-answers served edges ≡ expected edges
+unfolding everything
+edges-served = refl
+
+-- Where an init signals itself, the whole table stays as it was.
+pub init-stays : step fresh 0 (Kill (pos 1) (pos 9)) .table ≡ fresh
+unfolding everything
+init-stays = refl

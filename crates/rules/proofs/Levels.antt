@@ -1,4 +1,4 @@
--- "Level 6 may clone new, level 7 gets -28", once for any table and any level.
+-- "Level 31 may clone new, level 32 gets -28" (W-206), once for any table and any level.
 use Prim.Native.Nat.{ℕ}
 use mathlib.Core.Bool.{false, not, So}
 use mathlib.Core.Path.{_≡_, ap}

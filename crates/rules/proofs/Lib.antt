@@ -7,4 +7,5 @@ pub mod Refused
 -- The theorems: laws, what each call keeps, and the promises one by one.
 pub mod Laws
 pub mod Keeps
+pub mod EdgesHold
 pub mod Promises

@@ -4,8 +4,9 @@ use Prim.Native.Nat.{ℕ, zero, suc, _^_}
 use mathlib.Core.Bool.{Bool, true, false}
 use mathlib.Core.List.{List, [], _∷_, map}
 use mathlib.Core.Path.{_≡_, refl}
+use lib.ListN.{replicate}
 use Rattle.rules.proofs.Open.{everything}
-use Rattle.rules.proofs.Tables.{running, exited, ns, alive-with, root-at, table-of, after}
+use Rattle.rules.proofs.Tables.{running, exited, ns, alive-with, root-at, table-of, dead-from}
 use Rattle.table.specs.Fresh.{fresh, empty-process, root-init, root}
 use Rattle.table.specs.Limits.{no-slot}
 use Rattle.rules.specs.Read.{View, view}
@@ -13,7 +14,6 @@ use Rattle.table.specs.Slots.{put, put-namespace}
 use Rattle.rules.specs.Records.{with-signals, with-parent, with-children, as-ended}
 use Rattle.rules.specs.Sound.{sound-view, SoundTable, root-process, have-parents, root-namespace, inits, empty-slots, namespace-tree, below-dead, unborn-namespaces, last-pids, pid-range, pids-differ, first-pids, dead-members, unborn-members, parents, first-parents, children-namespaces, handled-signals, pending-signals, ended-bare, ends-kept, namespaces-held}
 use Rattle.table.specs.Tests.{_and_}
-use Rattle.table.specs.declared.Call.the-variants.{CloneNew}
 use Rattle.table.specs.declared.End.the-variants.{Signaled}
 use Rattle.table.specs.declared.Life.the-variants.{Unborn, Dead}
 use Rattle.table.specs.declared.Process.{Process}
@@ -60,13 +60,11 @@ entries =
     ∷ (inits, table-of (running 1 0 (2 ∷ 2 ∷ []) ∷ []) (root ∷ ns 0 1 2 (alive-with 0) ∷ []) ∷ [])
     -- an empty process slot with a parent, an empty namespace slot with a last number
     ∷ (empty-slots, with-child (with-parent empty-process 7) ∷ table-of [] (root ∷ ns 0 0 5 Unborn ∷ []) ∷ [])
-    -- level 2 right below the root; level 8
+    -- level 2 right below the root; level 33, in a chain of dead namespaces
     ∷ (
       namespace-tree,
       table-of (running 1 0 (2 ∷ 1 ∷ 1 ∷ []) ∷ []) (root ∷ ns 0 2 1 (alive-with 1) ∷ [])
-          ∷ put (put-namespace
-          (after fresh ((0, CloneNew) ∷ (1, CloneNew) ∷ (2, CloneNew) ∷ (3, CloneNew) ∷ (4, CloneNew) ∷ (5, CloneNew) ∷ (6, CloneNew) ∷ []))
-          8 (ns 7 8 1 Dead)) 8 (exited 8 7 (9 ∷ 8 ∷ 7 ∷ 6 ∷ 5 ∷ 4 ∷ 3 ∷ 2 ∷ []))
+          ∷ table-of (exited 33 0 (replicate 33 2) ∷ []) (root ∷ dead-from 1 33)
           ∷ [],
     )
     -- follows: a namespace below a dead one has no living process to be its init's parent or its holder

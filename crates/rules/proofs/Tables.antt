@@ -1,18 +1,23 @@
 -- Small tables, written down for computed facts.
-use Prim.Native.Nat.{ℕ, zero, suc, _-_}
+use Prim.Native.Nat.{ℕ, zero, suc, pred, _-_}
 use mathlib.Core.List.{List, [], _∷_, _++_, map}
 use lib.ListN.{length, replicate}
 use Rattle.table.specs.Fresh.{empty-process, empty-namespace, root-init}
 use Rattle.table.specs.Limits.{process-slots, namespace-slots, levels, no-slot}
 use Rattle.table.specs.Slots.{no-pid, to-pid}
+use Rattle.rules.specs.Answers.{refused}
+use Rattle.rules.specs.Read.{view}
 use Rattle.rules.specs.Records.{as-ended}
-use Rattle.rules.specs.Step.{step}
+use Rattle.rules.specs.Step.{make, runs}
+use Rattle.table.specs.Tests.{if_then_else_}
 use Rattle.table.specs.declared.Call.{Call}
 use Rattle.table.specs.declared.End.the-variants.{Exited}
 use Rattle.table.specs.declared.Life.{Life}
-use Rattle.table.specs.declared.Life.the-variants.{Alive}
+use Rattle.table.specs.declared.Life.the-variants.{Alive, Dead}
 use Rattle.table.specs.declared.Namespace.{Namespace}
+use Rattle.table.specs.declared.Outcome.{Outcome}
 use Rattle.table.specs.declared.Process.{Process}
+use Rattle.table.specs.declared.Refusal.the-variants.{NotRunning}
 use Rattle.table.specs.declared.State.the-variants.{Running}
 use Rattle.table.specs.declared.Table.{Table}
 
@@ -51,7 +56,16 @@ children-from k (suc n) = running 0 0 (k ∷ []) ∷ children-from (suc k) n
 abbrev pub crowd : ℕ → Table
 crowd n = table-of (children-from 2 n) (root-at (suc n) ∷ [])
 
--- the table after a list of calls, each by the process at its slot
+-- dead namespaces at the n slots from k, each below the one before it
+abbrev pub dead-from : ℕ → ℕ → List Namespace
+dead-from k zero = []
+dead-from k (suc n) = ns (pred k) k 1 Dead ∷ dead-from (suc k) n
+
+-- a call on a table that is known to be sound: without the check, which would take most of the computing
+abbrev pub served : Table → ℕ → Call → Outcome
+served t c call = if runs (view t) c then make t c call else refused t NotRunning
+
+-- the table after a list of calls, each by the process at its slot (from a sound table on, as `step` makes it)
 abbrev pub after : Table → List (ℕ × Call) → Table
 after t [] = t
-after t (l ∷ ls) = after (step t (l .0) (l .1) .table) ls
+after t (l ∷ ls) = after (served t (l .0) (l .1) .table) ls

@@ -45,7 +45,7 @@ natural (negsuc k) = 0
 abbrev pub pid-to : View → ℕ → ℕ → ℕ
 pid-to v c i = pid-seen v (v .own c) i
 
--- the level of that namespace
+-- the level of that namespace; where it is the deepest, 32 (W-206), unshare and clone new give -28
 abbrev pub own-level : View → ℕ → ℕ
 own-level v c = v .level (v .own c)
 
@@ -53,7 +53,7 @@ own-level v c = v .level (v .own c)
 abbrev pub elsewhere : View → ℕ → Bool
 elsewhere v c = not (eqb (v .children c) (v .own c))
 
--- No room: 64 processes, or 32 namespaces, counted before the call.
+-- No room: 64 processes, or 48 namespaces (W-206), counted before the call.
 abbrev pub processes-full : View → Bool
 processes-full v = eqb (free-slot v) process-slots
 

@@ -69,7 +69,7 @@ given-if e b f d = if eqb (place d) (place e) then b else f d
 abbrev pub no-more : Refusal → Bool
 no-more d = false
 
--- no room: clone with 64 processes, clone new or unshare with 32 namespaces (every slot is taken)
+-- no room: clone with 64 processes, clone new or unshare with 48 namespaces (W-206): every slot is taken
 abbrev pub full : View → Bool
 full v = all process-slots (taken v)
 
@@ -77,7 +77,7 @@ abbrev pub namespaces-taken : View → Bool
 namespaces-taken v = all namespace-slots (namespace-taken v)
 
 -- the lines of the two calls that make a namespace: the children's namespace isn't the own one (W-203), the own level is
--- the deepest, or there is no room
+-- the deepest, 32 (W-206), or there is no room
 abbrev pub making-lines : View → ℕ → Bool → Refusal → Bool
 making-lines v c no-room =
     given-if Einval (not (eqb (v .children c) (v .own c)))

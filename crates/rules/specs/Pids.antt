@@ -17,7 +17,7 @@ next-pid v n =
     let r = lowest (free-pid v n) (suc greatest-pid - restart-pid) restart-pid in
     if leb k greatest-pid then k else r
 
--- New entries take the lowest free slot; 64, or 32 for a namespace, says that there is none.
+-- New entries take the lowest free slot; 64, or 48 for a namespace (W-206), says that there is none.
 unfoldable pub free-slot : View → ℕ
 free-slot v = lowest (λ i. not (taken v i)) process-slots 0
 

@@ -61,7 +61,7 @@ empty-slots v =
     all process-slots (λ i. taken v i or zero-process v i)
     and all namespace-slots (λ n. namespace-taken v n or zero-namespace v n)
 
--- Each other namespace has a taken parent one level up and a level of at most 7;
+-- Each other namespace has a taken parent one level up and a level of at most 32 (W-206);
 unfoldable pub namespace-tree : View → Bool
 namespace-tree v =
     each-other-namespace v

@@ -6,6 +6,7 @@ use mathlib.Core.List.{List, [], _∷_, map}
 use mathlib.Core.Option.{some}
 use mathlib.Core.Path.{_≡_, refl, sym, _∙_}
 use lib.IntN.{pos}
+use lib.ListN.{replicate}
 use Rattle.rules.proofs.Open.{everything}
 use Rattle.sameness.proofs.Open.{sheets}
 use Rattle.sameness.proofs.Demand3.{sameness}
@@ -41,7 +42,7 @@ lone-init =
     record {
       level = 1;
       rows =
-          record { pids = 1 ∷ 0 ∷ 0 ∷ 0 ∷ 0 ∷ 0 ∷ 0 ∷ []; state = Running; handled = 0; pending = 0; parent = 0; own = by-init 1; children = by-init 1; last = 1 } ∷ [];
+          record { pids = 1 ∷ replicate 31 0; state = Running; handled = 0; pending = 0; parent = 0; own = by-init 1; children = by-init 1; last = 1 } ∷ [];
     }
 
 -- the same inside calls, with other calls between

@@ -210,8 +210,8 @@ itself n = if ltb n namespace-slots then n else 0
 unfoldable pub raised : (ℕ → ℕ) → (ℕ → ℕ) → ℕ → (ℕ → ℕ) → ℕ → ℕ
 raised up level l top n = if ltb l (level n) then up (top n) else top n
 
--- The namespace at the level 8 - k that is n or above it, where n is at most at level 8: at each turn those below the next
--- level go one up.
+-- The namespace at the level levels - k that is n or above it, where n is at most at the deepest level: at each turn
+-- those below the next level go one up.
 unfoldable pub top : (ℕ → ℕ) → (ℕ → ℕ) → ℕ → ℕ → ℕ
 top up level zero = itself
 top up level (suc k) = raised up level (deepest - k) (top up level k)

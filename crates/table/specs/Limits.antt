@@ -1,16 +1,16 @@
 -- The numbers of document 01, each named once.
 use Prim.Native.Nat.{ℕ, suc}
 
--- One table: 64 process slots and 32 namespace slots.
+-- One table: 64 process slots and 48 namespace slots (W-206).
 abbrev pub process-slots : ℕ
 process-slots = 64
 
 abbrev pub namespace-slots : ℕ
-namespace-slots = 32
+namespace-slots = 48
 
--- The root has level 0, the deepest namespace level 7; a process has one number for each level.
+-- The root has level 0, the deepest namespace level 32 (W-206); a process has one number for each level.
 abbrev pub deepest : ℕ
-deepest = 7
+deepest = 32
 
 abbrev pub levels : ℕ
 levels = suc deepest

@@ -9,16 +9,16 @@ ghost use Rattle.table.specs.Slots.{namespace, pid-at, is-running, is-en
 
 // ---- the numbers of document 01, each named once
 
-// One table: 64 process slots and 32 namespace slots.
+// One table: 64 process slots and 48 namespace slots (W-206).
 pub const PROCESS_SLOTS: usize = 64;
 
-pub const NAMESPACE_SLOTS: usize = 32;
+pub const NAMESPACE_SLOTS: usize = 48;
 
 // No slot, in a field that holds one.
 pub const NO_SLOT: u8 = 255;
 
-// The root has level 0, the deepest namespaces level 7; a process has one number for each level.
-pub const LEVELS: usize = 8;
+// The root has level 0, the deepest namespaces level 32 (W-206); a process has one number for each level.
+pub const LEVELS: usize = 33;
 
 pub const DEEPEST: u8 = (LEVELS - 1) as u8;
 

@@ -9,7 +9,7 @@ use crate::programs::Speeds;
 use crate::timing::{best, nanoseconds, SHORT_ROUNDS};
 use reference::image::words;
 use reference::script::run_line;
-use reference::table::Table;
+use reference::table::{Table, PROCESSES};
 use reference::{quick, sound};
 use scripts::kept::{facts, Facts};
 use std::hint::black_box;
@@ -47,29 +47,21 @@ struct Times {
     plain: f64,
 }
 
-pub struct Checks {
-    /// on the script's tables
-    kept: Times,
-    /// on the full table
-    full: Times,
-    /// of reading a table from words
+/// The checks of a full table, and how long reading it from words takes.
+pub struct Full {
+    level: u8,
+    times: Times,
     reading: f64,
 }
 
-pub fn run(tables: &Tables) -> Checks {
-    let (kept, _) = time(&tables.kept);
-    let (full, reading) = time(&[full_table()]);
-    Checks { kept, full, reading }
-}
-
-/// 64 processes in a chain of namespaces, levels 0 to 7, most of them in the deepest.
-fn full_table() -> Table {
+/// 64 processes in a chain of namespaces from the root to a level, the rest of them in the deepest.
+fn full_table(level: u8) -> Table {
     let mut t = Table::fresh();
-    for i in 0..63 {
-        let line = if i < 7 { format!("{i} clone new") } else { "7 clone".into() };
+    for i in 0..PROCESSES as u8 - 1 {
+        let line = if i < level { format!("{i} clone new") } else { format!("{level} clone") };
         run_line(&mut t, line.as_bytes());
     }
-    assert_eq!(t.each_process().count(), 64);
+    assert_eq!(t.each_process().count(), PROCESSES);
     t
 }
 
@@ -96,31 +88,41 @@ fn time(tables: &[Table]) -> (Times, f64) {
     (Times { proved: whole - reading, quick, plain }, reading)
 }
 
-impl Checks {
-    pub fn shares(&self, speeds: &Speeds) -> Group {
+impl Tables {
+    pub fn shares(&self, speeds: &Speeds, script: &str) -> Group {
+        let (times, _) = time(&self.kept);
         let share = |check: f64, time| 100.0 * check / Speeds::per_line(time);
         let bars = [
-            ("recorder", share(self.kept.proved, speeds.recorder)),
-            ("reference, same check", share(self.kept.quick, speeds.quick)),
-            ("reference, plain check", share(self.kept.plain, speeds.plain)),
+            ("recorder", share(times.proved, speeds.recorder)),
+            ("reference, same check", share(times.quick, speeds.quick)),
+            ("reference, plain check", share(times.plain, speeds.plain)),
         ];
-        group("Share of the table check in a line", "%", &bars)
+        group(&format!("Share of the table check in a line, {script}"), "%", &bars)
+    }
+}
+
+impl Full {
+    pub fn to_level(level: u8) -> Full {
+        let (times, reading) = time(&[full_table(level)]);
+        Full { level, times, reading }
     }
 
-    pub fn full_table(&self) -> Group {
+    pub fn group(&self) -> Group {
         let bars = [
-            ("is_sound, proved", self.full.proved),
-            ("the same algorithm in Rust", self.full.quick),
-            ("plain check in Rust", self.full.plain),
+            ("is_sound, proved", self.times.proved),
+            ("the same algorithm in Rust", self.times.quick),
+            ("plain check in Rust", self.times.plain),
             ("(reading the table from words)", self.reading),
         ];
-        group("Check of a full table (less is better)", "ns", &bars)
+        group(&format!("Check of a full table, levels 0 to {} (less is better)", self.level), "ns", &bars)
     }
 
-    pub fn print_ratio(&self) {
-        println!(
-            "ratio: the proved check of a full table takes {:.2} times as long as the same algorithm in Rust",
-            self.full.proved / self.full.quick
-        );
+    pub fn ratio(&self) -> String {
+        format!(
+            "ratio: the proved check of a full table, levels 0 to {}, takes {:.2} times as long as the same algorithm in \
+             Rust\n",
+            self.level,
+            self.times.proved / self.times.quick
+        )
     }
 }

@@ -13,25 +13,34 @@ mod search;
 mod timing;
 
 use chart::Group;
-use scripts::kept;
+use reference::table::DEEPEST;
+use scripts::kept::{self, Kept, SCRIPTS};
 use std::{env, fs, io};
 
 fn main() -> io::Result<()> {
     println!("machine: {}", machine());
-    let script = kept::script();
-    let tables = checks::Tables::of(&script);
-    describe(&tables.facts);
-    let speeds = programs::run(&script)?;
-    let checks = checks::run(&tables);
+    let mut groups = Vec::new();
+    let mut ratios = String::new();
+    for kept in &SCRIPTS {
+        let script = kept.script();
+        let tables = checks::Tables::of(&script);
+        describe(kept, &tables.facts);
+        let speeds = programs::run(&script)?;
+        groups.extend([speeds.lines_per_second(kept.name), tables.shares(&speeds, kept.name)]);
+        ratios += &speeds.ratios(kept.name);
+    }
+    for level in [7, DEEPEST] {
+        let full = checks::Full::to_level(level);
+        groups.push(full.group());
+        ratios += &full.ratio();
+    }
     let searches = search::run();
-    let groups = [speeds.lines_per_second(), checks.shares(&speeds), checks.full_table(), searches.group()];
+    groups.push(searches.group());
+    ratios += &searches.ratio();
     for group in &groups {
         print!("\n{group}");
     }
-    println!();
-    speeds.print_ratios();
-    checks.print_ratio();
-    searches.print_ratio();
+    print!("\n{ratios}");
     match env::args().nth(1) {
         Some(file) => fs::write(file, chart::svg(&machine(), &groups)),
         None => Ok(()),
@@ -46,14 +55,15 @@ fn machine() -> String {
 }
 
 /// Says what the script has, and stops if it is not what the benchmark asks for.
-fn describe(facts: &kept::Facts) {
+fn describe(kept: &Kept, facts: &kept::Facts) {
     println!(
-        "script: {} lines, {} to fill the table, after these never below {} processes; up to {} namespaces, level {}",
-        facts.lines, facts.filling, facts.least, facts.most_namespaces, facts.deepest
+        "script, {}: {} lines, {} to fill the table, after these never below {} processes; up to {} namespaces, level {}, \
+         a living one always on level {} or deeper",
+        kept.name, facts.lines, facts.filling, facts.least, facts.most_namespaces, facts.deepest, facts.chain
     );
     let granted: Vec<String> = kept::CALLS.iter().zip(facts.granted).map(|(call, n)| format!("{call} {n}")).collect();
     println!("granted: {}; refused: {}", granted.join(", "), facts.refused);
-    assert!(facts.hold(), "the script must never fall below 60 processes and have each call granted a thousand times");
+    assert!(facts.hold(kept), "the script must be full, deep and mixed enough");
     println!(
         "checked: {} lines, at least {} processes, each call granted {} times or more",
         kept::LINES,

@@ -1,4 +1,4 @@
-//! The programs on the kept script: the recorder, and the reference with the recorder's check and with the plain one.
+//! The programs on a kept script: the recorder, and the reference with the recorder's check and with the plain one.
 
 use crate::chart::Group;
 use crate::group;
@@ -98,22 +98,23 @@ impl Speeds {
         nanoseconds(time, LINES)
     }
 
-    pub fn lines_per_second(&self) -> Group {
+    pub fn lines_per_second(&self, script: &str) -> Group {
         let bars = [
             ("recorder", per_second(self.recorder)),
             ("the same as a library", per_second(self.library)),
             ("reference, same check", per_second(self.quick)),
             ("reference, plain check", per_second(self.plain)),
         ];
-        group("Lines per second (more is better)", "lines/s", &bars)
+        group(&format!("Lines per second, {script} (more is better)"), "lines/s", &bars)
     }
 
-    pub fn print_ratios(&self) {
+    pub fn ratios(&self, script: &str) -> String {
         let ratio = |other: Duration| self.recorder.as_secs_f64() / other.as_secs_f64();
-        println!(
-            "ratio: the recorder takes {:.2} times as long as the reference with the same check, {:.2} with the plain",
+        format!(
+            "ratio, {script}: the recorder takes {:.2} times as long as the reference with the same check, {:.2} with the \
+             plain\n",
             ratio(self.quick),
             ratio(self.plain)
-        );
+        )
     }
 }

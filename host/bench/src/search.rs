@@ -6,7 +6,7 @@ use crate::group;
 use crate::timing::{best, nanoseconds, SHORT_ROUNDS};
 use reference::image::words;
 use reference::sound::is_sound;
-use reference::table::{Process, Table, MAX_PID};
+use reference::table::{Process, Table, LEVELS, MAX_PID};
 use std::hint::black_box;
 
 /// So many searches in a round.
@@ -22,7 +22,7 @@ pub struct Searches {
 fn table(last: u16) -> Vec<u32> {
     let mut t = Table::fresh();
     for slot in 1..=62 {
-        let mut pids = [0; 8];
+        let mut pids = [0; LEVELS];
         pids[0] = 299 + slot as u16;
         t.processes[slot] = Process { pids, ..Process::EMPTY };
     }
@@ -55,10 +55,10 @@ impl Searches {
         group("Search for a number, 63 processes (less is better)", "ns", &bars)
     }
 
-    pub fn print_ratio(&self) {
-        println!(
-            "ratio: a search past 62 taken numbers takes {:.1} times as long as one whose first candidate is free",
+    pub fn ratio(&self) -> String {
+        format!(
+            "ratio: a search past 62 taken numbers takes {:.1} times as long as one whose first candidate is free\n",
             self.past_taken / self.first_free
-        );
+        )
     }
 }

@@ -1,38 +1,24 @@
 //! The kinds of damage that a table is given.
 
 use reference::image::{NAMESPACES_AT, NAMESPACE_WORDS, PROCESS_WORDS};
-use reference::table::{End, Life, Namespace, State, Table, LEVELS, NAMESPACES, PROCESSES};
+use reference::table::{End, Life, Namespace, Process, State, Table, DEEPEST, LEVELS, MAX_PID, NAMESPACES, PROCESSES};
 use scripts::random::Random;
 
 /// Damages a table, or leaves it where the table has nothing of the kind.
 type Damage = fn(&mut Table, &mut Random);
 
-/// The fields of both kinds of record, a word each.
-pub const FIELDS: [&str; PROCESS_WORDS + NAMESPACE_WORDS] = [
-    "process: own namespace",
-    "process: children's namespace",
-    "process: parent",
-    "process: state",
-    "process: how it ended",
-    "process: handled signals",
-    "process: pending signals",
-    "process: number at level 0",
-    "process: number at level 1",
-    "process: number at level 2",
-    "process: number at level 3",
-    "process: number at level 4",
-    "process: number at level 5",
-    "process: number at level 6",
-    "process: number at level 7",
-    "namespace: parent",
-    "namespace: level",
-    "namespace: last number",
-    "namespace: condition",
-    "namespace: init",
-];
+/// The fields of both kinds of record, a word each, in the order of the words.
+pub fn fields() -> Vec<String> {
+    let before = "own namespace, children's namespace, parent, state, how it ended, handled signals, pending signals";
+    let process =
+        before.split(", ").map(String::from).chain((0..LEVELS).map(|level| format!("number at level {level}")));
+    let namespace = "parent, level, last number, condition, init".split(", ");
+    let process = process.map(|field| format!("process: {field}"));
+    process.chain(namespace.map(|field| format!("namespace: {field}"))).collect()
+}
 
 /// Damage that takes more than one field at random.
-pub const SPECIAL: [(&str, Damage); 9] = [
+pub const SPECIAL: [(&str, Damage); 10] = [
     ("a slot out of range", out_of_range),
     ("a circle of parents", circle_of_parents),
     ("a circle of namespaces", circle_of_namespaces),
@@ -42,11 +28,15 @@ pub const SPECIAL: [(&str, Damage); 9] = [
     ("another init", another_init),
     ("a namespace that nobody holds", unheld_namespace),
     ("an ended parent", ended_parent),
+    ("a namespace below the deepest level", too_deep),
 ];
 
-/// Values that a damaged field takes: slots in and out of range, levels, numbers at their bounds, sets of signals.
-const VALUES: [u32; 24] =
-    [0, 1, 2, 3, 5, 7, 8, 9, 19, 31, 32, 33, 63, 64, 65, 254, 255, 256, 299, 300, 32_767, 32_768, 65_535, 0xffff_ffff];
+/// Values that a damaged field takes: small ones, levels and slots in and out of range, numbers at their bounds, sets of
+/// signals.
+const VALUES: [u32; 27] = [
+    0, 1, 2, 3, 5, 7, 8, 9, 19, 31, 32, 33, 47, 48, 49, 63, 64, 65, 254, 255, 256, 299, 300, 32_767, 32_768, 65_535,
+    0xffffffff,
+];
 
 /// A field of some record changed: to a value at some bound, to another record's value of the field, or by one. Mostly
 /// the record is one in use.
@@ -143,10 +133,14 @@ fn another_init(t: &mut Table, random: &mut Random) {
     t.namespaces[n].life = Life::Alive(random.pick(&processes(t)));
 }
 
+fn free_namespaces(t: &Table) -> Vec<u8> {
+    (1..NAMESPACES as u8).filter(|&n| t.namespace(n).is_none()).collect()
+}
+
 /// A dead namespace, right in its place, in a free slot.
 fn unheld_namespace(t: &mut Table, random: &mut Random) {
-    let free = (1..NAMESPACES as u8).filter(|&n| t.namespace(n).is_none()).collect();
-    let above = t.each_namespace().filter(|(_, s)| (s.level as usize) < LEVELS - 1).map(|(n, _)| n).collect();
+    let free = free_namespaces(t);
+    let above = t.each_namespace().filter(|(_, s)| s.level < DEEPEST).map(|(n, _)| n).collect();
     let (Some(n), Some(parent)) = (one_of(free, random), one_of(above, random)) else { return };
     let level = t.namespaces[parent].level + 1;
     t.namespaces[n] = Namespace { parent: parent as u8, level, last: random.below(400) as u16, life: Life::Dead };
@@ -159,4 +153,16 @@ fn ended_parent(t: &mut Table, random: &mut Random) {
     if !matches!(t.processes[i].state, State::Ended(_)) {
         t.processes[i].end(End::Signaled(9));
     }
+}
+
+/// A dead namespace right below one on the deepest level, with an ended child of the root init in it: all is as it should
+/// be but the level.
+fn too_deep(t: &mut Table, random: &mut Random) {
+    let deepest = t.each_namespace().filter(|(_, s)| s.level == DEEPEST && s.life != Life::Unborn);
+    let above = one_of(deepest.map(|(n, _)| n).collect(), random);
+    let free = t.processes.iter().position(|p| !p.is_taken());
+    let (Some(parent), Some(i), Some(n)) = (above, free, one_of(free_namespaces(t), random)) else { return };
+    t.namespaces[n] = Namespace { parent: parent as u8, level: DEEPEST + 1, last: 1, life: Life::Dead };
+    t.processes[i] = Process { own: n as u8, pids: [MAX_PID; LEVELS], ..Process::EMPTY };
+    t.processes[i].end(End::Exited(0));
 }

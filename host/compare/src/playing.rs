@@ -2,7 +2,7 @@
 
 use reference::calls::Call;
 use reference::script::{parse, run};
-use reference::table::Table;
+use reference::table::{Table, DEEPEST};
 use scripts::generate::{arbitrary, bytes, round, script, KINDS};
 use std::io::{self, Write};
 use std::process::{Command, Stdio};
@@ -25,7 +25,7 @@ fn kinds() -> Vec<(&'static str, Scripts)> {
     }
     kinds.push(("good lines with bytes changed", Box::new((1..=40).map(|seed| bytes(seed, 600)))));
     kinds.push(("arbitrary bytes", Box::new((1..=40).map(|seed| arbitrary(seed, 4000)))));
-    kinds.push(("numbers going round", Box::new([0, 1, 7].into_iter().map(|level| round(level, 5)))));
+    kinds.push(("numbers going round", Box::new([0, 1, DEEPEST.into()].into_iter().map(|level| round(level, 5)))));
     let short: [&[u8]; 7] = [b"", b"\n", b"\n\n", b"0 getpid", b"0 getpid\n\n", &[b'0'; 100_000], &[b'\n'; 5000]];
     kinds.push(("short and long", Box::new(short.map(<[u8]>::to_vec).into_iter())));
     kinds
@@ -51,9 +51,9 @@ pub fn hold(recorder: &str) -> Result<(), String> {
     Ok(())
 }
 
-/// Answers that the scripts must bring about: all refusals but -1000, which no script can, -22 also of the two calls
-/// that make a namespace, and the other forms.
-const FORMS: [&str; 15] = [
+/// Answers that the scripts must bring about: all refusals but -1000, which no script can, those of the two calls that
+/// make a namespace by themselves, and the other forms. (-11 of unshare comes with 48 namespaces alone.)
+const FORMS: [&str; 18] = [
     "-1001",
     "-22",
     "-22 of clone new",
@@ -62,9 +62,12 @@ const FORMS: [&str; 15] = [
     "-3",
     "-16",
     "-10",
-    "-28",
+    "-28 of clone new",
+    "-28 of unshare",
     "-12",
     "-11",
+    "-11 of clone new",
+    "-11 of unshare",
     "gave",
     "signal",
     "?",
@@ -75,9 +78,9 @@ const FORMS: [&str; 15] = [
 fn form_of(line: &[u8], answer: &str) -> usize {
     let word = answer.split(' ').nth(1).unwrap_or(answer);
     let form = match (word, parse(line)) {
-        ("-22", Some((_, Call::CloneNew))) => "-22 of clone new",
-        ("-22", Some((_, Call::Unshare))) => "-22 of unshare",
-        _ => word,
+        ("-22" | "-28" | "-11", Some((_, Call::CloneNew))) => format!("{word} of clone new"),
+        ("-22" | "-28" | "-11", Some((_, Call::Unshare))) => format!("{word} of unshare"),
+        _ => word.into(),
     };
     FORMS.iter().position(|known| *known == form).unwrap_or(FORMS.len() - 1)
 }

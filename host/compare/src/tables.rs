@@ -1,9 +1,9 @@
 //! Damaged tables: the proved check, the reference and its quick check must agree on each.
 
-use crate::damage::{field, FIELDS, SPECIAL};
+use crate::damage::{field, fields, SPECIAL};
 use reference::image::{table, words, NAMESPACES_AT, NAMESPACE_WORDS, PROCESS_WORDS};
 use reference::script::run;
-use reference::table::Table;
+use reference::table::{Table, DEEPEST, NAMESPACES};
 use reference::{quick, sound};
 use scripts::generate::{script, KINDS};
 use scripts::random::Random;
@@ -13,7 +13,7 @@ const OF_EACH_KIND: usize = 2500;
 
 /// How many tables of a kind there were, and how many of them are sound all the same.
 struct Count {
-    kind: &'static str,
+    kind: String,
     tables: usize,
     sound: usize,
 }
@@ -45,7 +45,7 @@ pub fn hold() -> Result<(), String> {
     let bases = bases();
     let mut random = Random::from_seed(7);
     let mut counts = vec![hold_whole(&bases)?];
-    for (k, kind) in FIELDS.iter().enumerate() {
+    for (k, kind) in fields().iter().enumerate() {
         counts.push(hold_kind(kind, &bases, &mut random, |t, random| {
             let mut damaged = words(t);
             field(&mut damaged, k, t, random);
@@ -63,24 +63,29 @@ pub fn hold() -> Result<(), String> {
     Ok(())
 }
 
+/// The tables as they are: sound to all, and some of them as deep and as full of namespaces as can be.
 fn hold_whole(bases: &[Table]) -> Result<Count, String> {
+    let deepest = bases.iter().any(|t| t.each_namespace().any(|(_, s)| s.level == DEEPEST));
+    if !deepest || !bases.iter().any(|t| t.each_namespace().count() == NAMESPACES) {
+        return Err("no table reaches the deepest level, or has every namespace slot taken".into());
+    }
     for t in bases {
         assert_eq!(table(&words(t)), *t, "words say the whole table");
         if agree(&words(t)) != Some(true) {
             return Err(format!("a table that calls made is not sound to all:\n{}", shown(&words(t))));
         }
     }
-    Ok(Count { kind: "none", tables: bases.len(), sound: bases.len() })
+    Ok(Count { kind: "none".into(), tables: bases.len(), sound: bases.len() })
 }
 
 /// Damages the tables in turn until there are enough that are not what they were.
 fn hold_kind(
-    kind: &'static str,
+    kind: &str,
     bases: &[Table],
     random: &mut Random,
     damage: impl Fn(&Table, &mut Random) -> Vec<u32>,
 ) -> Result<Count, String> {
-    let mut count = Count { kind, tables: 0, sound: 0 };
+    let mut count = Count { kind: kind.into(), tables: 0, sound: 0 };
     for t in bases.iter().cycle().take(100 * OF_EACH_KIND) {
         let damaged = damage(t, random);
         if table(&damaged) == *t {

@@ -21,15 +21,24 @@ use std::fmt;
 /// An answer has at most so many bytes, its line feed counted.
 pub const ANSWER_BYTES: usize = 32;
 
-/// The words of a table: 15 for each of 64 process slots, then 5 for each of 32 namespace slots.
+/// A table has so many process slots and namespace slots, and a process a number for each level from the root's on.
+pub const PROCESSES: usize = 64;
+pub const NAMESPACES: usize = 48;
+pub const LEVELS: usize = 33;
+
+/// Bytes of stack that are enough for each function, also where a chain of namespaces to the deepest level ends at once.
+/// A thread of Rust's standard library has twice as many where nothing else is said.
+pub const STACK_BYTES: usize = 1 << 20;
+
+/// The words of a table: 7 and the numbers for each process slot, then 5 for each namespace slot.
 ///
 /// A process: own and children's namespace, parent, state (0 running, 1 stopped, 2 ended with a number, 3 by a signal),
-/// that number or signal, handled and pending signals (bit s for signal s), and eight numbers. A namespace: parent,
-/// level, last number, condition (0 unborn, 1 alive, 2 dead), its init. 255 is "none".
-pub const TABLE_WORDS: usize = NAMESPACES_AT + 32 * 5;
+/// that number or signal, handled and pending signals (bit s for signal s), and a number for each level. A namespace:
+/// parent, level, last number, condition (0 unborn, 1 alive, 2 dead), its init. 255 is "none".
+pub const TABLE_WORDS: usize = NAMESPACES_AT + NAMESPACES * 5;
 
 /// Where the words of the namespaces start.
-pub const NAMESPACES_AT: usize = 64 * 15;
+pub const NAMESPACES_AT: usize = PROCESSES * (7 + LEVELS);
 
 mod proved {
     /// What `lampfunnel_run` answers where the buffer is too short.

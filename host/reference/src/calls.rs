@@ -1,7 +1,7 @@
 //! The ten calls, with their refusals in document 01's order.
 
 use crate::sound::{is_sound, Check};
-use crate::table::{End, Life, Namespace, Process, State, Table, LEVELS, MAX_PID, NAMESPACES, PROCESSES};
+use crate::table::{End, Life, Namespace, Process, State, Table, DEEPEST, LEVELS, MAX_PID, NAMESPACES, PROCESSES};
 
 #[derive(Clone, Copy, PartialEq, Eq, Debug)]
 pub enum Call {
@@ -197,7 +197,7 @@ impl Table {
         if self.is_elsewhere(c) {
             return Err(EINVAL);
         }
-        if self.own_level(c) == LEVELS - 1 {
+        if self.own_level(c) == DEEPEST as usize {
             return Err(ENOSPC);
         }
         let slot = self.free_process()?;
@@ -210,7 +210,7 @@ impl Table {
         if self.is_elsewhere(c) {
             return Err(EINVAL);
         }
-        if self.own_level(c) == LEVELS - 1 {
+        if self.own_level(c) == DEEPEST as usize {
             return Err(ENOSPC);
         }
         let n = self.free_namespace()?;

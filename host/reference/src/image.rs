@@ -1,9 +1,9 @@
-//! A table as words, in which a host hands one to the proved library: 15 for each process slot, then 5 for each
-//! namespace slot. Each word gives its field by its low bits, so any words are some table.
+//! A table as words, in which a host hands one to the proved library: 7 and a number for each level for each process
+//! slot, then 5 for each namespace slot. Each word gives its field by its low bits, so any words are some table.
 
 use crate::table::{End, Life, Namespace, Process, State, Table, LEVELS, NAMESPACES, PROCESSES};
 
-pub const PROCESS_WORDS: usize = 15;
+pub const PROCESS_WORDS: usize = 7 + LEVELS;
 pub const NAMESPACES_AT: usize = PROCESSES * PROCESS_WORDS;
 pub const NAMESPACE_WORDS: usize = 5;
 pub const WORDS: usize = NAMESPACES_AT + NAMESPACES * NAMESPACE_WORDS;

@@ -1,8 +1,9 @@
 //! The table, field for field as document 01 has it, so that a damaged one can be written down too.
 
 pub const PROCESSES: usize = 64;
-pub const NAMESPACES: usize = 32;
-pub const LEVELS: usize = 8;
+pub const NAMESPACES: usize = 48;
+pub const LEVELS: usize = 33;
+pub const DEEPEST: u8 = LEVELS as u8 - 1;
 pub const MAX_PID: u16 = 32_767;
 
 /// "None" in a field that holds a slot.

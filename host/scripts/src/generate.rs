@@ -3,7 +3,7 @@
 
 use crate::random::Random;
 use reference::script::run_line;
-use reference::table::{State, Table};
+use reference::table::{State, Table, DEEPEST};
 
 /// What a kind of script is made of: how often each call is drawn, and how full the table is kept.
 #[derive(Clone, Copy)]
@@ -15,14 +15,14 @@ pub struct Kind {
     keep: usize,
     /// one line in so many is a bad one, or a bad caller's (0: none)
     bad: usize,
-    /// every other caller is one of the deepest
+    /// it starts with a chain of namespaces to the deepest level, and every other caller is one of the deepest
     deep: bool,
 }
 
 pub const KINDS: [Kind; 8] = [
     Kind { name: "any calls", weights: [14, 7, 6, 8, 14, 2, 6, 12, 5, 5, 10, 6], keep: 0, bad: 20, deep: false },
     Kind { name: "near 64 processes", weights: [30, 6, 3, 5, 8, 1, 6, 12, 3, 3, 4, 3], keep: 58, bad: 40, deep: false },
-    Kind { name: "deep", weights: [6, 24, 10, 12, 8, 1, 5, 10, 4, 6, 2, 1], keep: 6, bad: 0, deep: true },
+    Kind { name: "deep", weights: [6, 24, 10, 12, 8, 1, 5, 10, 4, 6, 2, 1], keep: 40, bad: 0, deep: true },
     Kind { name: "setns and unshare", weights: [18, 5, 22, 24, 8, 1, 6, 10, 3, 4, 1, 1], keep: 4, bad: 0, deep: false },
     Kind { name: "kill -1", weights: [24, 8, 3, 4, 4, 14, 2, 14, 2, 2, 12, 6], keep: 0, bad: 0, deep: false },
     Kind { name: "signals", weights: [8, 3, 1, 2, 34, 4, 2, 8, 3, 1, 22, 16], keep: 3, bad: 0, deep: false },
@@ -70,8 +70,9 @@ pub fn script(kind: &Kind, seed: u64, lines: usize) -> Vec<u8> {
     let mut random = Random::from_seed(seed);
     let mut table = Table::fresh();
     let mut script = Vec::new();
-    for _ in 0..lines {
-        let good = good_line(kind, &table, &mut random);
+    for k in 0..lines {
+        let in_chain = kind.deep && k < DEEPEST as usize;
+        let good = if in_chain { format!("{k} clone new") } else { good_line(kind, &table, &mut random) };
         let bad = kind.bad != 0 && random.one_in(kind.bad);
         let line = if bad { bad_line(&good, &mut random) } else { good };
         run_line(&mut table, line.as_bytes());

@@ -1,40 +1,84 @@
-//! The benchmark's script: its generator and its seed are what is kept, and `facts` tells, from the text alone, what a
-//! script made of them has.
+//! The benchmark's scripts: their generator and their seeds are what is kept, and `facts` tells, from the text alone,
+//! what a script made of them has.
 
 use crate::random::Random;
 use reference::calls::Call;
 use reference::quick::is_sound;
 use reference::script::parse;
-use reference::table::{State, Table, PROCESSES};
+use reference::table::{Life, State, Table, DEEPEST, NAMESPACES, PROCESSES};
 
 pub const LINES: usize = 100_000;
 pub const LEAST_PROCESSES: usize = 60;
 pub const LEAST_GRANTED: usize = 1000;
-const SEED: u64 = 211;
+
+/// A script of the benchmark.
+pub struct Kept {
+    pub name: &'static str,
+    seed: u64,
+    /// no namespace lies deeper, and there are never more of them
+    deepest: u8,
+    namespaces: usize,
+    /// from the first line with a full table on a living namespace lies on this level
+    chain: u8,
+}
+
+/// The first keeps to the limits that the table had before W-206: a recorder of that time gives the same answers.
+pub const SCRIPTS: [Kept; 2] = [
+    Kept { name: "levels 0 to 7", seed: 211, deepest: 7, namespaces: 32, chain: 0 },
+    Kept { name: "a chain to level 32", seed: 206, deepest: DEEPEST, namespaces: NAMESPACES, chain: DEEPEST },
+];
 
 /// Fewer than so many running processes would make a table in which most calls are refused.
 const LEAST_RUNNING: usize = 24;
 
-/// The script: a first part that fills the table, then calls of every kind, never below 60 processes.
-pub fn script() -> Vec<u8> {
-    let mut random = Random::from_seed(SEED);
-    let mut table = Table::fresh();
-    let mut lines = Vec::new();
-    while table.each_process().count() < PROCESSES {
-        let line = filling_line(&table, &mut random);
-        play(&mut table, &line);
-        lines.push(line);
-    }
-    while lines.len() < LINES {
-        let line = any_line(&table, &mut random);
-        let mut next = table.clone();
-        let granted = play(&mut next, &line);
-        if is_busy(&next) && (granted || random.one_in(3)) {
-            table = next;
+impl Kept {
+    /// The script: a first part that fills the table, then calls of every kind, never below 60 processes.
+    pub fn script(&self) -> Vec<u8> {
+        let mut random = Random::from_seed(self.seed);
+        let mut table = Table::fresh();
+        let mut lines = Vec::new();
+        while table.each_process().count() < PROCESSES {
+            let line = self.filling_line(&table, &mut random);
+            play(&mut table, &line);
             lines.push(line);
         }
+        while lines.len() < LINES {
+            let line = any_line(&table, &mut random);
+            let oversteps = self.oversteps(&table, &line);
+            let mut next = table.clone();
+            let granted = !oversteps && play(&mut next, &line);
+            if self.is_busy(&next) && (granted || random.one_in(3)) && !oversteps {
+                table = next;
+                lines.push(line);
+            }
+        }
+        (lines.join("\n") + "\n").into_bytes()
     }
-    (lines.join("\n") + "\n").into_bytes()
+
+    /// The chain, and then a tree some levels deep.
+    fn filling_line(&self, t: &Table, random: &mut Random) -> String {
+        let count = t.each_process().count();
+        if count <= self.chain.into() {
+            return format!("{} clone new", count - 1);
+        }
+        let callers = count.min(24).max(self.chain.into());
+        let caller = if count < 4 { 0 } else { random.below(callers) };
+        let new = t.each_namespace().count() < 14 && random.one_in(3);
+        format!("{caller} clone{}", if new { " new" } else { "" })
+    }
+
+    /// A namespace more at a limit of the script's, where the table has room for it.
+    fn oversteps(&self, t: &Table, line: &str) -> bool {
+        let Some((caller, Call::CloneNew | Call::Unshare)) = parse(line.as_bytes()) else { return false };
+        let level = t.namespaces[t.processes[caller as usize].own as usize].level;
+        let full = t.each_namespace().count() == self.namespaces;
+        level == self.deepest && level < DEEPEST || full && self.namespaces < NAMESPACES
+    }
+
+    fn is_busy(&self, t: &Table) -> bool {
+        let running = t.each_process().filter(|(_, p)| p.state == State::Running).count();
+        t.each_process().count() >= LEAST_PROCESSES && running >= LEAST_RUNNING && deepest_living(t) >= self.chain
+    }
 }
 
 /// Runs a line; whether its call is granted.
@@ -42,17 +86,9 @@ fn play(table: &mut Table, line: &str) -> bool {
     parse(line.as_bytes()).is_some_and(|(slot, call)| table.step_after(is_sound, slot, call).is_ok())
 }
 
-fn is_busy(t: &Table) -> bool {
-    let running = t.each_process().filter(|(_, p)| p.state == State::Running).count();
-    t.each_process().count() >= LEAST_PROCESSES && running >= LEAST_RUNNING
-}
-
-/// A tree some levels deep.
-fn filling_line(t: &Table, random: &mut Random) -> String {
-    let count = t.each_process().count();
-    let caller = if count < 4 { 0 } else { random.below(count.min(24)) };
-    let new = t.each_namespace().count() < 14 && random.one_in(3);
-    format!("{caller} clone{}", if new { " new" } else { "" })
+/// The deepest level with a living namespace.
+fn deepest_living(t: &Table) -> u8 {
+    t.each_namespace().filter(|(_, s)| matches!(s.life, Life::Alive(_))).map(|(_, s)| s.level).max().unwrap_or(0)
 }
 
 fn any_line(t: &Table, random: &mut Random) -> String {
@@ -115,6 +151,8 @@ pub struct Facts {
     pub least: usize,
     pub most_namespaces: usize,
     pub deepest: u8,
+    /// the deepest level with a living namespace, where it is least, after the filling
+    pub chain: u8,
     /// how often each call was granted
     pub granted: [usize; 10],
     pub refused: usize,
@@ -125,11 +163,13 @@ pub const CALLS: [&str; 10] =
 
 impl Facts {
     /// Whether the script is what the benchmark asks for.
-    pub fn hold(&self) -> bool {
+    pub fn hold(&self, kept: &Kept) -> bool {
         self.lines == LINES
             && self.filling != 0
             && self.least >= LEAST_PROCESSES
             && self.granted.iter().all(|&granted| granted >= LEAST_GRANTED)
+            && (self.deepest, self.most_namespaces) == (kept.deepest, kept.namespaces)
+            && self.chain >= kept.chain
     }
 }
 
@@ -151,7 +191,7 @@ fn place_of(call: Call) -> usize {
 /// Plays a script and tells what it has. `visit` is shown the table before each line.
 pub fn facts(script: &[u8], mut visit: impl FnMut(&Table)) -> Facts {
     let mut table = Table::fresh();
-    let mut facts = Facts { least: PROCESSES, ..Facts::default() };
+    let mut facts = Facts { least: PROCESSES, chain: DEEPEST, ..Facts::default() };
     for line in script.split_inclusive(|&b| b == b'\n') {
         visit(&table);
         match parse(line.strip_suffix(b"\n").unwrap_or(line)) {
@@ -172,6 +212,7 @@ impl Facts {
         self.lines += 1;
         if self.filling != 0 {
             self.least = self.least.min(count);
+            self.chain = self.chain.min(deepest_living(t));
         } else if count == PROCESSES {
             self.filling = self.lines;
         }
