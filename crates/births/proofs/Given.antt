@@ -15,11 +15,12 @@ use Rattle.rules.specs.Births.{birth, newborn, new-pids}
 use Rattle.rules.specs.Calls.{new-namespace, own-level}
 use Rattle.table.specs.Limits.{levels}
 use Rattle.rules.specs.Pids.{next-pid, free-slot, free-namespace-slot}
-use Rattle.table.specs.Slots.{no-pid, pid-at, to-pid}
+use Rattle.table.specs.Slots.{no-pid, pid-at}
 use Rattle.rules.specs.Read.{View, view, taken, above-at}
 use Rattle.table.specs.Tests.{if_then_else_}
 use Rattle.table.specs.declared.Pid.{Pid}
 use Rattle.table.specs.declared.Table.{Table}
+use Rattle.table.specs.Records.{to-pid}
 
 pub birth-given : (t r : Table) (slot caller n : ℕ) → slot ≡ free-slot (view t) → r ≡ birth-at t slot caller n → r ≡ birth t caller n
 unfolding birth-at birth

@@ -17,7 +17,7 @@ use Rattle.table.proofs.MapLoops.{changed-length, changed-at, changed-none}
 use Rattle.rules.specs.Births.{new-pids, newborn, joined}
 use Rattle.table.specs.Limits.{levels, process-slots, namespace-slots}
 use Rattle.rules.specs.Pids.{next-pid}
-use Rattle.table.specs.Slots.{namespace, no-pid, no-process, no-namespace, to-pid, put}
+use Rattle.table.specs.Slots.{namespace, no-pid, no-process, no-namespace, put}
 use Rattle.rules.specs.Read.{View, view, below, climb, up-by, above-at}
 use Rattle.table.specs.Tests.{if_then_else_, changed-to}
 use Rattle.table.specs.declared.Life.{Life}
@@ -27,6 +27,11 @@ use Rattle.table.specs.declared.NsSlot.{NsSlot}
 use Rattle.table.specs.declared.Pid.{Pid}
 use Rattle.table.specs.declared.Process.{Process}
 use Rattle.table.specs.declared.Table.{Table}
+use Rattle.rules.proofs.Laws.ReadAt.{read-at}
+use Rattle.table.specs.Fresh.{empty-process}
+use Rattle.table.specs.Records.{to-pid}
+use Rattle.table.specs.Traits.{born-traits}
+use Rattle.table.specs.declared.Traits.{Traits}
 use Rattle.tree.specs.Tree.{slot-in}
 
 -- ---- the child's numbers
@@ -182,13 +187,13 @@ module _ (t : Table) (child n left at : ℕ) (ps : List Pid) (ns : List Namespac
 
 pub ruleset walks = (walk-starts, walk-goes-on)
 
--- p is the child's record and u the table with it
-pub walk-done : (t u : Table) (child caller n left at : ℕ) (ps : List Pid) (ns : List Namespace) (p : Process) → Walking t child n left at ps ns → left ≤ 0 → length (t .namespaces) ≡ namespace-slots → p ≡ child-with caller n ps → u ≡ put t child p → record { processes = u .processes; namespaces = ns } ≡ birth-at t child caller n
+-- o is the parent's record, x the child's traits, p its record, and u the table with it
+pub walk-done : (t u : Table) (child caller n left at : ℕ) (ps : List Pid) (ns : List Namespace) (o p : Process) (x : Traits) → Walking t child n left at ps ns → left ≤ 0 → length (t .namespaces) ≡ namespace-slots → o ≡ getD (t .processes) caller empty-process → x ≡ born-traits (o .traits) → p ≡ child-with caller n x ps → u ≡ put t child p → record { processes = u .processes; namespaces = ns } ≡ birth-at t child caller n
 unfolding birth-at newborn numbers-on joins-on
-walk-done t u child caller n left at ps ns p w h long e q =
+walk-done t u child caller n left at ps ns o p x w h long d y e q =
     let z : left ≡ 0 = omega arith in
     let a : ps ≡ new-pids (view t) n = sym (w .numbers ∙ ap (λ k. numbers-on (view t) k at ps) z) ∙ numbers-all (view t) n in
     let b : ns ≡ changed-to (joined (view t) child n) no-namespace namespace-slots (t .namespaces) =
     sym (w .joins ∙ ap (λ k. joins-on (view t) child k at ns) z) ∙ joins-all (view t) child n (t .namespaces) long in
     ap₂ (λ x y. record { processes = x; namespaces = y })
-    (ap (λ x. x .processes) q ∙ ap (λ x. set (t .processes) child x) (e ∙ ap (child-with caller n) a) ∙ sym (changed-none no-process process-slots _)) b
+    (ap (λ x. x .processes) q ∙ ap (λ x. set (t .processes) child x) (e ∙ ap₂ (child-with caller n) (y ∙ ap born-traits (read-at t caller o d .traits)) a) ∙ sym (changed-none no-process process-slots _)) b

@@ -11,6 +11,7 @@ use table::ProcSlot;
 use table::Process;
 use table::State;
 use table::Table;
+use table::Traits;
 use tree::parent_of;
 use tree::ups;
 ghost use mathlib.Core.Path.{_≡_};
@@ -20,17 +21,16 @@ ghost use Rattle.births.specs.Births.{birth-at, namespace-at, child-with
 
 // ---- one record
 
-// A child runs, its children's namespace is its own, signals are empty.
-fn newborn(caller: ProcSlot, n: NsSlot, pids: [Pid; LEVELS]) -> Process
-    ensures { λ r. ⌜ r ≡ child-with (caller .0) (n .0) pids ⌝ }
+// A child runs, its children's namespace is its own.
+fn newborn(caller: ProcSlot, n: NsSlot, traits: Traits, pids: [Pid; LEVELS]) -> Process
+    ensures { λ r. ⌜ r ≡ child-with (caller .0) (n .0) traits pids ⌝ }
 {
     Process {
         own: n,
         children: n,
         parent: caller,
         state: State::Running,
-        handled: 0,
-        pending: 0,
+        traits: traits,
         pids: pids,
     }
 }
@@ -98,7 +98,9 @@ pub fn birth(t: Table, slot: ProcSlot, caller: ProcSlot, n: NsSlot) -> Table
         namespaces = changed;
         at = parent_of(up, at);
     }
-    let mut u = t.with_process(slot, newborn(caller, n, pids));
+    let p = t.process(caller);
+    let traits = p.traits;
+    let mut u = t.with_process(slot, newborn(caller, n, traits.born(), pids));
     u.namespaces = namespaces;
     u
 }

@@ -10,7 +10,7 @@ use borrow.Author.Tests.{eq-eqb, lt-ltb}
 use denote.Array.{each}
 use denote.Laws.{Is}
 use denote.Shadow.{shadow}
-use lib.Dec.{eqb, ltb}
+use lib.Dec.{eqb}
 use lib.ListN.{getD, length}
 use mir.Val.{Val}
 use Rattle.rules.proofs.Laws.Facts.{Facts, facts}
@@ -19,6 +19,7 @@ use Rattle.table.proofs.Pid as K
 use Rattle.table.proofs.Process as P
 use Rattle.table.proofs.Slots.{length-mapped}
 use Rattle.table.proofs.Table as T
+use Rattle.table.proofs.Traits as X
 use Rattle.table.specs.Limits.{process-slots, namespace-slots, levels, signals}
 use Rattle.table.specs.Slots.{no-pid, no-process, process, pid-at}
 use Rattle.rules.specs.Read.{view}
@@ -27,6 +28,8 @@ use Rattle.table.specs.Tests.{_and_}
 use Rattle.table.specs.declared.Pid.{Pid}
 use Rattle.table.specs.declared.Process.{Process}
 use Rattle.table.specs.declared.Table.{Table}
+use Rattle.table.specs.Traits.{traits-shaped}
+use Rattle.table.specs.declared.Traits.{Traits}
 
 -- what holds of each element of an array, and of what lies past its end, holds at every place
 each-gives : {D X : Type 0} (into : X → D) (f : D → List Val → Fml) (Q : X → Type 0) → ((x : X) (u : Val) → shadow (f (into x) (u ∷ [])) → Q x) → (d : X) (xs : List X) (us : List Val) → shadow (each D f (map into xs) us) → (i : ℕ) → (length xs ≤ i → Q d) → Q (getD xs i d)
@@ -41,20 +44,22 @@ abbrev Fit : Process → Type 0
 Fit p = (l : ℕ) → pid-at p l < 65536
 
 abbrev Shaped : Process → Type 0
-Shaped p = So (eqb (length (p .pids)) levels and ltb (p .handled) (2 ^ signals) and ltb (p .pending) (2 ^ signals))
+Shaped p = So (eqb (length (p .pids)) levels and traits-shaped (p .traits))
+
+traits-fit : (x : Traits) (us : List Val) → shadow (X.the-field .row .own (X.the-field .into x) us) → So (traits-shaped x)
+unfolding traits-shaped
+traits-fit x us s = both _ _ (lt-ltb _ (2 ^ signals) (s .1 .1 .0 .1)) (lt-ltb _ (2 ^ signals) (s .1 .1 .1 .0 .1))
 
 module _ (p : Process) (u : Val) (s : shadow (P.the-field .row .own (P.the-field .into p) (u ∷ []))) where
   pids-fit : Fit p
   pids-fit l =
       each-gives (K.the-field .into) (K.the-field .row .own) (λ (k : Pid). k .0 < 65536) (λ k v a. a .1 .1 .0 .1) no-pid (p .pids) _
-      (s .1 .1 .1 .1 .1 .1 .1 .1 .0 .1 .1) l (λ h. omega arith)
+      (s .1 .1 .1 .1 .1 .1 .1 .0 .1 .1) l (λ h. omega arith)
 
   process-shaped : Shaped p
   process-shaped =
-      both _ _
-      (both _ _ (eq-eqb _ levels (length-mapped (K.the-field .into) (p .pids) levels (s .1 .1 .1 .1 .1 .1 .1 .1 .0 .1 .0 .1)))
-      (lt-ltb _ (2 ^ signals) (s .1 .1 .1 .1 .1 .1 .0 .1)))
-      (lt-ltb _ (2 ^ signals) (s .1 .1 .1 .1 .1 .1 .1 .0 .1))
+      both _ _ (eq-eqb _ levels (length-mapped (K.the-field .into) (p .pids) levels (s .1 .1 .1 .1 .1 .1 .1 .0 .1 .0 .1)))
+      (traits-fit (p .traits) _ (s .1 .1 .1 .1 .1 .1 .0))
 
 -- ---- a table: `is` is what a function knows of one that it is passed
 

@@ -2,19 +2,29 @@
 // the calls that only ask: getpid and getppid.
 use arguments::names_one;
 use arguments::natural_of;
+use outcomes::Verdict;
 use outcomes::answers;
+use outcomes::refuse_if;
+use table::DEEPEST;
 use table::Outcome;
 use table::PROCESS_SLOTS;
 use table::Pid;
 use table::ProcSlot;
+use table::Refusal;
 use table::Table;
 use tree::find;
 use tree::levels;
 use tree::pid_in;
 use tree::ups;
+ghost use Prim.Native.Nat.{_<_};
+ghost use mathlib.Core.Bool.{So};
 ghost use mathlib.Core.Path.{_≡_};
-ghost use Rattle.rules.specs.Calls.{own-level, elsewhere, named as named-in, getpid as getpid-of, getppid as getppid-of};
+ghost use Rattle.outcomes.specs.Verdicts.{verdict};
+ghost use Rattle.rules.specs.Calls.{own-level, elsewhere, making-refusals, named as named-in, getpid as getpid-of, getppid as getppid-of};
 ghost use Rattle.rules.specs.Read.{view};
+ghost use Rattle.rules.specs.Sound.{sound};
+ghost use Rattle.rules.specs.Step.{runs};
+ghost use Rattle.table.specs.Limits.{deepest};
 
 // The slot that says that a number names nobody.
 pub const NOBODY: u8 = PROCESS_SLOTS as u8;
@@ -35,6 +45,16 @@ pub fn is_elsewhere(t: Table, caller: ProcSlot) -> bool
 {
     let p = t.process(caller);
     p.children.0 != p.own.0
+}
+
+// Whether the caller may make a namespace, given its own level and whether there is no room: the refusals of clone new and of
+// unshare, the last one first.
+pub fn may_make(t: Table, caller: ProcSlot, level: u8, full: bool) -> Verdict
+    ensures { λ r. ⌜ ((level ≡ own-level (view t) (caller .0) → So (sound t) → So (runs (view t) (caller .0)) → r ≡ verdict (making-refusals (view t) (caller .0) full)) × (r ≡ Verdict.Granted → level < deepest)) ⌝ }
+{
+    let room = refuse_if(full, Refusal::Eagain, Verdict::Granted);
+    let deep = refuse_if(DEEPEST <= level, Refusal::Enospc, room);
+    refuse_if(is_elsewhere(t, caller), Refusal::Einval, deep)
 }
 
 // The slot of the process that a number names in the caller's namespace. Nobody has a number of 0 or below, or one

@@ -1,12 +1,13 @@
 // clone, plain and new: a child is born, if it is not refused, in document 01's order.
 use births::birth;
 use births::new_namespace;
-use callers::is_elsewhere;
+use callers::may_make;
 use callers::own_level;
 use numbers::next_pid;
+use outcomes::Verdict;
+use outcomes::refuse_if;
 use outcomes::refused;
 use table::Answer;
-use table::DEEPEST;
 use table::NAMESPACE_SLOTS;
 use table::Outcome;
 use table::PROCESS_SLOTS;
@@ -18,7 +19,8 @@ use tree::free_namespace_slot;
 use tree::free_slot;
 ghost use mathlib.Core.Bool.{So};
 ghost use mathlib.Core.Path.{_≡_};
-ghost use Rattle.rules.specs.Calls.{born as born-of, clone as clone-of, clone-new as clone-new-of};
+ghost use Rattle.outcomes.specs.Verdicts.{verdict};
+ghost use Rattle.rules.specs.Calls.{born as born-of, clone-refusals, clone as clone-of, clone-new as clone-new-of};
 ghost use Rattle.rules.specs.Pids.{free-slot};
 ghost use Rattle.rules.specs.Read.{view};
 ghost use Rattle.rules.specs.Sound.{sound};
@@ -46,19 +48,25 @@ fn born(t: Table, caller: ProcSlot, slot: ProcSlot, u: Table) -> Outcome
     }
 }
 
+// Whether the caller may bear a child, at the slot that was found free: the last refusal first.
+fn may_clone(t: Table, caller: ProcSlot, slot: ProcSlot) -> Verdict
+    ensures { λ r. ⌜ (slot .0 ≡ free-slot (view t) → r ≡ verdict (clone-refusals (view t) (caller .0))) ⌝ }
+{
+    let p = t.process(caller);
+    let home = t.namespace(p.children);
+    let room = refuse_if(slot.0 == FULL, Refusal::Eagain, Verdict::Granted);
+    refuse_if(home.is_dead(), Refusal::Enomem, room)
+}
+
 pub fn clone(t: Table, caller: ProcSlot) -> Outcome
     ensures { λ r. ⌜ r ≡ clone-of t (caller .0) ⌝ }
 {
     let p = t.process(caller);
     let n = p.children;
-    let home = t.namespace(n);
-    let dead = home.is_dead();
     let slot = free_slot(t);
-    if dead {
-        return refused(t, Refusal::Enomem);
-    }
-    if slot.0 == FULL {
-        return refused(t, Refusal::Eagain);
+    let verdict = may_clone(t, caller, slot);
+    if let Verdict::Refused(why) = verdict {
+        return refused(t, why);
     }
     born(t, caller, slot, birth(t, slot, caller, n))
 }
@@ -66,21 +74,13 @@ pub fn clone(t: Table, caller: ProcSlot) -> Outcome
 pub fn clone_new(t: Table, caller: ProcSlot) -> Outcome
     ensures { λ r. ⌜ (So (sound t) → So (runs (view t) (caller .0)) → r ≡ clone-new-of t (caller .0)) ⌝ }
 {
-    let elsewhere = is_elsewhere(t, caller);
     let level = own_level(t, caller);
     let slot = free_slot(t);
-    if elsewhere {
-        return refused(t, Refusal::Einval);
-    }
-    if DEEPEST <= level {
-        return refused(t, Refusal::Enospc);
-    }
-    if slot.0 == FULL {
-        return refused(t, Refusal::Eagain);
-    }
     let n = free_namespace_slot(t);
-    if n.0 == NAMESPACES_FULL {
-        return refused(t, Refusal::Eagain);
+    let full = (slot.0 == FULL) | (n.0 == NAMESPACES_FULL);
+    let verdict = may_make(t, caller, level, full);
+    if let Verdict::Refused(why) = verdict {
+        return refused(t, why);
     }
     let p = t.process(caller);
     let own = p.own;

@@ -17,7 +17,6 @@ use Rattle.table.specs.Fresh.{empty-process}
 use Rattle.table.specs.Limits.{process-slots}
 use Rattle.table.specs.Slots.{process, namespace, init-of, put}
 use Rattle.rules.specs.Read.{View, view, is-init, living}
-use Rattle.rules.specs.Records.{with-state}
 use Rattle.table.specs.Tests.{_and_, _or_}
 use Rattle.table.specs.declared.Action.{Action}
 use Rattle.table.specs.declared.Action.the-variants.{Nothing, Resume, Stop, Finish, Pend}
@@ -26,6 +25,8 @@ use Rattle.table.specs.declared.Namespace.{Namespace}
 use Rattle.table.specs.declared.Process.{Process}
 use Rattle.table.specs.declared.State.the-variants.{Stopped}
 use Rattle.table.specs.declared.Table.{Table}
+use Rattle.table.specs.Records.{with-state}
+use Rattle.table.specs.declared.Traits.{Traits}
 use Rattle.delivery.specs.Actions.{lives, action-by}
 use Rattle.delivery.specs.Delivery.{act-by, deliver-by, Delivers}
 
@@ -38,12 +39,12 @@ init-read t i k p s e q h =
     ap (λ m. eqb m i) (h ∙ ap (λ (x : Namespace). init-of (x .life)) q ∙ ap (λ m. init-of (namespace t m .life)) (read-at t i p e .own))
 
 -- what is read of the target decides; r is what the tests on the way came to
-pub action-read : (v : View) (i : ℕ) (p : Process) (b : Bool) (from s : ℕ) (r : Action) → r ≡ action-by (lives p) b (p .own .0) (p .handled) from s → ReadAt v i p → b ≡ is-init v i → r ≡ action-on v from i s
+pub action-read : (v : View) (i : ℕ) (p : Process) (b : Bool) (from s : ℕ) (r : Action) → r ≡ action-by (lives p) b (p .own .0) (p .traits .handled) from s → ReadAt v i p → b ≡ is-init v i → r ≡ action-on v from i s
 unfolding action-on living
 action-read v i p b from s r q at e =
     q
-    ∙ ap₂ (λ (l c : Bool). action-by l c (p .own .0) (p .handled) from s) (ap₂ (λ (x y : Bool). x and not y) (at .taken) (at .ended)) e
-    ∙ ap₂ (λ (o h : ℕ). action-by (living v i) (is-init v i) o h from s) (at .own) (at .handled)
+    ∙ ap₂ (λ (l c : Bool). action-by l c (p .own .0) (p .traits .handled) from s) (ap₂ (λ (x y : Bool). x and not y) (at .taken) (at .ended)) e
+    ∙ ap₂ (λ (o h : ℕ). action-by (living v i) (is-init v i) o h from s) (at .own) (ap (λ (x : Traits). x .handled) (at .traits))
 
 -- only a process that lives is ended
 finish-lives : (v : View) (from i s : ℕ) → action-on v from i s ≡ Finish → So (living v i)

@@ -9,12 +9,12 @@ use Rattle.rules.proofs.Laws.Facts.{Facts, Sane}
 use Rattle.rules.specs.Delivery.{action-on, resumed, with-pending, deliver, deliver-all}
 use Rattle.table.specs.Slots.{process, put}
 use Rattle.rules.specs.Read.{view}
-use Rattle.rules.specs.Records.{with-state}
 use Rattle.table.specs.declared.Action.{Action}
 use Rattle.table.specs.declared.Action.the-variants.{Nothing, Resume, Stop, Finish, Pend}
 use Rattle.table.specs.declared.End.the-variants.{Signaled}
 use Rattle.table.specs.declared.State.the-variants.{Stopped}
 use Rattle.table.specs.declared.Table.{Table}
+use Rattle.table.specs.Records.{with-state}
 
 -- ---- to one
 

@@ -28,9 +28,9 @@ ghost use Rattle.rules.specs.Calls.{others as others-of};
 ghost use Rattle.rules.specs.Delivery.{action-on as action-in, resumed as as-resumed, with-pending as as-pending};
 ghost use Rattle.table.specs.Limits.{signals, process-slots};
 ghost use Rattle.rules.specs.Read.{View, view, is-init as is-init-in};
-ghost use Rattle.rules.specs.Records.{with-state};
 ghost use Rattle.table.specs.Tests.{_or_, insert};
 ghost use Rattle.table.specs.declared.State.the-variants.{Stopped};
+ghost use Rattle.table.specs.Records.{with-state};
 ghost use Rattle.tree.specs.Tree.{slot-in, level-in};
 ghost use Rattle.delivery.specs.Actions.{lives, is-forced, forced-by, plain-by};
 ghost use Rattle.delivery.specs.Delivery.{Delivers, DeliversAll};
@@ -71,9 +71,9 @@ fn forced_action(p: Process, init: bool, from: NsSlot, s: u8) -> Action
 
 // A signal that can be handled. Unhandled, it does nothing to an init.
 fn plain_action(p: Process, init: bool, s: u8) -> Action
-    ensures { λ r. ⌜ r ≡ plain-by init (p .handled) s ⌝ }
+    ensures { λ r. ⌜ r ≡ plain-by init (p .traits .handled) s ⌝ }
 {
-    if has_signal(p.handled, s) {
+    if has_signal(p.traits.handled, s) {
         return Action::Pend;
     }
     if init {
@@ -120,7 +120,8 @@ fn with_pending(mut p: Process, s: u8) -> Process
     requires { ⌜ s < signals ⌝ }
     ensures { λ r. ⌜ r ≡ as-pending p s ⌝ }
 {
-    p.pending = with_signal(p.pending, s);
+    let x = p.traits;
+    p.traits = x.with_signals(x.handled, with_signal(x.pending, s));
     p
 }
 
@@ -134,7 +135,7 @@ fn resumed(p: Process) -> Process
         pids: pids,
         ..p
     };
-    if has_signal(p.handled, SIGCONT) {
+    if has_signal(p.traits.handled, SIGCONT) {
         return with_pending(q, SIGCONT);
     }
     q

@@ -21,13 +21,13 @@ use Rattle.table.specs.Fresh.{empty-process}
 use Rattle.table.specs.Limits.{deepest, namespace-slots, process-slots}
 use Rattle.table.specs.Slots.{process, namespace, pid-at, no-process, no-namespace, is-ended, is-dead, init-of, put, changed}
 use Rattle.rules.specs.Read.{View, view, init, is-init, taken, child-of, seen, below, climb}
-use Rattle.rules.specs.Records.{as-ended, with-life}
 use Rattle.table.specs.Tests.{_and_, if_then_else_, changed-to}
 use Rattle.table.specs.declared.End.{End}
 use Rattle.table.specs.declared.Life.the-variants.{Dead}
 use Rattle.table.specs.declared.Namespace.{Namespace}
 use Rattle.table.specs.declared.Process.{Process}
 use Rattle.table.specs.declared.Table.{Table}
+use Rattle.table.specs.Records.{as-ended, with-life}
 use Rattle.ending.proofs.Falling.{Step, Down, namespace-falls, ended-stays, dead-stays, killed-keeps}
 use Rattle.ending.specs.Ending.{killed, end-namespace, once-swept, swept, end-init, once-handed, handed-over, end-process, Ends}
 

@@ -23,13 +23,13 @@ use Rattle.table.proofs.MapLoops.{changed-length, changed-at}
 use Rattle.table.specs.Limits.{deepest, namespace-slots, process-slots}
 use Rattle.table.specs.Slots.{process, namespace, pid-at, no-process, no-namespace, is-ended, is-unborn, is-alive, is-dead, init-of, put}
 use Rattle.rules.specs.Read.{View, view, alive, dead, unborn, init, taken, namespace-taken}
-use Rattle.rules.specs.Records.{as-ended, with-life}
 use Rattle.table.specs.Tests.{_and_, _or_, if_then_else_}
 use Rattle.table.specs.declared.Life.{Life}
 use Rattle.table.specs.declared.Life.the-variants.{Unborn, Alive, Dead}
 use Rattle.table.specs.declared.Namespace.{Namespace}
 use Rattle.table.specs.declared.Process.{Process}
 use Rattle.table.specs.declared.Table.{Table}
+use Rattle.table.specs.Records.{as-ended, with-life}
 use Rattle.ending.proofs.Members.{turn, lower, member-is, namespace-is}
 use Rattle.ending.specs.Ending.{killed, dies-with, once-dead, marked-dead, falls-with, end-member-by, end-member, end-namespace}
 

@@ -21,26 +21,27 @@ use Rattle.rules.specs.Freeing.{kept, freed}
 use Rattle.table.specs.Fresh.{empty-namespace}
 use Rattle.table.specs.Limits.{namespace-slots, process-slots}
 use Rattle.table.specs.Slots.{process, namespace, no-process, no-namespace, is-unborn}
-use Rattle.rules.specs.Read.{View, view, taken, below, climb}
+use Rattle.rules.specs.Read.{View, view, taken, below, climb, children}
 use Rattle.table.specs.Tests.{_and_, _or_, if_then_else_, any}
 use Rattle.table.specs.declared.Life.{Life}
 use Rattle.table.specs.declared.Life.the-variants.{Unborn, Alive, Dead}
 use Rattle.table.specs.declared.Namespace.{Namespace}
 use Rattle.table.specs.declared.Table.{Table}
 use Rattle.ending.specs.Holding.{mark-at, with-marks, marks-of, kept-for, keeps, is-blank, once-freed}
+use Rattle.rules.proofs.Laws.OneHold.{kept-one}
 
 -- ---- the marks
 
 -- i holds m
 abbrev holder : Table → ℕ → ℕ → Bool
-holder t m i = (taken (view t) i and eqb (view t .own i) m) or (taken (view t) i and eqb (view t .children i) m)
+holder t m i = (taken (view t) i and eqb (view t .own i) m) or (taken (view t) i and eqb (children (view t) i) m)
 
 -- a mark says whether some process holds the namespace
 says-held : (t : Table) (m : ℕ) → m < namespace-slots → mark-at (marks-of t) m ≡ any process-slots (holder t m)
 unfolding marks-of with-marks taken
 says-held t =
     marked-alone namespace-slots (λ i l. with-marks (process t i) l) (λ i m. holder t m i)
-    (λ i. marks-if namespace-slots (taken (view t) i) (view t .own i) (view t .children i)) process-slots .says
+    (λ i. marks-if namespace-slots (taken (view t) i) (view t .own i) (children (view t) i)) process-slots .says
 
 -- ---- who is kept
 
@@ -58,13 +59,14 @@ module _ (t : Table) (count : length (t .namespaces) ≡ namespace-slots) where
           absurd (omega (arith, shallow-below v a n (ap (λ (x : Namespace). x .level) (List·getD-eq-default (t .namespaces) no-namespace {n = a} (omega arith))) b))
 
   pub kept-is : (n : ℕ) → n < namespace-slots → kept-for (v .up) (v .level) (mark-at (marks-of t)) n ≡ kept v n
-  unfolding kept-for keeps kept below
+  unfolding kept-for keeps below
   kept-is n h =
       bool-ext _ _
       (λ k. ⊎-elim (λ (z : So (eqb n 0)). or-left _ _ z) (λ (a : _). or-right (eqb n 0) _ (by-holder a)) (cases (eqb n 0) _ k))
       (λ k. ⊎-elim (λ (z : So (eqb n 0)). or-left _ _ z) (λ (a : _). or-right (eqb n 0) _ (by-mark a)) (cases (eqb n 0) _ k))
+      ∙ sym (kept-one v n)
     where
-      by-holder : So (any namespace-slots (λ m. mark-at (marks-of t) m and climb (v .up) (v .level m) m n)) → So (any process-slots (λ i. taken v i and (climb (v .up) (v .level (v .own i)) (v .own i) n or climb (v .up) (v .level (v .children i)) (v .children i) n)))
+      by-holder : So (any namespace-slots (λ m. mark-at (marks-of t) m and climb (v .up) (v .level m) m n)) → So (any process-slots (λ i. taken v i and (climb (v .up) (v .level (v .own i)) (v .own i) n or climb (v .up) (v .level (children v i)) (children v i) n)))
       by-holder a =
           let (m, l, k) = any-elim _ _ a in
           let (i, b, c) = any-elim process-slots (holder t m) (sym (says-held t m l) ∙ left _ _ k) in
@@ -72,7 +74,7 @@ module _ (t : Table) (count : length (t .namespaces) ≡ namespace-slots) where
           (⊎-elim
           (λ (o : So (taken v i and eqb (v .own i) m)).
           both _ _ (left _ _ o) (or-left _ _ (subst (λ x. So (climb (v .up) (v .level x) x n)) (sym (eqb-true _ m (right _ _ o))) (right _ _ k))))
-          (λ (o : So (taken v i and eqb (v .children i) m)).
+          (λ (o : So (taken v i and eqb (children v i) m)).
           both _ _ (left _ _ o) (or-right (climb (v .up) (v .level (v .own i)) (v .own i) n) _ (subst (λ x. So (climb (v .up) (v .level x) x n)) (sym (eqb-true _ m (right _ _ o))) (right _ _ k))))
           (cases _ _ c))
 
@@ -82,14 +84,14 @@ module _ (t : Table) (count : length (t .namespaces) ≡ namespace-slots) where
           let s = slot-below m n h b in
           any-intro namespace-slots _ m s (both _ _ (says-held t m s ∙ any-intro process-slots (holder t m) i l o) b)
 
-      by-mark : So (any process-slots (λ i. taken v i and (climb (v .up) (v .level (v .own i)) (v .own i) n or climb (v .up) (v .level (v .children i)) (v .children i) n))) → So (any namespace-slots (λ m. mark-at (marks-of t) m and climb (v .up) (v .level m) m n))
+      by-mark : So (any process-slots (λ i. taken v i and (climb (v .up) (v .level (v .own i)) (v .own i) n or climb (v .up) (v .level (children v i)) (children v i) n))) → So (any namespace-slots (λ m. mark-at (marks-of t) m and climb (v .up) (v .level m) m n))
       by-mark a =
           let (i, l, k) = any-elim _ _ a in
           ⊎-elim
           (λ (b : So (climb (v .up) (v .level (v .own i)) (v .own i) n)).
           held-below i (v .own i) l (or-left _ _ (both _ _ (left _ _ k) (eq-eqb (v .own i) (v .own i) refl))) b)
-          (λ (b : So (climb (v .up) (v .level (v .children i)) (v .children i) n)).
-          held-below i (v .children i) l (or-right (taken v i and eqb (v .own i) (v .children i)) _ (both _ _ (left _ _ k) (eq-eqb (v .children i) (v .children i) refl))) b)
+          (λ (b : So (climb (v .up) (v .level (children v i)) (children v i) n)).
+          held-below i (children v i) l (or-right (taken v i and eqb (v .own i) (children v i)) _ (both _ _ (left _ _ k) (eq-eqb (children v i) (children v i) refl))) b)
           (cases _ _ (right _ _ k))
 
 -- ---- the pass

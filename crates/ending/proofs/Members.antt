@@ -12,12 +12,12 @@ use Rattle.table.proofs.FoldLoops.{turns, Turned, fold-done}
 use Rattle.table.specs.Fresh.{empty-process}
 use Rattle.table.specs.Limits.{deepest, process-slots}
 use Rattle.table.specs.Slots.{process, pid-at, no-namespace, is-ended, init-of, put}
-use Rattle.rules.specs.Records.{as-ended, with-parent}
 use Rattle.table.specs.Tests.{_and_, if_then_else_}
 use Rattle.table.specs.declared.End.{End}
 use Rattle.table.specs.declared.Namespace.{Namespace}
 use Rattle.table.specs.declared.Process.{Process}
 use Rattle.table.specs.declared.Table.{Table}
+use Rattle.table.specs.Records.{with-parent, as-ended}
 use Rattle.ending.specs.Ending.{killed, falls-with, end-member-by, member-turn, end-namespace, end-member, marked-dead, once-swept, swept, end-init, once-handed}
 
 -- ---- small steps from what the code has

@@ -14,7 +14,6 @@ use Rattle.table.specs.Fresh.{empty-process}
 use Rattle.table.specs.Limits.{deepest, namespace-slots, process-slots, sigkill}
 use Rattle.table.specs.Slots.{process, namespace, pid-at, no-process, no-namespace, is-ended, is-unborn, init-of, put}
 use Rattle.rules.specs.Read.{view, living, seen}
-use Rattle.rules.specs.Records.{as-ended, with-life, with-parent}
 use Rattle.table.specs.Tests.{_and_, _or_, if_then_else_, changed-to}
 use Rattle.table.specs.declared.End.{End}
 use Rattle.table.specs.declared.End.the-variants.{Signaled}
@@ -22,6 +21,7 @@ use Rattle.table.specs.declared.Life.the-variants.{Dead}
 use Rattle.table.specs.declared.Namespace.{Namespace}
 use Rattle.table.specs.declared.Process.{Process}
 use Rattle.table.specs.declared.Table.{Table}
+use Rattle.table.specs.Records.{with-parent, as-ended, with-life}
 
 -- ---- a namespace and its members
 

@@ -26,8 +26,8 @@ ghost use lib.ListN.{getD, set};
 ghost use Rattle.rules.specs.Freeing.{freed};
 ghost use Rattle.table.specs.Limits.{process-slots};
 ghost use Rattle.table.specs.Slots.{no-namespace};
+ghost use Rattle.table.specs.Records.{as-ended};
 ghost use Rattle.rules.specs.Read.{view, seen as seen-in};
-ghost use Rattle.rules.specs.Records.{as-ended};
 ghost use Rattle.tree.specs.Tree.{slot-in, level-in};
 ghost use Rattle.ending.specs.Ending.{killed as killed-by-9, dies-with, once-dead, marked-dead, falls-with, end-member, end-namespace, once-swept, swept, end-init, once-handed, handed-over, Ends};
 ghost use Rattle.ending.specs.Holding.{mark-at, with-marks, marks-of, kept-for, is-blank, once-freed};
@@ -38,17 +38,15 @@ ghost use Rattle.ending.specs.Holding.{mark-at, with-marks, marks-of, ke
 fn ended(p: Process, how: End) -> Process
     ensures { λ r. ⌜ r ≡ as-ended p how ⌝ }
 {
-    let own = p.own;
-    let parent = p.parent;
     let pids = p.pids;
+    let traits = p.traits;
+    let left = traits.ended();
     Process {
-        own: own,
         children: NsSlot(NO_SLOT),
-        parent: parent,
         state: State::Ended(how),
-        handled: 0,
-        pending: 0,
+        traits: left,
         pids: pids,
+        ..p
     }
 }
 

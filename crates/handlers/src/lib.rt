@@ -1,7 +1,9 @@
 // handle and poll: what a process does with its signals.
 use arguments::cannot_handle;
 use arguments::signal_of;
+use outcomes::Verdict;
 use outcomes::answers;
+use outcomes::refuse_if;
 use outcomes::refused;
 use signals::lowest_signal;
 use signals::with_signal;
@@ -14,7 +16,8 @@ use table::SIGNALS;
 use table::Table;
 ghost use mathlib.Core.Path.{_≡_};
 ghost use Prim.Native.Nat.{_<_};
-ghost use Rattle.rules.specs.Calls.{handle-on, handle-off, handle as handle-of, poll as poll-of};
+ghost use Rattle.outcomes.specs.Verdicts.{verdict};
+ghost use Rattle.rules.specs.Calls.{handle-on, handle-off, handle-refusals, handle as handle-of, poll as poll-of};
 ghost use Rattle.table.specs.Limits.{signals};
 ghost use Rattle.table.specs.Tests.{if_then_else_};
 
@@ -23,27 +26,27 @@ fn handling(p: Process, s: u8, on: bool) -> Process
     requires { ⌜ s < signals ⌝ }
     ensures { λ r. ⌜ r ≡ (if on then handle-on p s else handle-off p s) ⌝ }
 {
+    let x = p.traits;
     if on {
-        let handled = with_signal(p.handled, s);
-        return Process {
-            handled: handled,
-            ..p
-        };
+        let y = x.with_signals(with_signal(x.handled, s), x.pending);
+        return Process { traits: y, ..p };
     }
-    let handled = without_signal(p.handled, s);
-    let pending = without_signal(p.pending, s);
-    Process {
-        handled: handled,
-        pending: pending,
-        ..p
-    }
+    let y = x.with_signals(without_signal(x.handled, s), without_signal(x.pending, s));
+    Process { traits: y, ..p }
+}
+
+fn may_handle(s: i32) -> Verdict
+    ensures { λ r. ⌜ r ≡ verdict (handle-refusals s) ⌝ }
+{
+    refuse_if(cannot_handle(s), Refusal::Einval, Verdict::Granted)
 }
 
 pub fn handle(t: Table, caller: ProcSlot, s: i32, on: bool) -> Outcome
     ensures { λ r. ⌜ r ≡ handle-of t (caller .0) s on ⌝ }
 {
-    if cannot_handle(s) {
-        return refused(t, Refusal::Einval);
+    let verdict = may_handle(s);
+    if let Verdict::Refused(why) = verdict {
+        return refused(t, why);
     }
     let p = t.process(caller);
     let q = handling(p, signal_of(s), on);
@@ -54,11 +57,12 @@ pub fn poll(t: Table, caller: ProcSlot) -> Outcome
     ensures { λ r. ⌜ r ≡ poll-of t (caller .0) ⌝ }
 {
     let p = t.process(caller);
-    let s = lowest_signal(p.pending);
+    let x = p.traits;
+    let s = lowest_signal(x.pending);
     if s == SIGNALS {
         return answers(t, 0);
     }
-    let rest = without_signal(p.pending, s);
-    let q = Process { pending: rest, ..p };
+    let y = x.with_signals(x.handled, without_signal(x.pending, s));
+    let q = Process { traits: y, ..p };
     answers(t.with_process(caller, q), s as u16)
 }

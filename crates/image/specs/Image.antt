@@ -63,8 +63,7 @@ process-from ws k =
       children = record { 0 = byte-at ws (k + 1) };
       parent = record { 0 = byte-at ws (k + 2) };
       state = state-from (byte-at ws (k + 3)) (byte-at ws (k + 4));
-      handled = getD ws (k + 5) 0;
-      pending = getD ws (k + 6) 0;
+      traits = record { handled = getD ws (k + 5) 0; pending = getD ws (k + 6) 0 };
       pids = pids-from ws (k + 7);
     }
 

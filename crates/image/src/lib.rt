@@ -11,11 +11,12 @@ use table::ProcSlot;
 use table::Process;
 use table::State;
 use table::Table;
+use table::Traits;
 use table::empty_namespace;
 use table::empty_process;
 ghost use Prim.Native.Nat.{_+_, _≤_, _<_};
 ghost use mathlib.Core.Path.{_≡_};
-ghost use lib.ListN.{length};
+ghost use lib.ListN.{getD};
 ghost use Rattle.image.specs.Image.{image-words, process-words, namespace-words, byte-at, pid-at-word, state-from, life-from, pids-from, process-from, namespace-from, processes-from, namespaces-from, table-from};
 ghost use Rattle.table.specs.Limits.{levels};
 
@@ -27,12 +28,20 @@ const NAMESPACES_AT: usize = PROCESS_SLOTS * PROCESS_WORDS;
 
 pub const IMAGE_WORDS: usize = NAMESPACES_AT + NAMESPACE_SLOTS * NAMESPACE_WORDS;
 
+// The word at k.
+fn word(words: &[u32], k: usize) -> u32
+    requires { do ⌜ k < (← ⟦words.len()⟧) ⌝ }
+    ensures { λ r. ⌜ r ≡ getD (now (words .entry)) k 0 ⌝ }
+{
+    words[k]
+}
+
 // The low 8 bits of a word.
 fn byte(words: &[u32], k: usize) -> u8
     requires { do ⌜ k < (← ⟦words.len()⟧) ⌝ }
     ensures { λ r. ⌜ r ≡ byte-at (now (words .entry)) k ⌝ }
 {
-    (words[k] % 256) as u8
+    (word(words, k) % 256) as u8
 }
 
 // The low 16 bits of a word.
@@ -40,7 +49,8 @@ fn pid(words: &[u32], k: usize) -> Pid
     requires { do ⌜ k < (← ⟦words.len()⟧) ⌝ }
     ensures { λ r. ⌜ r ≡ pid-at-word (now (words .entry)) k ⌝ }
 {
-    Pid((words[k] % 65536) as u16)
+    let low = (word(words, k) % 65536) as u16;
+    Pid(low)
 }
 
 fn state(kind: u8, value: u8) -> State
@@ -92,13 +102,16 @@ fn process(words: &[u32], k: usize) -> Process
     let children = NsSlot(byte(words, k + 1));
     let parent = ProcSlot(byte(words, k + 2));
     let state = state(byte(words, k + 3), byte(words, k + 4));
+    let traits = Traits {
+        handled: word(words, k + 5),
+        pending: word(words, k + 6),
+    };
     Process {
         own,
         children,
         parent,
         state,
-        handled: words[k + 5],
-        pending: words[k + 6],
+        traits,
         pids: pids(words, k + 7),
     }
 }

@@ -1,11 +1,11 @@
 -- kill: a signal to one or to many.
 use Prim.Native.Nat.{ℕ, _<_}
-use native.Mathlib.Omega.{arith}
 use mathlib.Core.Bool.{Bool, true, false, not, So}
 use mathlib.Core.List.{List, [], _∷_}
-use mathlib.Core.Path.{_≡_, refl, sym, ap, ap₂, subst, _∙_}
-use borrow.Author.Tests.{eq-eqb, ne-eqb}
+use mathlib.Core.Path.{_≡_, refl, sym, ap, ap₂, subst, subst₂, _∙_}
+use borrow.Author.Tests.{not-false}
 use denote.Laws.{Is}
+use lib.Dec.{eqb}
 use lib.IntN.{ℤ, negsuc}
 use lib.ListN.{getD, length}
 use mir.Syntax.{w32}
@@ -14,121 +14,151 @@ use mir.ValLaws.{toZ-ofZ}
 use Rattle.arguments.proofs.Named.{targets-everyone, targets-one, within-below}
 use Rattle.arguments.specs.Arguments.{names-everyone}
 use Rattle.callers.proofs.Fits.{sound-table}
-use Rattle.kills.specs.Kills.{sends, named-only}
 use Rattle.delivery.proofs.Kills.{kills-one, kills-others}
 use Rattle.delivery.specs.Delivery.{Delivers, DeliversAll}
 use Rattle.delivery.specs.Targets.{Lists, listed}
 use Rattle.delivery.specs.declared.Targets.{Targets}
-use Rattle.table.proofs.Chains.{if-yes, if-no, pick-yes, pick-no, not-no, not-yes, told-not, told-yes}
+use Rattle.kills.specs.Kills.{sends}
+use Rattle.outcomes.proofs.Verdicts.{judged-grants, judged-refuses, none-holds, one-more, one-more-where, passed}
+use Rattle.outcomes.specs.Verdicts.{verdict}
+use Rattle.outcomes.specs.declared.Verdict.the-variants.{Granted, Refused}
+use Rattle.outcomes.specs.declared.Verdict.{Verdict}
+use Rattle.table.proofs.Chains.{pick-no}
+use Rattle.rules.proofs.Laws.Judged.{None}
 use Rattle.rules.proofs.Laws.ReadAt.{read-at}
 use Rattle.table.proofs.Table as T
 use Rattle.rules.specs.Answers.{refused, answers}
-use Rattle.rules.specs.Calls.{within, natural, named, others, targets, names-group, kill}
+use Rattle.rules.specs.Calls.{within, natural, named, others, targets, names-group, kill-refusals, kill-gives, kill}
+use Rattle.rules.specs.Claims.{place}
 use Rattle.rules.specs.Delivery.{deliver-all}
 use Rattle.rules.specs.Freeing.{freed}
 use Rattle.table.specs.Fresh.{empty-process}
 use Rattle.table.specs.Limits.{process-slots, signals}
-use Rattle.rules.specs.Read.{view}
+use Rattle.rules.specs.Read.{View, view}
 use Rattle.rules.specs.Sound.{sound}
+use Rattle.table.specs.Tests.{if_then_else_}
 use Rattle.table.specs.declared.Outcome.{Outcome}
 use Rattle.table.specs.declared.Process.{Process}
 use Rattle.table.specs.declared.Refusal.the-variants.{Einval, Enosys, Esrch}
+use Rattle.table.specs.declared.Refusal.{Refusal}
 use Rattle.table.specs.declared.Table.{Table}
 
--- ---- what is sent
+-- ---- the verdict: x is what `names_group` gives of the first argument, n, y what `is_signal` gives of the second, z, and
+-- nobody whether none was found
 
-module _ (t : Table) (c s : ℕ) (found : List ℕ) (r : Outcome) where
-  pub sends-nobody : length found ≡ 0 → r ≡ refused t Esrch → r ≡ sends t c found s
+module _ (n z : ℤ) (fits-n : SFits w32 n) (fits : SFits w32 z) (nobody x y : Bool) (a b r : Verdict) (e : x ≡ names-group (toZ w32 (ofZ w32 n))) (d : y ≡ within 0 signals (toZ w32 (ofZ w32 z))) (last : a ≡ (if nobody then Refused Esrch else Granted)) (group : b ≡ (if x then Refused Enosys else a)) (all : r ≡ (if not y then Refused Einval else b)) where
+  signal : y ≡ within 0 signals z
+  signal = d ∙ ap (within 0 signals) (toZ-ofZ w32 z fits)
+
+  pub may-kill-is : (v : View) (c : ℕ) → (names-group n ≡ false → nobody ≡ eqb (length (targets v c n)) 0) → r ≡ verdict (kill-refusals v c n z)
+  may-kill-is v c k =
+      one-more Einval _ _ b _ r all (ap not signal)
+      (one-more-where Enosys x _ a _ b group (e ∙ ap names-group (toZ-ofZ w32 n fits-n))
+      (λ o. one-more Esrch nobody _ Granted _ a last (k o) refl))
+
+  pub may-kill-low : r ≡ Granted → natural z < signals
+  may-kill-low g = within-below 0 signals z (sym signal ∙ not-false y (passed Einval (not y) b r all g .0))
+
+-- ---- what is sent: p is the process read at the caller's slot, u the table after the deliveries, and w without what nobody
+-- holds
+
+module _ (t : Table) (c k : ℕ) (p : Process) (u w : Table) (r : Outcome) (vs : List Val) (is : Is T.the-row t vs) (d : p ≡ getD (t .processes) c empty-process) (f : w ≡ freed u) (a : r ≡ answers w 0) where
+  own : p .own .0 ≡ view t .own c
+  own = read-at t c p d .own
+
+  pub sent-one : (i : ℕ) → Delivers t (p .own .0) i k u → So (sound t) → r ≡ sends t c (i ∷ []) k
   unfolding sends
-  sends-nobody h a = if-yes _ _ _ _ (eq-eqb _ 0 h) a
+  sent-one i y h =
+      a ∙ ap (λ x. answers x 0) (f ∙ ap freed (kills-one t (p .own .0) i k u (sound-table t vs is h) y ∙ ap (λ b. deliver-all t b (i ∷ []) k) own))
 
-  -- u is the table after the deliveries, and w without what nobody holds
-  pub sends-all : (u w : Table) → (length found ≡ 0 → ⊥) → u ≡ deliver-all t (view t .own c) found s → w ≡ freed u → r ≡ answers w 0 → r ≡ sends t c found s
+  -- l lists the others
+  pub sent-all : (l : Targets) → DeliversAll t (p .own .0) (listed l) k u → Lists l (others (view t) c) → So (sound t) → r ≡ sends t c (others (view t) c) k
   unfolding sends
-  sends-all u w h d f a = if-no _ _ _ _ (ne-eqb _ 0 h) (a ∙ ap (λ x. answers x 0) (f ∙ ap freed d))
+  sent-all l y x h =
+      a
+      ∙ ap (λ b. answers b 0)
+      (f
+      ∙ ap freed
+      (kills-others t c (p .own .0) k 0 l u (sound-table t vs is h) own x y
+      ∙ ap₂ (λ b js. deliver-all t b js k) own (targets-everyone (view t) c (negsuc 0) refl)))
 
--- ---- to one: i is the slot that `named` gives of the argument z
+-- k is what `signal_of` gives
+pub asks-of : (k j : ℕ) → k ≡ j → j < signals → k < signals
+asks-of k j q l = subst (λ i. i < signals) (sym q) l
 
-module _ (t : Table) (c s i : ℕ) (z : ℤ) (fits : SFits w32 z) (r : Outcome) (e : i ≡ named (view t) c (toZ w32 (ofZ w32 z))) where
-  slot : i ≡ named (view t) c z
-  slot = e ∙ ap (named (view t) c) (toZ-ofZ w32 z fits)
+-- ---- what is given by it: v is the verdict of `may_kill`, of the arguments as they came
 
-  pub one-nobody : i ≡ process-slots → r ≡ refused t Esrch → r ≡ sends t c (named-only (view t) c z) s
-  one-nobody h a =
-      sends-nobody t c s _ r (ap length (pick-yes _ [] _ (eq-eqb _ process-slots (sym slot ∙ h)))) a
+abbrev Told : Verdict → ℤ → ℤ → Bool → Type 0
+Told v n z nobody =
+    ((w : View) (d : ℕ) → (names-group n ≡ false → nobody ≡ eqb (length (targets w d n)) 0) → v ≡ verdict (kill-refusals w d n z)) × (v ≡ Granted → natural z < signals)
 
-  -- p is the process read at the caller's slot
-  pub one-sends : (p : Process) (u w : Table) (vs : List Val) → Is T.the-row t vs → (i ≡ process-slots → ⊥) → p ≡ getD (t .processes) c empty-process → Delivers t (p .own .0) i s u → w ≡ freed u → r ≡ answers w 0
-      → So (sound t) → r ≡ sends t c (named-only (view t) c z) s
-  one-sends p u w vs is o d m f a h =
-      sends-all t c s (i ∷ []) r u w (λ q. omega arith)
-      (kills-one t (p .own .0) i s u (sound-table t vs is h) m ∙ ap (λ n. deliver-all t n (i ∷ []) s) (read-at t c p d .own)) f a
-      ∙ ap (λ l. sends t c l s)
-      (ap (λ j. j ∷ []) slot ∙ sym (pick-no _ [] _ (ne-eqb _ process-slots (λ q. o (slot ∙ q)))))
+module _ (t : Table) (c : ℕ) (n z : ℤ) (fits-n : SFits w32 n) (fits : SFits w32 z) (nobody : Bool) (v : Verdict) (r : Outcome) (m : Told v (toZ w32 (ofZ w32 n)) (toZ w32 (ofZ w32 z)) nobody) where
+  module _ (found : names-group n ≡ false → nobody ≡ eqb (length (targets (view t) c n)) 0) where
+    ruled : v ≡ verdict (kill-refusals (view t) c n z)
+    ruled = subst₂ (λ a b. Told v a b nobody) (toZ-ofZ w32 n fits-n) (toZ-ofZ w32 z fits) m .0 (view t) c found
+
+    refuses : (x : Refusal) → v ≡ Refused x → r ≡ refused t x → r ≡ kill t c n z
+    unfolding kill
+    refuses x h a = judged-refuses t (kill-refusals (view t) c n z) (kill-gives t c n z) v ruled r x h a
+
+    -- k is what `signal_of` gives
+    comes : (k : ℕ) → v ≡ Granted → k ≡ natural (toZ w32 (ofZ w32 z)) → r ≡ sends t c (targets (view t) c n) k → r ≡ kill t c n z
+    unfolding kill sends
+    comes k h q a =
+        judged-grants t (kill-refusals (view t) c n z) (kill-gives t c n z) v ruled r h
+        (a ∙ ap (sends t c (targets (view t) c n)) (q ∙ ap natural (toZ-ofZ w32 z fits)))
+
+    passes : v ≡ Granted → None (kill-refusals (view t) c n z)
+    passes = none-holds (kill-refusals (view t) c n z) v ruled
+
+-- ---- to one: i is the slot that `named` gives
+
+module _ (t : Table) (c i : ℕ) (n z : ℤ) (fits-n : SFits w32 n) (fits : SFits w32 z) (v : Verdict) (r : Outcome) (e : i ≡ named (view t) c (toZ w32 (ofZ w32 n))) (m : Told v (toZ w32 (ofZ w32 n)) (toZ w32 (ofZ w32 z)) (eqb i process-slots)) (o : names-everyone n ≡ false) where
+  slot : i ≡ named (view t) c n
+  slot = e ∙ ap (named (view t) c) (toZ-ofZ w32 n fits-n)
+
+  -- the list of the one, if there is one
+  the-one : names-group n ≡ false → targets (view t) c n ≡ (if eqb i process-slots then [] else i ∷ [])
+  the-one g = targets-one (view t) c n g o ∙ ap (λ j. if eqb j process-slots then [] else j ∷ []) (sym slot)
+
+  counts : (b : Bool) → b ≡ eqb (length (if b then [] else i ∷ [])) 0
+  counts true = refl
+  counts false = refl
+
+  found : names-group n ≡ false → eqb i process-slots ≡ eqb (length (targets (view t) c n)) 0
+  found g = counts (eqb i process-slots) ∙ ap (λ l. eqb (length l) 0) (sym (the-one g))
+
+  pub one-refused : (x : Refusal) → v ≡ Refused x → r ≡ refused t x → r ≡ kill t c n z
+  one-refused = refuses t c n z fits-n fits (eqb i process-slots) v r m found
+
+  pub one-comes : (k : ℕ) → v ≡ Granted → k ≡ natural (toZ w32 (ofZ w32 z)) → (So (sound t) → r ≡ sends t c (i ∷ []) k) → So (sound t) → r ≡ kill t c n z
+  unfolding place
+  one-comes k g q a h =
+      let none = passes t c n z fits-n fits (eqb i process-slots) v r m found g in
+      comes t c n z fits-n fits (eqb i process-slots) v r m found k g q
+      (a h ∙ ap (λ l. sends t c l k) (sym (the-one (none Enosys) ∙ pick-no _ [] (i ∷ []) (found (none Enosys) ∙ none Esrch))))
 
 -- ---- to many: f lists the others
 
-module _ (t : Table) (c s : ℕ) (f : Targets) (r : Outcome) (l : Lists f (others (view t) c)) where
-  pub others-nobody : f .len ≡ 0 → r ≡ refused t Esrch → r ≡ sends t c (others (view t) c) s
-  others-nobody h a = sends-nobody t c s _ r (sym (l .count) ∙ h) a
+module _ (t : Table) (c : ℕ) (n z : ℤ) (fits-n : SFits w32 n) (fits : SFits w32 z) (f : Targets) (v : Verdict) (r : Outcome) (l : Lists f (others (view t) c)) (m : Told v (toZ w32 (ofZ w32 n)) (toZ w32 (ofZ w32 z)) (eqb (f .len) 0)) (o : names-everyone n ≡ true) where
+  all-others : targets (view t) c n ≡ others (view t) c
+  all-others = targets-everyone (view t) c n o
 
-  pub others-sends : (p : Process) (u w : Table) (vs : List Val) → Is T.the-row t vs → (f .len ≡ 0 → ⊥) → p ≡ getD (t .processes) c empty-process → DeliversAll t (p .own .0) (listed f) s u → w ≡ freed u → r ≡ answers w 0
-      → So (sound t) → r ≡ sends t c (others (view t) c) s
-  others-sends p u w vs is o d m g a h =
-      let own : p .own .0 ≡ view t .own c = read-at t c p d .own in
-      sends-all t c s _ r u w (λ q. o (l .count ∙ q))
-      (kills-others t c (p .own .0) s 0 f u (sound-table t vs is h) own l m
-      ∙ ap₂ (λ n x. deliver-all t n x s) own (targets-everyone (view t) c (negsuc 0) refl)) g a
+  counted : names-group n ≡ false → eqb (f .len) 0 ≡ eqb (length (targets (view t) c n)) 0
+  counted g = ap (λ k. eqb k 0) (l .count ∙ ap length (sym all-others))
 
--- ---- the second argument, z, is a signal: b is what `is_signal` gives of it
+  pub others-refused : (x : Refusal) → v ≡ Refused x → r ≡ refused t x → r ≡ kill t c n z
+  others-refused = refuses t c n z fits-n fits (eqb (f .len) 0) v r m counted
 
-module _ (z : ℤ) (b : Bool) (e : b ≡ within 0 signals (toZ w32 (ofZ w32 z))) (h : not b ≡ false) where
-  pub signal-asks : natural (toZ w32 (ofZ w32 z)) < signals
-  signal-asks = within-below 0 signals (toZ w32 (ofZ w32 z)) (told-yes b _ e h)
+  pub others-come : (k : ℕ) → v ≡ Granted → k ≡ natural (toZ w32 (ofZ w32 z)) → (Lists f (others (view t) c) → So (sound t) → r ≡ sends t c (others (view t) c) k) → So (sound t) → r ≡ kill t c n z
+  others-come k g q a h =
+      comes t c n z fits-n fits (eqb (f .len) 0) v r m counted k g q (a l h ∙ ap (λ is. sends t c is k) (sym all-others))
 
-  -- k is what `signal_of` gives
-  pub signal-asks-of : (k : ℕ) → k ≡ natural (toZ w32 (ofZ w32 z)) → k < signals
-  signal-asks-of k q = subst (λ j. j < signals) (sym q) signal-asks
+-- ---- kill itself: b is what `names_everyone` gives of the first argument
 
--- ---- kill itself: b is what `is_signal` gives of the second argument, z
+module _ (t : Table) (c : ℕ) (n z : ℤ) (fits-n : SFits w32 n) (fits : SFits w32 z) (b : Bool) (r : Outcome) (e : b ≡ names-everyone (toZ w32 (ofZ w32 n))) where
+  crossed : kill t c (toZ w32 (ofZ w32 n)) (toZ w32 (ofZ w32 z)) ≡ kill t c n z
+  crossed = ap₂ (kill t c) (toZ-ofZ w32 n fits-n) (toZ-ofZ w32 z fits)
 
-module _ (t : Table) (c : ℕ) (n z : ℤ) (fits-n : SFits w32 n) (fits : SFits w32 z) (r : Outcome) (b : Bool) (e : b ≡ within 0 signals (toZ w32 (ofZ w32 z))) where
-  signal : b ≡ within 0 signals z
-  signal = e ∙ ap (within 0 signals) (toZ-ofZ w32 z fits)
-
-  pub kill-refuses-signal : not b ≡ true → r ≡ refused t Einval → r ≡ kill t c n z
-  unfolding kill
-  kill-refuses-signal h a = if-yes _ _ _ _ (not-no _ (told-not b _ signal h)) a
-
-  -- g is what `names_group` gives of the first argument
-  module _ (g : Bool) (h : not b ≡ false) (d : g ≡ names-group (toZ w32 (ofZ w32 n))) where
-    group : g ≡ names-group n
-    group = d ∙ ap names-group (toZ-ofZ w32 n fits-n)
-
-    pub kill-refuses-group : g ≡ true → r ≡ refused t Enosys → r ≡ kill t c n z
-    unfolding kill
-    kill-refuses-group y a = if-no _ _ _ _ (not-yes _ (told-yes b _ signal h)) (if-yes _ _ _ _ (sym group ∙ y) a)
-
-    -- k is what `signal_of` gives
-    module _ (k : ℕ) (q : k ≡ natural (toZ w32 (ofZ w32 z))) where
-      comes : g ≡ false → r ≡ sends t c (targets (view t) c n) k → r ≡ kill t c n z
-      unfolding kill sends
-      comes o a =
-          if-no _ _ _ _ (not-yes _ (told-yes b _ signal h))
-          (if-no _ _ _ _ (sym group ∙ o) (a ∙ ap (sends t c (targets (view t) c n)) (q ∙ ap natural (toZ-ofZ w32 z fits))))
-
-      -- m is what `names_everyone` gives
-      module _ (m : Bool) (o : g ≡ false) (w : m ≡ names-everyone (toZ w32 (ofZ w32 n))) where
-        everyone : m ≡ names-everyone n
-        everyone = w ∙ ap names-everyone (toZ-ofZ w32 n fits-n)
-
-        pub kill-everyone : m ≡ true → (So (sound t) → r ≡ sends t c (others (view t) c) k) → So (sound t) → r ≡ kill t c n z
-        kill-everyone y a s =
-            comes o (a s ∙ ap (λ l. sends t c l k) (sym (targets-everyone (view t) c n (sym everyone ∙ y))))
-
-        pub kill-named : m ≡ false → (So (sound t) → r ≡ sends t c (named-only (view t) c (toZ w32 (ofZ w32 n))) k) → So (sound t) → r ≡ kill t c n z
-        kill-named y a s =
-            comes o
-            (a s
-            ∙ ap (λ x. sends t c (named-only (view t) c x) k) (toZ-ofZ w32 n fits-n)
-            ∙ ap (λ l. sends t c l k) (sym (targets-one (view t) c n (sym group ∙ o) (sym everyone ∙ y))))
+  pub kill-goes : (x : Bool) → b ≡ x → (names-everyone (toZ w32 (ofZ w32 n)) ≡ x → So (sound t) → r ≡ kill t c (toZ w32 (ofZ w32 n)) (toZ w32 (ofZ w32 z))) → So (sound t) → r ≡ kill t c n z
+  kill-goes x h a s = a (sym e ∙ h) s ∙ crossed

@@ -5,65 +5,93 @@ use arguments::names_group;
 use arguments::signal_of;
 use callers::NOBODY;
 use callers::named;
+use delivery::Targets;
 use delivery::deliver;
 use delivery::deliver_all;
 use delivery::others;
 use ending::free_unheld;
+use outcomes::Verdict;
 use outcomes::answers;
+use outcomes::refuse_if;
 use outcomes::refused;
 use table::Outcome;
 use table::ProcSlot;
 use table::Refusal;
 use table::Table;
-ghost use mathlib.Core.Bool.{So};
+ghost use mathlib.Core.Bool.{true, false, So};
+ghost use mathlib.Core.List.{[], _∷_};
 ghost use mathlib.Core.Path.{_≡_};
-ghost use Prim.Native.Nat.{_<_};
-ghost use Rattle.kills.specs.Kills.{sends, named-only};
-ghost use Rattle.rules.specs.Calls.{others as others-of, kill as kill-of};
-ghost use Rattle.table.specs.Limits.{signals};
-ghost use Rattle.rules.specs.Read.{view};
+ghost use lib.Dec.{eqb};
+ghost use lib.ListN.{length};
+ghost use Prim.Native.Nat.{ℕ, _<_, _≤_};
+ghost use Rattle.arguments.specs.Arguments.{names-everyone};
+ghost use Rattle.delivery.specs.Targets.{Lists};
+ghost use Rattle.kills.specs.Kills.{sends};
+ghost use Rattle.outcomes.specs.Verdicts.{verdict};
+ghost use Rattle.rules.specs.Calls.{natural, others as others-of, names-group, targets, kill-refusals, kill as kill-of};
+ghost use Rattle.table.specs.Limits.{process-slots, signals};
+ghost use Rattle.rules.specs.Read.{View, view};
 ghost use Rattle.rules.specs.Sound.{sound};
 
-// A signal to the one that a number names.
-fn kill_one(t: Table, caller: ProcSlot, n: i32, s: u8) -> Outcome
-    requires { ⌜ s < signals ⌝ }
-    ensures { λ r. ⌜ (So (sound t) → r ≡ sends t (caller .0) (named-only (view t) (caller .0) n) s) ⌝ }
+// Whether signal s may be sent to those that the number n means, who are nobody or not: the last refusal first.
+fn may_kill(n: i32, s: i32, nobody: bool) -> Verdict
+    ensures { λ r. ⌜ (((v : View) (c : ℕ) → (names-group n ≡ false → nobody ≡ eqb (length (targets v c n)) 0) → r ≡ verdict (kill-refusals v c n s)) × (r ≡ Verdict.Granted → natural s < signals)) ⌝ }
 {
-    let slot = named(t, caller, n);
-    if slot.0 == NOBODY {
-        return refused(t, Refusal::Esrch);
-    }
+    let group = names_group(n);
+    let found = refuse_if(nobody, Refusal::Esrch, Verdict::Granted);
+    let meant = refuse_if(group, Refusal::Enosys, found);
+    refuse_if(!is_signal(s), Refusal::Einval, meant)
+}
+
+// A signal to the process at a slot.
+fn send_one(t: Table, caller: ProcSlot, slot: ProcSlot, s: u8) -> Outcome
+    requires { ⌜ s < signals ⌝ }
+    ensures { λ r. ⌜ (So (sound t) → r ≡ sends t (caller .0) (slot .0 ∷ []) s) ⌝ }
+{
     let p = t.process(caller);
     let own = p.own;
     answers(free_unheld(deliver(t, own, slot, s)), 0)
 }
 
-// A signal to all that the caller sees but itself and number 1.
-fn kill_others(t: Table, caller: ProcSlot, s: u8) -> Outcome
-    requires { ⌜ s < signals ⌝ }
-    ensures { λ r. ⌜ (So (sound t) → r ≡ sends t (caller .0) (others-of (view t) (caller .0)) s) ⌝ }
+// A signal to the one that a number names.
+fn kill_one(t: Table, caller: ProcSlot, n: i32, s: i32) -> Outcome
+    ensures { λ r. ⌜ (names-everyone n ≡ false → So (sound t) → r ≡ kill-of t (caller .0) n s) ⌝ }
 {
-    let found = others(t, caller);
-    if found.len == 0 {
-        return refused(t, Refusal::Esrch);
+    let slot = named(t, caller, n);
+    let verdict = may_kill(n, s, slot.0 == NOBODY);
+    if let Verdict::Refused(why) = verdict {
+        return refused(t, why);
     }
+    send_one(t, caller, slot, signal_of(s))
+}
+
+// A signal to all of a list, the others that the caller sees.
+fn send_all(t: Table, caller: ProcSlot, found: Targets, s: u8) -> Outcome
+    requires { ⌜ (s < signals) × (found .len ≤ process-slots) ⌝ }
+    ensures { λ r. ⌜ (Lists found (others-of (view t) (caller .0)) → So (sound t) → r ≡ sends t (caller .0) (others-of (view t) (caller .0)) s) ⌝ }
+{
     let p = t.process(caller);
     let own = p.own;
     answers(free_unheld(deliver_all(t, own, found, s)), 0)
 }
 
+// A signal to all that the caller sees but itself and number 1.
+fn kill_others(t: Table, caller: ProcSlot, n: i32, s: i32) -> Outcome
+    ensures { λ r. ⌜ (names-everyone n ≡ true → So (sound t) → r ≡ kill-of t (caller .0) n s) ⌝ }
+{
+    let found = others(t, caller);
+    let verdict = may_kill(n, s, found.len == 0);
+    if let Verdict::Refused(why) = verdict {
+        return refused(t, why);
+    }
+    send_all(t, caller, found, signal_of(s))
+}
+
 pub fn kill(t: Table, caller: ProcSlot, n: i32, s: i32) -> Outcome
     ensures { λ r. ⌜ (So (sound t) → r ≡ kill-of t (caller .0) n s) ⌝ }
 {
-    let group = names_group(n);
-    if !is_signal(s) {
-        return refused(t, Refusal::Einval);
-    }
-    if group {
-        return refused(t, Refusal::Enosys);
-    }
     if names_everyone(n) {
-        return kill_others(t, caller, signal_of(s));
+        return kill_others(t, caller, n, s);
     }
-    kill_one(t, caller, n, signal_of(s))
+    kill_one(t, caller, n, s)
 }

@@ -1,13 +1,14 @@
 // unshare and setns: the namespace that the caller's children are born into.
 use births::new_namespace;
 use callers::NOBODY;
-use callers::is_elsewhere;
+use callers::may_make;
 use callers::named;
 use callers::own_level;
 use ending::free_unheld;
+use outcomes::Verdict;
 use outcomes::answers;
+use outcomes::refuse_if;
 use outcomes::refused;
-use table::DEEPEST;
 use table::NAMESPACE_SLOTS;
 use table::NsSlot;
 use table::Outcome;
@@ -16,9 +17,12 @@ use table::Process;
 use table::Refusal;
 use table::Table;
 use tree::free_namespace_slot;
+ghost use Prim.Native.Nat.{ℕ};
 ghost use mathlib.Core.Bool.{So};
 ghost use mathlib.Core.Path.{_≡_};
-ghost use Rattle.rules.specs.Calls.{unshare as unshare-of, set-children, setns as setns-of};
+ghost use lib.IntN.{ℤ};
+ghost use Rattle.outcomes.specs.Verdicts.{verdict};
+ghost use Rattle.rules.specs.Calls.{unshare as unshare-of, set-children, named as named-in, setns-refusals, setns as setns-of};
 ghost use Rattle.rules.specs.Read.{view};
 ghost use Rattle.rules.specs.Sound.{sound};
 ghost use Rattle.rules.specs.Step.{runs};
@@ -38,35 +42,39 @@ fn set_children(t: Table, caller: ProcSlot, n: NsSlot) -> Table
 pub fn unshare(t: Table, caller: ProcSlot) -> Outcome
     ensures { λ r. ⌜ (So (sound t) → So (runs (view t) (caller .0)) → r ≡ unshare-of t (caller .0)) ⌝ }
 {
-    let p = t.process(caller);
-    let elsewhere = is_elsewhere(t, caller);
     let level = own_level(t, caller);
-    if elsewhere {
-        return refused(t, Refusal::Einval);
-    }
-    if DEEPEST <= level {
-        return refused(t, Refusal::Enospc);
-    }
     let n = free_namespace_slot(t);
-    if n.0 == FULL {
-        return refused(t, Refusal::Eagain);
+    let verdict = may_make(t, caller, level, n.0 == FULL);
+    if let Verdict::Refused(why) = verdict {
+        return refused(t, why);
     }
+    let p = t.process(caller);
     let own = p.own;
     let u = new_namespace(t, n, own, level + 1);
     answers(set_children(u, caller, n), 0)
+}
+
+// Whether children may be born into the namespace of the process at a slot, the one that setns found.
+fn may_setns(t: Table, slot: ProcSlot) -> Verdict
+    ensures { λ r. ⌜ ((c : ℕ) (n : ℤ) → slot .0 ≡ named-in (view t) c n → r ≡ verdict (setns-refusals (view t) c n)) ⌝ }
+{
+    let target = t.process(slot);
+    refuse_if(
+        (slot.0 == NOBODY) | target.has_ended(),
+        Refusal::Esrch,
+        Verdict::Granted,
+    )
 }
 
 pub fn setns(t: Table, caller: ProcSlot, n: i32) -> Outcome
     ensures { λ r. ⌜ r ≡ setns-of t (caller .0) n ⌝ }
 {
     let slot = named(t, caller, n);
-    if slot.0 == NOBODY {
-        return refused(t, Refusal::Esrch);
+    let verdict = may_setns(t, slot);
+    if let Verdict::Refused(why) = verdict {
+        return refused(t, why);
     }
     let target = t.process(slot);
-    if target.has_ended() {
-        return refused(t, Refusal::Esrch);
-    }
     let own = target.own;
     answers(set_children(t, caller, own), 0)
 }

@@ -2,7 +2,7 @@
 -- the others, so no table is refused by them alone: "all below a dead one are dead" and "none belongs to an unborn one".
 use Prim.Native.Nat.{ℕ, zero, suc, _^_}
 use mathlib.Core.Bool.{Bool, true, false}
-use mathlib.Core.List.{List, [], _∷_, map}
+use mathlib.Core.List.{List, [], _∷_, map, _++_}
 use mathlib.Core.Path.{_≡_, refl}
 use lib.ListN.{replicate}
 use Rattle.rules.proofs.Open.{everything}
@@ -11,13 +11,15 @@ use Rattle.table.specs.Fresh.{fresh, empty-process, root-init, root}
 use Rattle.table.specs.Limits.{no-slot}
 use Rattle.rules.specs.Read.{View, view}
 use Rattle.table.specs.Slots.{put, put-namespace}
-use Rattle.rules.specs.Records.{with-signals, with-parent, with-children, as-ended}
-use Rattle.rules.specs.Sound.{sound-view, SoundTable, root-process, have-parents, root-namespace, inits, empty-slots, namespace-tree, below-dead, unborn-namespaces, last-pids, pid-range, pids-differ, first-pids, dead-members, unborn-members, parents, first-parents, children-namespaces, handled-signals, pending-signals, ended-bare, ends-kept, namespaces-held}
+use Rattle.rules.specs.Sound.{sound-view, SoundTable, root-process, have-parents, root-namespace, inits, empty-slots, namespace-tree, below-dead, unborn-namespaces, last-pids, pid-range, pids-differ, first-pids, dead-members, unborn-members, parents, first-parents, children-namespaces, ended-bare, ends-kept, namespaces-held, process-traits}
 use Rattle.table.specs.Tests.{_and_}
 use Rattle.table.specs.declared.End.the-variants.{Signaled}
 use Rattle.table.specs.declared.Life.the-variants.{Unborn, Dead}
 use Rattle.table.specs.declared.Process.{Process}
 use Rattle.table.specs.declared.Table.{Table}
+use Rattle.table.specs.Records.{with-parent, with-children, as-ended, with-traits}
+use Rattle.table.specs.Traits.{with-signals, no-traits, handled-ok, pending-ok}
+use Rattle.table.specs.declared.Traits.{Traits}
 
 -- The fresh table is sound.
 pub fresh-sound : SoundTable fresh
@@ -43,6 +45,18 @@ second = running 0 0 (2 ∷ [])
 
 abbrev second-ended : Process
 second-ended = exited 0 0 (2 ∷ [])
+
+-- these signals handled and pending
+abbrev signalled : ℕ → ℕ → Traits
+signalled h q = with-signals no-traits h q
+
+-- signals 0, 9 and 19 handled
+abbrev handled-wrong : List Traits
+handled-wrong = signalled (2 ^ 0) 0 ∷ signalled (2 ^ 9) 0 ∷ signalled (2 ^ 19) 0 ∷ []
+
+-- a signal pending and not handled
+abbrev pending-wrong : List Traits
+pending-wrong = signalled (2 ^ 15) (2 ^ 10) ∷ []
 
 -- the init of namespace 1, and that namespace, below the root
 abbrev inner : Process
@@ -107,19 +121,14 @@ entries =
     ∷ (first-parents, table-of (inner ∷ running 2 0 (3 ∷ 2 ∷ 1 ∷ []) ∷ []) (root ∷ ns 0 1 2 (alive-with 1) ∷ ns 1 2 1 (alive-with 2) ∷ []) ∷ [])
     -- a children's namespace above the own one
     ∷ (children-namespaces, table-of (with-children inner 0 ∷ []) (root ∷ ns 0 1 1 (alive-with 1) ∷ []) ∷ [])
-    -- signals 0, 9 and 19 handled
-    ∷ (
-      handled-signals,
-      with-child (with-signals second (2 ^ 0) 0) ∷ with-child (with-signals second (2 ^ 9) 0) ∷ with-child (with-signals second (2 ^ 19) 0) ∷ [],
-    )
-    -- a signal pending and not handled
-    ∷ (pending-signals, with-child (with-signals second (2 ^ 15) (2 ^ 10)) ∷ [])
+    -- either sentence on signals
+    ∷ (process-traits, map (λ x. with-child (with-traits second x)) (handled-wrong ++ pending-wrong))
     -- an ended process with a children's namespace, with signals
     ∷ (
       ended-bare,
       with-child (with-children second-ended 0)
-          ∷ with-child (with-signals second-ended (2 ^ 15) 0)
-          ∷ with-child (with-signals second-ended (2 ^ 15) (2 ^ 15))
+          ∷ with-child (with-traits second-ended (signalled (2 ^ 15) 0))
+          ∷ with-child (with-traits second-ended (signalled (2 ^ 15) (2 ^ 15)))
           ∷ [],
     )
     -- ended by signal 0; by signal 32
@@ -158,3 +167,13 @@ expected k (e ∷ es) = map (λ (t : Table). but-one k entries) (e .1) ∷ expec
 pub refused-alone : map (λ (e : Entry). map verdicts (e .1)) entries ≡ expected 0 entries
 unfolding everything
 refused-alone = refl
+
+-- the two sentences on signals
+abbrev both-sentences : Traits → Bool × Bool
+both-sentences x = (handled-ok x, pending-ok x)
+
+-- Likewise of these two: each refuses its own alone.
+pub signals-refused :
+    map both-sentences (handled-wrong ++ pending-wrong) ≡ (false, true) ∷ (false, true) ∷ (false, true) ∷ (true, false) ∷ []
+unfolding everything
+signals-refused = refl

@@ -4,10 +4,9 @@ use mathlib.Core.List.{List, [], _∷_, _++_, map}
 use lib.ListN.{length, replicate}
 use Rattle.table.specs.Fresh.{empty-process, empty-namespace, root-init}
 use Rattle.table.specs.Limits.{process-slots, namespace-slots, levels, no-slot}
-use Rattle.table.specs.Slots.{no-pid, to-pid}
+use Rattle.table.specs.Slots.{no-pid}
 use Rattle.rules.specs.Answers.{refused}
 use Rattle.rules.specs.Read.{view}
-use Rattle.rules.specs.Records.{as-ended}
 use Rattle.rules.specs.Step.{make, runs}
 use Rattle.table.specs.Tests.{if_then_else_}
 use Rattle.table.specs.declared.Call.{Call}
@@ -18,12 +17,12 @@ use Rattle.table.specs.declared.Namespace.{Namespace}
 use Rattle.table.specs.declared.Outcome.{Outcome}
 use Rattle.table.specs.declared.Process.{Process}
 use Rattle.table.specs.declared.Refusal.the-variants.{NotRunning}
-use Rattle.table.specs.declared.State.the-variants.{Running}
 use Rattle.table.specs.declared.Table.{Table}
+use Rattle.table.specs.Records.{to-pid, as-ended, of-namespace, with-parent, with-last, with-life, blank-process, blank-namespace, placed}
 
 -- a running process with an own namespace, a parent and numbers from the root's level down
 abbrev pub running : ℕ → ℕ → List ℕ → Process
-running n p ks = record { own = record { 0 = n }; children = record { 0 = n }; parent = record { 0 = p }; state = Running; handled = 0; pending = 0; pids = map to-pid ks ++ replicate (levels - length ks) no-pid }
+running n p ks = with-parent (of-namespace (blank-process (map to-pid ks ++ replicate (levels - length ks) no-pid)) n) p
 
 -- the same, ended
 abbrev pub exited : ℕ → ℕ → List ℕ → Process
@@ -31,7 +30,7 @@ exited n p ks = as-ended (running n p ks) (Exited 0)
 
 -- a namespace with a parent, a level, a last number and a condition
 abbrev pub ns : ℕ → ℕ → ℕ → Life → Namespace
-ns up level last life = record { parent = record { 0 = up }; level = level; last = to-pid last; life = life }
+ns up level last life = with-life (with-last (placed blank-namespace up level) last) life
 
 abbrev pub alive-with : ℕ → Life
 alive-with i = Alive (record { 0 = i })

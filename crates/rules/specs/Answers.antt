@@ -1,6 +1,7 @@
 -- "Negative numbers", and what an answer says.
 use Prim.Native.Nat.{ℕ}
 use mathlib.Core.Bool.{Bool, true, false}
+use mathlib.Core.List.{List, [], _∷_}
 use mathlib.Core.Option.{Option, none, some}
 use lib.Dec.{eqb}
 use lib.IntN.{ℤ, pos, negsuc, negℤ}
@@ -64,6 +65,11 @@ is-no-room a = same-number (number-of a) (minus 11)
 -- A refusal leaves the whole table unchanged and tells the host no slot.
 unfoldable pub refused : Table → Refusal → Outcome
 refused t e = record { reply = record { answer = Refused e; child = record { 0 = no-slot } }; table = t }
+
+-- A call: its refusals, each with its test, in the order in which they are given, and what it gives where none holds.
+abbrev pub judged : Table → List (Refusal × Bool) → (Unit {0} → Outcome) → Outcome
+judged t [] o = o tt
+judged t (r ∷ rs) o = elim (r .1) [ true ↦ refused t (r .0) | false ↦ judged t rs o ]
 
 -- A call that is granted tells no slot either, but where a child is born.
 unfoldable pub granted : Table → Answer → Outcome

@@ -5,15 +5,16 @@ use lib.Dec.{leb}
 use lib.ListN.{replicate}
 use Rattle.table.specs.Limits.{levels}
 use Rattle.rules.specs.Pids.{next-pid, free-slot}
-use Rattle.table.specs.Slots.{no-pid, is-unborn, to-pid, put, changed}
+use Rattle.table.specs.Slots.{no-pid, is-unborn, put, changed}
 use Rattle.rules.specs.Read.{View, view, below, above-at}
 use Rattle.table.specs.Tests.{if_then_else_, changed-to}
 use Rattle.table.specs.declared.Life.the-variants.{Alive}
 use Rattle.table.specs.declared.Namespace.{Namespace}
 use Rattle.table.specs.declared.Pid.{Pid}
 use Rattle.table.specs.declared.Process.{Process}
-use Rattle.table.specs.declared.State.the-variants.{Running}
 use Rattle.table.specs.declared.Table.{Table}
+use Rattle.table.specs.Traits.{born-traits}
+use Rattle.table.specs.Records.{to-pid, with-parent, with-life, with-last, of-namespace, with-traits, blank-process}
 
 -- It gets a number at each level: from the root's to that of its own namespace n, and 0 beyond.
 unfoldable pub new-pids : View → ℕ → List Pid
@@ -24,14 +25,14 @@ new-pids v n =
 -- The child runs, its parent is the caller, children's namespace its own, signals empty.
 unfoldable pub newborn : View → ℕ → ℕ → Process
 newborn v caller n =
-    record { own = record { 0 = n }; children = record { 0 = n }; parent = record { 0 = caller }; state = Running; handled = 0; pending = 0; pids = new-pids v n }
+    with-traits (with-parent (of-namespace (blank-process (new-pids v n)) n) caller) (born-traits (v .traits caller))
 
 -- In n and above, the number becomes the last; if n is unborn the child is its init.
 -- (What becomes of the namespace s at slot m.)
 unfoldable pub joined : View → ℕ → ℕ → ℕ → Namespace → Namespace
 joined v child n m s =
     if below v n m
-    then record { parent = s .parent; level = s .level; last = to-pid (next-pid v m); life = if is-unborn (s .life) then Alive (record { 0 = child }) else s .life }
+    then with-life (with-last s (next-pid v m)) (if is-unborn (s .life) then Alive (record { 0 = child }) else s .life)
     else s
 
 -- A child of the caller is born into n, in the lowest free slot.

@@ -7,10 +7,9 @@ use lib.Dec.{eqb, ltb}
 use lib.IntN.{ℤ, pos, negsuc}
 use Rattle.rules.specs.Calls.{targets, pid-to, within, natural, names-group, status}
 use Rattle.rules.specs.Delivery.{action-on, resumed, with-pending}
-use Rattle.rules.specs.Records.{with-parent, with-state, as-ended}
 use Rattle.table.specs.Limits.{no-slot, process-slots, namespace-slots, signals, deepest, greatest-pid, restart-pid, sigkill, sigstop}
 use Rattle.table.specs.Slots.{process, is-running}
-use Rattle.rules.specs.Read.{View, view, taken, living, namespace-taken, alive, dead, unborn, init, is-init, below, seen, pid-seen, child-of}
+use Rattle.rules.specs.Read.{View, view, taken, living, children, namespace-taken, alive, dead, unborn, init, is-init, below, seen, pid-seen, child-of}
 use Rattle.rules.specs.Sound.{SoundTable, sound, shaped}
 use Rattle.rules.specs.Step.{step, runs}
 use Rattle.table.specs.Tests.{_and_, _or_, if_then_else_, all, any, some-of}
@@ -26,6 +25,7 @@ use Rattle.table.specs.declared.Refusal.the-variants.{Unsound, NotRunning, Einv
 use Rattle.table.specs.declared.Process.{Process}
 use Rattle.table.specs.declared.State.the-variants.{Running, Stopped, Ended}
 use Rattle.table.specs.declared.Table.{Table}
+use Rattle.table.specs.Records.{with-state, with-parent, as-ended}
 
 -- the table after a call
 abbrev pub after : Table → ℕ → Call → Table
@@ -80,13 +80,13 @@ namespaces-taken v = all namespace-slots (namespace-taken v)
 -- the deepest, 32 (W-206), or there is no room
 abbrev pub making-lines : View → ℕ → Bool → Refusal → Bool
 making-lines v c no-room =
-    given-if Einval (not (eqb (v .children c) (v .own c)))
+    given-if Einval (not (eqb (children v c) (v .own c)))
     (given-if Enospc (eqb (v .level (v .own c)) deepest) (given-if Eagain no-room no-more))
 
 -- "Negative numbers", by the call: what its lines of the table say of a call by the process at c, whatever the other
 -- lines say.
 unfoldable pub lines : View → ℕ → Call → Refusal → Bool
-lines v c Clone = given-if Enomem (dead v (v .children c)) (given-if Eagain (full v) no-more)
+lines v c Clone = given-if Enomem (dead v (children v c)) (given-if Eagain (full v) no-more)
 lines v c CloneNew = making-lines v c (full v or namespaces-taken v)
 lines v c Unshare = making-lines v c (namespaces-taken v)
 lines v c (Setns n) = given-if Esrch (not (any process-slots (λ i. numbered v c n i and not (v .ended i)))) no-more
@@ -180,8 +180,8 @@ pub record Born (t u : Table) (c k n a : ℕ) : Type 0 where
   pub new : So (taken (view t) k) → ⊥
   pub here : So (taken (view u) k)
   -- Its parent is the caller, its own namespace n, and its children's too; it runs, without signals.
-  pub kin : (view u .parent k ≡ c) × (view u .own k ≡ n) × (view u .children k ≡ n)
-  pub bare : (view u .state k ≡ Running) × (view u .handled k ≡ 0) × (view u .pending k ≡ 0)
+  pub kin : (view u .parent k ≡ c) × (view u .own k ≡ n) × (children (view u) k ≡ n)
+  pub bare : (view u .state k ≡ Running) × (view u .traits k .handled ≡ 0) × (view u .traits k .pending ≡ 0)
   -- If n is unborn (or a slot not taken yet) the child is its init.
   pub first : So (unborn (view t) n) → So (alive (view u) n) × (init (view u) n ≡ k)
   -- The answer is its number in the caller's namespace.
@@ -193,7 +193,7 @@ pub record Born (t u : Table) (c k n a : ℕ) : Type 0 where
 pub record CloneTells : Type 0 where
   pub plain :
       (t : Table) (c a : ℕ) → SoundTable t → step t c Clone .reply .answer ≡ Number a
-      → Born t (after t c Clone) c (step t c Clone .reply .child .0) (view t .children c) a
+      → Born t (after t c Clone) c (step t c Clone .reply .child .0) (children (view t) c) a
   pub in-new :
       (t : Table) (c a : ℕ) → SoundTable t → step t c CloneNew .reply .answer ≡ Number a
       → (n : ℕ)

@@ -6,8 +6,7 @@ use lib.Dec.{eqb}
 use Rattle.rules.specs.Ends.{end}
 use Rattle.table.specs.Limits.{sigkill, sigcont, sigstop}
 use Rattle.table.specs.Slots.{process, put}
-use Rattle.rules.specs.Read.{View, view, living, is-init}
-use Rattle.rules.specs.Records.{with-state, with-signals}
+use Rattle.rules.specs.Read.{View, view, living, is-init, handled}
 use Rattle.table.specs.SignalSets.{has, with-signal}
 use Rattle.table.specs.Tests.{_and_, _or_, if_then_else_}
 use Rattle.table.specs.declared.Action.{Action}
@@ -16,6 +15,8 @@ use Rattle.table.specs.declared.End.the-variants.{Signaled}
 use Rattle.table.specs.declared.Process.{Process}
 use Rattle.table.specs.declared.State.the-variants.{Running, Stopped}
 use Rattle.table.specs.declared.Table.{Table}
+use Rattle.table.specs.Records.{with-state, with-traits}
+use Rattle.table.specs.Traits.{with-signals}
 
 -- Default by signal number: nothing for 17, 23, 28; resume for 18; stop for 19, 20, 21, 22; end for the other numbers
 -- of 1 to 31.
@@ -34,16 +35,17 @@ action-on v from i s =
     if eqb s 0 or not (living v i) then Nothing
     else (if eqb s sigcont then Resume
     else (if eqb s sigkill or eqb s sigstop then (if is-init v i and eqb (v .own i) from then Nothing else default-action s)
-    else (if has (v .handled i) s then Pend
+    else (if has (handled v i) s then Pend
     else (if is-init v i then Nothing else default-action s))))
 
 -- with signal s pending
 unfoldable pub with-pending : Process → ℕ → Process
-with-pending p s = with-signals p (p .handled) (with-signal (p .pending) s)
+with-pending p s =
+    with-traits p (with-signals (p .traits) (p .traits .handled) (with-signal (p .traits .pending) s))
 
 -- 18 makes a stopped target run, and then becomes pending too if handled.
 unfoldable pub resumed : Process → Process
-resumed p = if has (p .handled) sigcont then with-pending (with-state p Running) sigcont else with-state p Running
+resumed p = if has (p .traits .handled) sigcont then with-pending (with-state p Running) sigcont else with-state p Running
 
 -- the table once signal s has done an action to the process at i
 unfoldable pub act : Table → ℕ → ℕ → Action → Table

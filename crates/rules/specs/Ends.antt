@@ -6,7 +6,6 @@ use Rattle.table.specs.Fresh.{empty-process}
 use Rattle.table.specs.Limits.{sigkill}
 use Rattle.table.specs.Slots.{is-ended, changed}
 use Rattle.rules.specs.Read.{View, view, init, is-init, below, seen, child-of}
-use Rattle.rules.specs.Records.{with-parent, with-life, as-ended}
 use Rattle.table.specs.Tests.{if_then_else_}
 use Rattle.table.specs.declared.End.{End}
 use Rattle.table.specs.declared.End.the-variants.{Signaled}
@@ -14,6 +13,7 @@ use Rattle.table.specs.declared.Life.the-variants.{Dead}
 use Rattle.table.specs.declared.Namespace.{Namespace}
 use Rattle.table.specs.declared.Process.{Process}
 use Rattle.table.specs.declared.Table.{Table}
+use Rattle.table.specs.Records.{with-parent, as-ended, with-life}
 
 -- Not an init: it is ended; all its children go to the init of its own namespace.
 -- (What becomes of the process q at slot i when the one at p ends for the reason e.)

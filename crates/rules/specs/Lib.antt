@@ -4,7 +4,6 @@
 pub mod Read
 pub mod Sound
 pub mod Pids
-pub mod Records
 pub mod Ends
 pub mod Freeing
 pub mod Delivery

@@ -5,22 +5,22 @@ use mathlib.Core.List.{List}
 use lib.Dec.{eqb}
 use Rattle.table.specs.Limits.{process-slots}
 use Rattle.table.specs.Tests.{_and_, _or_, if_then_else_, lowest, ascending}
-use Rattle.table.specs.Slots.{process, namespace, pid-at, is-ended, is-unborn, is-alive, is-dead, init-of}
+use Rattle.table.specs.Slots.{process, namespace, pid-at, hold-at, is-ended, is-unborn, is-alive, is-dead, init-of}
 use Rattle.table.specs.declared.Life.{Life}
 use Rattle.table.specs.declared.State.{State}
 use Rattle.table.specs.declared.Table.{Table}
+use Rattle.table.specs.declared.Traits.{Traits}
 
 -- What there is to read, each as a function of the slot. A test rests only on the fields that it names.
 pub record View : Type 0 where
-  -- Of a process: own and children's namespace, parent, state, whether it has ended, handled and pending signals,
-  -- and its number at a level.
+  -- Of a process: its own namespace, the namespaces that it holds, by an index (at 0 that of its children), parent,
+  -- state, whether it has ended, traits, and its number at a level.
   pub own : ℕ → ℕ
-  pub children : ℕ → ℕ
+  pub hold : ℕ → ℕ → ℕ
   pub parent : ℕ → ℕ
   pub state : ℕ → State
   pub ended : ℕ → Bool
-  pub handled : ℕ → ℕ
-  pub pending : ℕ → ℕ
+  pub traits : ℕ → Traits
   pub pid : ℕ → ℕ → ℕ
   -- Of a namespace: parent (one up), level, last number, condition.
   pub up : ℕ → ℕ
@@ -32,12 +32,11 @@ abbrev pub view : Table → View
 view t =
     record {
       own = λ i. process t i .own .0;
-      children = λ i. process t i .children .0;
+      hold = λ i k. hold-at (process t i) k;
       parent = λ i. process t i .parent .0;
       state = λ i. process t i .state;
       ended = λ i. is-ended (process t i .state);
-      handled = λ i. process t i .handled;
-      pending = λ i. process t i .pending;
+      traits = λ i. process t i .traits;
       pid = λ i l. pid-at (process t i) l;
       up = λ n. namespace t n .parent .0;
       level = λ n. namespace t n .level;
@@ -58,6 +57,14 @@ living v i = taken v i and not (v .ended i)
 -- the process at i is a child of the one at p
 unfoldable pub child-of : View → ℕ → ℕ → Bool
 child-of v p i = taken v i and eqb (v .parent i) p
+
+-- the namespace of its children
+abbrev pub children : View → ℕ → ℕ
+children v i = v .hold i 0
+
+-- the signals that it handles
+abbrev pub handled : View → ℕ → ℕ
+handled v i = v .traits i .handled
 
 -- ---- namespaces
 
@@ -107,13 +114,34 @@ above-at v n l = up-by (v .up) (v .level n - l) n
 
 -- ---- who is seen
 
+-- What is seen, and by which number: an own namespace, and a number at each level.
+pub record Numbers : Type 0 where
+  pub own : ℕ
+  pub pid : ℕ → ℕ
+
+-- those of the process at i
+abbrev pub numbers : View → ℕ → Numbers
+numbers v i = record { own = v .own i; pid = v .pid i }
+
+-- From n one sees what is there and belongs to its subtree,
+abbrev pub sees : View → ℕ → Numbers → Bool
+sees v n x = not (eqb (x .pid 0) 0) and below v (x .own) n
+
+-- by this number.
+abbrev pub number-in : View → ℕ → Numbers → ℕ
+number-in v n x = x .pid (v .level n)
+
+-- x and y are both seen from n, by one number
+abbrev pub share : View → ℕ → Numbers → Numbers → Bool
+share v n x y = sees v n x and sees v n y and eqb (number-in v n x) (number-in v n y)
+
 -- From n one sees the processes of its subtree, ended ones too.
 unfoldable pub seen : View → ℕ → ℕ → Bool
-seen v n i = taken v i and below v (v .own i) n
+seen v n i = sees v n (numbers v i)
 
 -- the number that the process at i has in n
 unfoldable pub pid-seen : View → ℕ → ℕ → ℕ
-pid-seen v n i = v .pid i (v .level n)
+pid-seen v n i = number-in v n (numbers v i)
 
 -- the same, or 0 where it is not seen
 unfoldable pub pid-in : View → ℕ → ℕ → ℕ

@@ -1,17 +1,17 @@
 -- "When a table is sound": a test for each sentence of document 01, in its order.
-use Prim.Native.Nat.{ℕ, zero, suc, _^_}
+use Prim.Native.Nat.{ℕ, zero, suc}
 use mathlib.Core.Bool.{Bool, true, false, not, So}
 use lib.Dec.{eqb, leb, ltb}
 use lib.ListN.{length}
-use Rattle.table.specs.Limits.{process-slots, namespace-slots, levels, deepest, greatest-pid, no-slot, signals, sigkill, sigstop, statuses}
+use Rattle.table.specs.Limits.{process-slots, namespace-slots, levels, deepest, greatest-pid, no-slot, hold-slots, signals, statuses}
 use Rattle.table.specs.Slots.{process, is-running}
-use Rattle.rules.specs.Read.{View, view, taken, namespace-taken, living, alive, dead, unborn, init, below, seen, pid-seen}
-use Rattle.table.specs.SignalSets.{has}
+use Rattle.rules.specs.Read.{View, view, taken, namespace-taken, living, children, alive, dead, unborn, init, below, seen, pid-seen, numbers, share}
 use Rattle.table.specs.Tests.{_and_, _or_, _implies_, agree, if_then_else_, all, any, one}
 use Rattle.table.specs.declared.End.the-variants.{Exited, Signaled}
 use Rattle.table.specs.declared.State.{State}
 use Rattle.table.specs.declared.State.the-variants.{Running, Stopped, Ended}
 use Rattle.table.specs.declared.Table.{Table}
+use Rattle.table.specs.Traits.{blank-traits, bare-traits, traits-ok, traits-shaped}
 
 -- f holds of each process
 abbrev pub each-process : View → (ℕ → Bool) → Bool
@@ -48,8 +48,8 @@ inits v = each-namespace v (λ n. alive v n implies living v (init v n) and eqb 
 -- all zero, and running
 unfoldable pub zero-process : View → ℕ → Bool
 zero-process v i =
-    eqb (v .own i) 0 and eqb (v .children i) 0 and eqb (v .parent i) 0 and is-running (v .state i) and eqb (v .handled i) 0
-    and eqb (v .pending i) 0 and all levels (λ l. eqb (v .pid i l) 0)
+    eqb (v .own i) 0 and all hold-slots (λ k. eqb (v .hold i k) 0) and eqb (v .parent i) 0 and is-running (v .state i)
+    and blank-traits (v .traits i) and all levels (λ l. eqb (v .pid i l) 0)
 
 -- all zero, and unborn
 unfoldable pub zero-namespace : View → ℕ → Bool
@@ -73,7 +73,7 @@ below-dead v = each-other-namespace v (λ n. dead v (v .up n) implies dead v n)
 
 -- the process at i holds n for its children
 unfoldable pub holds : View → ℕ → ℕ → Bool
-holds v n i = taken v i and eqb (v .children i) n
+holds v n i = taken v i and any hold-slots (λ k. eqb (v .hold i k) n)
 
 -- n has last number 0, no members, no namespace below it and one holder, whose own namespace is its parent.
 unfoldable pub unborn-namespace : View → ℕ → Bool
@@ -103,8 +103,7 @@ pid-range v =
 unfoldable pub pids-differ : View → Bool
 pids-differ v =
     each-namespace v
-    (λ n. all process-slots
-    (λ i. seen v n i implies all i (λ j. seen v n j implies not (eqb (pid-seen v n i) (pid-seen v n j)))))
+    (λ n. all process-slots (λ i. all i (λ j. not (share v n (numbers v i) (numbers v j)))))
 
 -- in a living namespace its init alone has 1.
 unfoldable pub first-pids : View → Bool
@@ -140,22 +139,17 @@ first-parents v =
 -- A living process's children's namespace is its own or below.
 unfoldable pub children-namespaces : View → Bool
 children-namespaces v =
-    each-process v (λ i. living v i implies namespace-taken v (v .children i) and below v (v .children i) (v .own i))
+    each-process v (λ i. living v i implies namespace-taken v (children v i) and below v (children v i) (v .own i))
 
--- Handled signals are within 1 to 31 without 9 and 19;
-unfoldable pub handled-signals : View → Bool
-handled-signals v =
-    each-process v (λ i. not (has (v .handled i) 0) and not (has (v .handled i) sigkill) and not (has (v .handled i) sigstop))
-
--- pending ones are among the handled.
-unfoldable pub pending-signals : View → Bool
-pending-signals v = each-process v (λ i. all signals (λ s. has (v .pending i) s implies has (v .handled i) s))
+-- Handled signals are within 1 to 31 without 9 and 19; pending ones are among the handled. (table/specs/Traits)
+unfoldable pub process-traits : View → Bool
+process-traits v = each-process v (λ i. traits-ok (v .traits i))
 
 -- An ended process has no children's namespace or signals;
 unfoldable pub ended-bare : View → Bool
 ended-bare v =
     each-process v
-    (λ i. v .ended i implies eqb (v .children i) no-slot and eqb (v .handled i) 0 and eqb (v .pending i) 0)
+    (λ i. v .ended i implies all hold-slots (λ k. eqb (v .hold i k) no-slot) and bare-traits (v .traits i))
 
 -- a kept number is 0 to 255, a signal 1 to 31
 abbrev pub kept-end : State → Bool
@@ -186,8 +180,8 @@ unfoldable pub sound-view : View → Bool
 sound-view v =
     root-process v and have-parents v and root-namespace v and inits v and empty-slots v and namespace-tree v and below-dead v
     and unborn-namespaces v and last-pids v and pid-range v and pids-differ v and first-pids v and dead-members v
-    and unborn-members v and parents v and first-parents v and children-namespaces v and handled-signals v
-    and pending-signals v and ended-bare v and ends-kept v and namespaces-held v
+    and unborn-members v and parents v and first-parents v and children-namespaces v and process-traits v
+    and ended-bare v and ends-kept v and namespaces-held v
 
 -- the same of a table
 abbrev pub sound : Table → Bool
@@ -199,8 +193,7 @@ unfoldable pub shaped : Table → Bool
 shaped t =
     eqb (length (t .processes)) process-slots and eqb (length (t .namespaces)) namespace-slots
     and all process-slots
-    (λ i. eqb (length (process t i .pids)) levels and ltb (process t i .handled) (2 ^ signals)
-    and ltb (process t i .pending) (2 ^ signals))
+    (λ i. eqb (length (process t i .pids)) levels and traits-shaped (process t i .traits))
 
 -- A sound table of the declared type.
 pub record SoundTable (t : Table) : Type 0 where

@@ -10,7 +10,7 @@ use borrow.Author.Tests.{eqb-false, eqb-true, eq-eqb, ne-eqb, le-leb, lt-leb}
 use lib.Dec.{eqb, leb}
 use Rattle.rules.proofs.Keeps.Birth.{with-born}
 use Rattle.rules.proofs.Laws.Below.{below-trans}
-use Rattle.rules.proofs.Laws.Facts.{Facts, lives-taken}
+use Rattle.rules.proofs.Laws.Facts.{Facts, lives-taken, ended-children}
 use Rattle.rules.proofs.Laws.Slots.{init-own, own-not-unborn, alive-not-unborn, init-taken, parent-living}
 use Rattle.rules.proofs.Laws.Tests.{both, zero-or, no-so, bool-ext}
 use Rattle.rules.proofs.Laws.Tree.{below-refl}
@@ -23,10 +23,11 @@ use Rattle.sameness.proofs.Twins.{inits-twin, top-twins, Pair, Twin, Tw
 use Rattle.table.specs.Limits.{levels}
 use Rattle.rules.specs.Pids.{next-pid}
 use Rattle.table.specs.Slots.{init-of}
-use Rattle.rules.specs.Read.{View, above-at, alive, below, init, is-init, living, seen, taken, unborn}
+use Rattle.rules.specs.Read.{View, above-at, alive, below, init, is-init, living, seen, taken, unborn, children}
 use Rattle.sameness.specs.Sheet.{Row, by-init, name, row}
 use Rattle.table.specs.Tests.{if_then_else_, values}
 use Rattle.table.specs.declared.Life.{Life}
+use Rattle.table.specs.Traits.{born-traits}
 
 values-same : (f g : ℕ → ℕ) (n k : ℕ) → ((l : ℕ) → k ≤ l → l < k + n → f l ≡ g l) → values f n k ≡ values g n k
 unfolding values
@@ -70,7 +71,7 @@ in-new {v} {n} {k} a c h =
     ap (λ (x : Life). if eqb (init-of x) k then with-born v c n k .last n else 0) (life-new a c h)
     ∙ ap₂ (λ (b d : Bool). if b then (if d then next-pid v n else v .last n) else 0) (eq-eqb k k refl) (below-refl v n)
 
-module _ {v u : View} {s r : ℕ} (w : Pair v u s r) {c d : ℕ} {n m k l : ℕ} (a : Room v n k) (b : Room u m l) (tc : Twin v u s r c d) (cradles : Cradles v u s r n m) (holders : (i j : ℕ) → Twin v u s r i j → So (unborn v (v .children i)) → So (unborn u (u .children j)) → eqb (v .children i) n ≡ eqb (u .children j) m) where
+module _ {v u : View} {s r : ℕ} (w : Pair v u s r) {c d : ℕ} {n m k l : ℕ} (a : Room v n k) (b : Room u m l) (tc : Twin v u s r c d) (cradles : Cradles v u s r n m) (holders : (i j : ℕ) → Twin v u s r i j → So (unborn v (children v i)) → So (unborn u (children u j)) → eqb (children v i) n ≡ eqb (children u j) m) where
   abbrev v′ : View
   v′ = with-born v c n k
 
@@ -110,23 +111,23 @@ module _ {v u : View} {s r : ℕ} (w : Pair v u s r) {c d : ℕ} {n m k l : ℕ}
     rows : row v s i ≡ row u r j
     rows = twin-rows w x
 
-    old-children : name v′ s (v .children i) ≡ name u′ r (u .children j)
+    old-children : name v′ s (children v i) ≡ name u′ r (children u j)
     unfolding row living
     old-children =
         by-test (v .ended i)
-        (λ e. name-no-slot v′ s _ (w .facts-v .ended-bare i (taken-v x) e .0 .0) ∙ sym (name-no-slot u′ r _ (w .facts-u .ended-bare j (taken-u x) (sym (ended-twins w x) ∙ e) .0 .0)))
+        (λ e. name-no-slot v′ s _ (ended-children v (w .facts-v) i (taken-v x) e) ∙ sym (name-no-slot u′ r _ (ended-children u (w .facts-u) j (taken-u x) (sym (ended-twins w x) ∙ e))))
         (λ e.
         let li : So (living v i) = both _ _ (taken-v x) (ap not e) in
         let lj : So (living u j) = sym (living-twins w x) ∙ li in
         let both-unborn = children-unborn w x li in
-        by-test (unborn v (v .children i))
+        by-test (unborn v (children v i))
         (λ y.
-        let y′ : So (unborn u (u .children j)) = sym both-unborn ∙ y in
+        let y′ : So (unborn u (children u j)) = sym both-unborn ∙ y in
         let same = holders i j x y y′ in
-        by-test (eqb (v .children i) n)
+        by-test (eqb (children v i) n)
         (λ q. ap (name v′ s) (eqb-true _ _ q) ∙ cradle-name ∙ ap (name u′ r) (sym (eqb-true _ _ (sym same ∙ q))))
         (λ q. name-other a c s _ (children-taken (w .facts-v) i li) y (λ z. eqb-false _ _ q (sym z)) ∙ sym (name-other b d r _ (children-taken (w .facts-u) j lj) y′ (λ z. eqb-false _ _ (sym same ∙ q) (sym z)))))
-        (λ y. name-born a c s (v .children i) y ∙ ap (λ (o : Row). o .children) rows ∙ sym (name-born b d r (u .children j) (sym both-unborn ∙ y))))
+        (λ y. name-born a c s (children v i) y ∙ ap (λ (o : Row). o .children) rows ∙ sym (name-born b d r (children u j) (sym both-unborn ∙ y))))
 
     old-last : (if is-init v′ i then v′ .last (v′ .own i) else 0) ≡ (if is-init u′ j then u′ .last (u′ .own j) else 0)
     unfolding row
@@ -143,7 +144,7 @@ module _ {v u : View} {s r : ℕ} (w : Pair v u s r) {c d : ℕ} {n m k l : ℕ}
     old-rows =
         let ei = ne-eqb i k (old a c i (taken-v x)) in
         let ej = ne-eqb j l (old b d j (taken-u x)) in
-        row-by v′ u′ s r i j (left-pids v c n k i ei (levels - v .level s) (v .level s) ∙ ap (λ (o : Row). o .pids) rows ∙ sym (left-pids u d m l j ej (levels - u .level r) (u .level r))) (rw (ei, ej) (ap (λ (o : Row). o .state) rows)) (rw (ei, ej) (ap (λ (o : Row). o .handled) rows)) (rw (ei, ej) (ap (λ (o : Row). o .pending) rows))
+        row-by v′ u′ s r i j (left-pids v c n k i ei (levels - v .level s) (v .level s) ∙ ap (λ (o : Row). o .pids) rows ∙ sym (left-pids u d m l j ej (levels - u .level r) (u .level r))) (rw (ei, ej) (ap (λ (o : Row). o .state) rows)) (rw (ei, ej) (ap (λ (o : Row). o .traits) rows))
         (rw (ei, ej) (pid-in-grown a c s (v .parent i) (parent-old a i (taken-v x)) ∙ ap (λ (o : Row). o .parent) rows ∙ sym (pid-in-grown b d r (u .parent j) (parent-old b j (taken-u x)))))
         (rw (ei, ej) (name-born a c s (v .own i) (own-not-unborn v (w .facts-v) i (taken-v x)) ∙ ap (λ (o : Row). o .own) rows ∙ sym (name-born b d r (u .own j) (own-not-unborn u (w .facts-u) j (taken-u x)))))
         (rw (ei, ej) old-children)
@@ -170,10 +171,11 @@ module _ {v u : View} {s r : ℕ} (w : Pair v u s r) {c d : ℕ} {n m k l : ℕ}
           ∙ sym (in-new b d (y .unborn-u))
 
   new-rows : row v′ s k ≡ row u′ r l
+  unfolding row
   new-rows =
       let ek = eq-eqb k k refl in
       let el = eq-eqb l l refl in
-      row-by v′ u′ s r k l new-pids (rw (ek, el)) (rw (ek, el)) (rw (ek, el))
+      row-by v′ u′ s r k l new-pids (rw (ek, el)) (rw (ek, el) (ap (λ (o : Row). born-traits (o .traits)) (twin-rows w tc)))
       (rw (ek, el) (pid-in-grown a c s c (old a c c (taken-v tc)) ∙ pid-in-seen v s c (tc .seen-v) ∙ tc .pids ∙ sym (pid-in-grown b d r d (old b d d (taken-u tc)) ∙ pid-in-seen u r d (tc .seen-u))))
       (rw (ek, el) cradle-name) (rw (ek, el) cradle-name) new-last
 

@@ -114,7 +114,7 @@ module _ {v : View} {n k : ℕ} (room : Room v n k) (c : ℕ) where
   child-taken = rw (eq-eqb k k refl, le-leb 0 (v .level n) (omega arith)) (ap not (ne-eqb (next-pid v (above-at v n 0)) 0 (λ z. omega (arith, z, next-fresh v (above-at v n 0) .above))))
 
   pub child-seen : (m : ℕ) → So (below v n m) → So (seen v′ m k)
-  unfolding seen below
+  unfolding seen taken below
   child-seen m h = both _ _ child-taken (rw (eq-eqb k k refl) h)
 
   pub child-pid-in : (m : ℕ) → So (below v n m) → pid-seen v′ m k ≡ next-pid v m

@@ -2,13 +2,14 @@
 -- calls that leave who is where: getpid, getppid, handle, poll.
 use Prim.Native.Nat.{ℕ}
 use mathlib.Core.Bool.{So, Bool, true, false, not, false≢true}
-use mathlib.Core.Logic.{_⊎_, inr}
-use mathlib.Core.Path.{_≡_, refl, sym, subst, _∙_, ap, ap₂}
+use mathlib.Core.Logic.{_⊎_, inl, inr}
+use mathlib.Core.Path.{_≡_, refl, sym, subst, subst₂, _∙_, ap}
 use lib.Dec.{eqb}
 use lib.IntN.{ℤ}
 use Rattle.rules.proofs.Laws.Facts.{facts}
+use Rattle.rules.proofs.Laws.Judged.{Alike, None, gives, gives-granted, judged-twins, made, made-is, refusals}
 use Rattle.rules.proofs.Laws.Steps.{step-made, runs-lives}
-use Rattle.rules.proofs.Laws.Tests.{left, isnt, right}
+use Rattle.rules.proofs.Laws.Tests.{left, isnt, or-true, right}
 use Rattle.rules.proofs.Laws.Slots.{living-own-alive, alive-taken}
 use Rattle.sameness.proofs.Freeing.{after}
 use Rattle.sameness.proofs.Same.{Same, sheets-of-same}
@@ -17,7 +18,7 @@ use Rattle.sameness.proofs.Cases.{by-test}
 use Rattle.sameness.proofs.Still.{same-still, put-still}
 use Rattle.sameness.proofs.Light.{shown, same-put}
 use Rattle.sameness.proofs.Readers.{parent-pid}
-use Rattle.rules.specs.Answers.{is-no-room, refused, answers, granted, is-refused}
+use Rattle.rules.specs.Answers.{is-no-room, number-of, refusal-number, refused, answers, granted, is-refused}
 use Rattle.sameness.specs.Events.{at, follow, sheet-of, Place, gone, is-inside, outside}
 use Rattle.rules.specs.Read.{namespace-taken, view, seen, alive}
 use Rattle.sameness.specs.Sheet.{sheet, row}
@@ -28,15 +29,17 @@ use Rattle.table.specs.declared.Call.{Call}
 use Rattle.table.specs.declared.Outcome.{Outcome}
 use Rattle.table.specs.declared.Refusal.{Refusal}
 use Rattle.table.specs.declared.Table.{Table}
-use Rattle.rules.specs.Calls.{getpid, getppid, handle, handle-off, handle-on, natural, poll, within}
-use Rattle.table.specs.Limits.{signals, sigkill, sigstop}
+use Rattle.rules.specs.Calls.{getpid, getppid, handle-off, handle-on, natural, poll, taken-up}
+use Rattle.table.specs.Limits.{signals}
 use Rattle.table.specs.Slots.{process, put}
-use Rattle.rules.specs.Records.{with-signals}
 use Rattle.table.specs.SignalSets.{lowest-signal, with-signal, without-signal}
 use Rattle.sameness.specs.Touches.{allowed, touches, touched}
 use Rattle.table.specs.declared.Call.the-variants.{Getpid, Getppid, Handle, Poll}
 use Rattle.table.specs.declared.Answer.the-variants.{Number}
-use Rattle.table.specs.declared.Refusal.the-variants.{Einval}
+use Rattle.table.specs.declared.Refusal.the-variants.{Eagain}
+use Rattle.table.specs.Traits.{with-signals}
+use Rattle.table.specs.declared.Traits.{Traits}
+use Rattle.table.specs.Records.{with-traits}
 
 -- ---- by two running callers with the same number in S
 
@@ -66,14 +69,33 @@ pub record Ready (t u : Table) (s r i j : ℕ) : Type 0 where
   pub runs-t : So (runs (view t) i)
   pub runs-u : So (runs (view u) j)
 
--- what is left to prove of a call
-unfoldable pub MadeSame : Call → Type 0
+-- what is to prove of a call
+abbrev pub MadeSame : Call → Type 0
 MadeSame c = (t u : Table) (s r i j : ℕ) → Ready t u s r i j → SoundTable (make t i c .table) → SoundTable (make u j c .table) → Kept t u s r (make t i c) (make u j c)
+
+-- first that the callers' tests agree, but for those of -11
+abbrev pub TestsAlike : Call → Type 0
+TestsAlike c = (t u : Table) (s r i j : ℕ) → Ready t u s r i j → Alike (refusals (view t) i c) (refusals (view u) j c)
+
+-- and then of what the call gives where neither is refused
+abbrev pub GivesSame : Call → Type 0
+GivesSame c =
+    (t u : Table) (s r i j : ℕ) → Ready t u s r i j → None (refusals (view t) i c) → None (refusals (view u) j c) → SoundTable (gives t i c tt .table) → SoundTable (gives u j c tt .table)
+    → Kept t u s r (gives t i c tt) (gives u j c tt)
 
 -- a refusal by both
 pub refused-same : (t u : Table) (s r : ℕ) (e : Refusal) → So (namespace-taken (view t) s) → So (namespace-taken (view u) r) → sheet (view t) s ≡ sheet (view u) r → Kept t u s r (refused t e) (refused u e)
 unfolding refused sheet-of
 refused-same t u s r e hs hr q = inr (refl, rw (follow-self t (at s) hs, follow-self u (at r) hr) q)
+
+-- no room on one of the tables
+no-room-left : (t u : Table) (s r : ℕ) (y : Outcome) → Kept t u s r (refused t Eagain) y
+unfolding refused is-no-room number-of refusal-number _or_
+no-room-left t u s r y = inl refl
+
+no-room-right : (t u : Table) (s r : ℕ) (x : Outcome) → Kept t u s r x (refused u Eagain)
+unfolding refused is-no-room number-of refusal-number
+no-room-right t u s r x = inl (or-true (is-no-room (x .reply .answer)))
 
 -- S stands after the call, and the tables are the same to it
 pub stands-same : (t u : Table) {t′ u′ : Table} {s r : ℕ} → SoundTable t′ → SoundTable u′ → So (namespace-taken (view t′) s) → So (namespace-taken (view u′) r) → Same (view t′) (view u′) s r → after t s t′ ≡ after u r u′
@@ -83,10 +105,17 @@ stands-same t u {t′} {u′} h g hs hr w = rw (hs, hr) (sheets-of-same (facts t
 -- ---- by a running outsider
 
 -- what is to prove of a call made by a running outsider
-unfoldable pub MadeLeaves : Call → Type 0
+abbrev pub MadeLeaves : Call → Type 0
 MadeLeaves c =
     (t : Table) (s i : ℕ) → SoundTable t → So (namespace-taken (view t) s) → So (runs (view t) i) → So (allowed t (at s) (outside i c)) → SoundTable (make t i c .table)
     → after t s (make t i c .table) ≡ sheet (view t) s
+
+-- and of what it gives where the caller is not refused
+abbrev pub GivesLeaves : Call → Type 0
+GivesLeaves c =
+    (t : Table) (s i : ℕ) → SoundTable t → So (namespace-taken (view t) s) → So (runs (view t) i) → None (refusals (view t) i c)
+    → seen (view t) s i ≡ false → touched t (gives t i c tt .table) (at s) i c ≡ false → SoundTable (gives t i c tt .table)
+    → after t s (gives t i c tt .table) ≡ sheet (view t) s
 
 -- the table as it was
 pub as-it-was : (t : Table) (s : ℕ) → So (namespace-taken (view t) s) → after t s t ≡ sheet (view t) s
@@ -94,7 +123,7 @@ unfolding sheet-of
 as-it-was t s h = rw (follow-self t (at s) h)
 
 -- the caller is not of the subtree
-pub outsider : (t : Table) (s i : ℕ) (c : Call) → So (allowed t (at s) (outside i c)) → seen (view t) s i ≡ false
+outsider : (t : Table) (s i : ℕ) (c : Call) → So (allowed t (at s) (outside i c)) → seen (view t) s i ≡ false
 unfolding allowed is-inside
 outsider t s i c a = isnt _ (left _ _ a)
 
@@ -104,44 +133,47 @@ unfolding _and_
 granted-not true b e h = absurd (false≢true (sym e))
 granted-not false b e h = isnt b h
 
--- a granted call that is allowed makes no touch
-pub untouched-made : {t : Table} (s i : ℕ) (c : Call) → SoundTable t → So (runs (view t) i) → So (allowed t (at s) (outside i c)) → (o : Outcome) → make t i c ≡ o → is-refused (o .reply .answer) ≡ false → touched t (o .table) (at s) i c ≡ false
+untouched-made : {t : Table} (s i : ℕ) (c : Call) → SoundTable t → So (runs (view t) i) → So (allowed t (at s) (outside i c)) → (o : Outcome) → make t i c ≡ o → is-refused (o .reply .answer) ≡ false → touched t (o .table) (at s) i c ≡ false
 unfolding allowed touches
 untouched-made {t} s i c h k a o q e =
     granted-not (is-refused (o .reply .answer)) (touched t (o .table) (at s) i c) e
     (subst (λ (y : Outcome). So (not (not (is-refused (y .reply .answer)) and touched t (y .table) (at s) i c))) (step-made t i c h k ∙ q) (right _ _ a))
+
+pub made-leaves : (c : Call) → GivesLeaves c → MadeLeaves c
+unfolding refused
+made-leaves c g t s i h hs k a =
+    made-is (λ o. SoundTable (o .table) → after t s (o .table) ≡ sheet (view t) s) t i c (λ e m. as-it-was t s hs)
+    (λ n q. g t s i h hs k n (outsider t s i c a) (untouched-made s i c h k a (gives t i c tt) q (gives-granted t i c)))
 
 -- S stands, and each row that was there is there, and no other
 pub stands-leaves : {t t′ : Table} {s : ℕ} → SoundTable t → SoundTable t′ → So (namespace-taken (view t) s) → So (namespace-taken (view t′) s) → Same (view t′) (view t) s s → after t s t′ ≡ sheet (view t) s
 unfolding follow sheet-of
 stands-leaves {t} {t′} h h′ k k′ w = rw k′ (sheets-of-same (facts t′ h′) (facts t h) k′ k w)
 
-signals-leave : {t : Table} (s i a b : ℕ) → SoundTable t → SoundTable (put t i (with-signals (process t i) a b)) → So (namespace-taken (view t) s) → seen (view t) s i ≡ false → after t s (put t i (with-signals (process t i) a b)) ≡ sheet (view t) s
+-- other traits of an outsider
+traits-leave : {t : Table} (s i : ℕ) (x : Traits) → SoundTable t → SoundTable (put t i (with-traits (process t i) x)) → So (namespace-taken (view t) s) → seen (view t) s i ≡ false → after t s (put t i (with-traits (process t i) x)) ≡ sheet (view t) s
 unfolding namespace-taken
-signals-leave {t} s i a b h g hs o = stands-leaves h g hs hs (same-still (facts t h) (put-still t (facts t h) i (with-signals (process t i) a b) (refl, refl, refl) s o))
+traits-leave {t} s i x h g hs o = stands-leaves h g hs hs (same-still (facts t h) (put-still t (facts t h) i (with-traits (process t i) x) (refl, refl, refl) s o))
 
-pub getpid-leaves : MadeLeaves Getpid
-unfolding MadeLeaves make getpid answers granted
-getpid-leaves t s i h hs k a g = as-it-was t s hs
+pub getpid-leaves : GivesLeaves Getpid
+unfolding getpid answers granted
+getpid-leaves t s i h hs k n o x g = as-it-was t s hs
 
-pub getppid-leaves : MadeLeaves Getppid
-unfolding MadeLeaves make getppid answers granted
-getppid-leaves t s i h hs k a g = as-it-was t s hs
+pub getppid-leaves : GivesLeaves Getppid
+unfolding getppid answers granted
+getppid-leaves t s i h hs k n o x g = as-it-was t s hs
 
 -- handle, and poll
-pub handle-leaves : (z : ℤ) (on : Bool) → MadeLeaves (Handle z on)
-unfolding MadeLeaves make handle handle-on handle-off answers granted refused
-handle-leaves z on t s i h hs k a g =
-    by-test (not (within 1 signals z) or eqb (natural z) sigkill or eqb (natural z) sigstop) (λ e. rw (e, handle) (as-it-was t s hs))
-    (λ e. by-test on
-    (λ q. rw (e, q, handle) (signals-leave s i _ _ h (rw (e, q, handle) at g) hs (outsider t s i (Handle z on) a)))
-    (λ q. rw (e, q, handle) (signals-leave s i _ _ h (rw (e, q, handle) at g) hs (outsider t s i (Handle z on) a))))
+pub handle-leaves : (z : ℤ) (on : Bool) → GivesLeaves (Handle z on)
+unfolding handle-on handle-off answers granted
+handle-leaves z true t s i h hs k n o x g = traits-leave s i _ h g hs o
+handle-leaves z false t s i h hs k n o x g = traits-leave s i _ h g hs o
 
-pub poll-leaves : MadeLeaves Poll
-unfolding MadeLeaves make poll answers granted
-poll-leaves t s i h hs k a g =
-    by-test (eqb (lowest-signal (process t i .pending)) signals) (λ e. rw (e, poll) (as-it-was t s hs))
-    (λ e. rw (e, poll) (signals-leave s i _ _ h (rw (e, poll) at g) hs (outsider t s i Poll a)))
+pub poll-leaves : GivesLeaves Poll
+unfolding poll taken-up answers granted
+poll-leaves t s i h hs k n o x g =
+    by-test (eqb (lowest-signal (process t i .traits .pending)) signals) (λ e. rw (e, poll) (as-it-was t s hs))
+    (λ e. rw (e, poll) (traits-leave s i _ h (rw (e, poll) at g) hs o))
 
 -- ---- what twin callers have in common
 
@@ -156,7 +188,7 @@ module _ {t u : Table} {s r i j : ℕ} (w : Ready t u s r i j) where
   before = sheets-of-same (facts t (w .sound-t)) (facts u (w .sound-u)) taken-s taken-r (w .pair .same)
 
   -- both refuse alike
-  pub both-refuse : (e : Refusal) → Kept t u s r (refused t e) (refused u e)
+  both-refuse : (e : Refusal) → Kept t u s r (refused t e) (refused u e)
   both-refuse e = refused-same t u s r e taken-s taken-r before
 
   -- both answer alike and leave the table
@@ -180,44 +212,51 @@ module _ {t u : Table} {s r i j : ℕ} (w : Ready t u s r i j) where
   pub the-rows : row (view t) s i ≡ row (view u) r j
   the-rows = twin-rows (w .pair) (w .twin)
 
+-- a call by twin callers: both are refused alike, one lacks room, or neither is refused
+pub made-same : (c : Call) → TestsAlike c → GivesSame c → MadeSame c
+made-same c a g t u s r i j w h k =
+    subst₂ (Kept t u s r) (sym (made t i c)) (sym (made u j c))
+    (judged-twins (λ x y. make t i c ≡ x → make u j c ≡ y → Kept t u s r x y) t u (λ e p q. both-refuse w e) (λ y p q. no-room-left t u s r y) (λ x p q. no-room-right t u s r x)
+    (gives t i c) (gives u j c) _ _ (a t u s r i j w)
+    (λ n m p q. g t u s r i j w n m (subst (λ (o : Outcome). SoundTable (o .table)) p h) (subst (λ (o : Outcome). SoundTable (o .table)) q k))
+    (made t i c) (made u j c))
+
 -- ---- getpid, getppid
 
-pub getpid-same : MadeSame Getpid
-unfolding MadeSame make getpid
-getpid-same t u s r i j w h g = both-tell w _ _ (pid-twins (w .pair) (w .twin) (owns-twins w))
+pub getpid-same : GivesSame Getpid
+unfolding getpid
+getpid-same t u s r i j w n m h g = both-tell w _ _ (pid-twins (w .pair) (w .twin) (owns-twins w))
 
-pub getppid-same : MadeSame Getppid
-unfolding MadeSame make getppid
-getppid-same t u s r i j w h g = both-tell w _ _ (parent-pid (w .pair) (w .twin) (owns-twins w))
+pub getppid-same : GivesSame Getppid
+unfolding getppid
+getppid-same t u s r i j w n m h g = both-tell w _ _ (parent-pid (w .pair) (w .twin) (owns-twins w))
 
 -- ---- handle, poll
 
 module _ {t u : Table} {s r i j : ℕ} (w : Ready t u s r i j) where
-  -- both change their signals alike
-  signal-kept : (a b a′ b′ k l : ℕ) → a ≡ a′ → b ≡ b′ → k ≡ l → SoundTable (put t i (with-signals (process t i) a b)) → SoundTable (put u j (with-signals (process u j) a′ b′)) → Kept t u s r (answers (put t i (with-signals (process t i) a b)) k) (answers (put u j (with-signals (process u j) a′ b′)) l)
+  -- both change their traits alike
+  traits-kept : (x y : Traits) (k l : ℕ) → x ≡ y → k ≡ l → SoundTable (put t i (with-traits (process t i) x)) → SoundTable (put u j (with-traits (process u j) y)) → Kept t u s r (answers (put t i (with-traits (process t i) x)) k) (answers (put u j (with-traits (process u j) y)) l)
   unfolding namespace-taken
-  signal-kept a b a′ b′ k l ea eb e h g =
+  traits-kept x y k l q e h g =
       let z = shown t u (w .pair) (w .twin) in
       both-change w k l e h g (taken-s w) (taken-r w)
-      (same-put t u (w .pair) (w .twin) (w .sound-t .shape) (w .sound-u .shape) (record { states = z .states; handleds = ea; pendings = eb; childrens = z .childrens }) (refl, refl, refl) (refl, refl, refl))
+      (same-put t u (w .pair) (w .twin) (w .sound-t .shape) (w .sound-u .shape) (record { states = z .states; traitss = q; childrens = z .childrens }) (refl, refl, refl) (refl, refl, refl))
 
 -- handle, and poll
-pub handle-same : (z : ℤ) (on : Bool) → MadeSame (Handle z on)
-unfolding MadeSame make handle handle-on handle-off answers granted
-handle-same z on t u s r i j w h g =
+pub handle-same : (z : ℤ) (on : Bool) → GivesSame (Handle z on)
+unfolding handle-on handle-off answers granted
+handle-same z true t u s r i j w n m h g =
     let y = shown t u (w .pair) (w .twin) in
-    by-test (not (within 1 signals z) or eqb (natural z) sigkill or eqb (natural z) sigstop) (λ e. rw (e, handle) (both-refuse w Einval))
-    (λ e. by-test on
-    (λ q. rw (e, q, handle)
-    (signal-kept w _ _ _ _ 0 0 (ap (λ x. with-signal x (natural z)) (y .handleds)) (y .pendings) refl (rw (e, q, handle) at h) (rw (e, q, handle) at g)))
-    (λ q. rw (e, q, handle)
-    (signal-kept w _ _ _ _ 0 0 (ap (λ x. without-signal x (natural z)) (y .handleds)) (ap (λ x. without-signal x (natural z)) (y .pendings)) refl (rw (e, q, handle) at h) (rw (e, q, handle) at g))))
+    traits-kept w _ _ 0 0 (ap (λ (x : Traits). with-signals x (with-signal (x .handled) (natural z)) (x .pending)) (y .traitss)) refl h g
+handle-same z false t u s r i j w n m h g =
+    let y = shown t u (w .pair) (w .twin) in
+    traits-kept w _ _ 0 0 (ap (λ (x : Traits). with-signals x (without-signal (x .handled) (natural z)) (without-signal (x .pending) (natural z))) (y .traitss)) refl h g
 
-pub poll-same : MadeSame Poll
-unfolding MadeSame make poll answers granted
-poll-same t u s r i j w h g =
+pub poll-same : GivesSame Poll
+unfolding poll taken-up answers granted
+poll-same t u s r i j w n m h g =
     let y = shown t u (w .pair) (w .twin) in
-    let lows = ap lowest-signal (y .pendings) in
-    by-test (eqb (lowest-signal (process t i .pending)) signals) (λ e. rw (e, sym (ap (λ x. eqb x signals) lows) ∙ e, poll) (both-tell w 0 0 refl))
+    let lows = ap (λ (x : Traits). lowest-signal (x .pending)) (y .traitss) in
+    by-test (eqb (lowest-signal (process t i .traits .pending)) signals) (λ e. rw (e, sym (ap (λ x. eqb x signals) lows) ∙ e, poll) (both-tell w 0 0 refl))
     (λ e. rw (e, sym (ap (λ x. eqb x signals) lows) ∙ e, poll)
-    (signal-kept w _ _ _ _ _ _ (y .handleds) (ap₂ without-signal (y .pendings) lows) lows (rw (e, poll) at h) (rw (sym (ap (λ x. eqb x signals) lows) ∙ e, poll) at g)))
+    (traits-kept w _ _ _ _ (ap (λ (x : Traits). with-signals x (x .handled) (without-signal (x .pending) (lowest-signal (x .pending)))) (y .traitss)) lows (rw (e, poll) at h) (rw (sym (ap (λ x. eqb x signals) lows) ∙ e, poll) at g)))

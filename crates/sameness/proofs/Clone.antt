@@ -9,17 +9,18 @@ use native.Mathlib.Decide.{ℕ-discrete}
 use Rattle.rules.proofs.Keeps.Birth.{birth-view, with-born}
 use Rattle.rules.proofs.Keeps.Premises.{free-slot-is}
 use Rattle.rules.proofs.Laws.Below.{up-level, below-trans}
-use Rattle.rules.proofs.Laws.Facts.{Facts, facts, Sane, sane, seen-below, seen-taken, lives-taken}
+use Rattle.rules.proofs.Laws.Facts.{Facts, facts, Sane, sane, seen-below, seen-taken, lives-taken, for-children, holds-children}
+use Rattle.rules.proofs.Laws.Judged.{Alike, alike, no-room, all-alike}
 use Rattle.rules.proofs.Laws.Slots.{alive-taken, alive-otherwise, root-only, alive-not-unborn}
 use Rattle.rules.proofs.Laws.Steps.{runs-lives}
-use Rattle.rules.proofs.Laws.Tests.{isnt-so, or-true, bool-ext, or-false-left, or-false-right, or-left, no-so, left, right, cases}
+use Rattle.rules.proofs.Laws.Tests.{isnt-so, bool-ext, or-false-left, or-false-right, or-left, no-so, left, right, cases}
 use Rattle.rules.proofs.Keeps.Changes.{namespace-sane, unshare-sane}
 use Rattle.rules.proofs.Laws.Tree.{below-refl}
 use Rattle.sameness.proofs.Anchor.{root-alive, is-dead-name, name-taken}
 use Rattle.sameness.proofs.BirthSame.{birth-same}
 use Rattle.sameness.proofs.Cases.{by-test}
 use Rattle.sameness.proofs.Born.{cradle-stands, Cradles, next-twins, Room, below-grown, seen-grown, life-born, life-other, bottom, old}
-use Rattle.sameness.proofs.Calls.{Kept, Ready, MadeSame, stands-same, both-refuse, owns-twins, the-rows, own-lives, taken-s, taken-r, MadeLeaves, as-it-was, outsider, stands-leaves, untouched-made}
+use Rattle.sameness.proofs.Calls.{Kept, Ready, stands-same, owns-twins, the-rows, own-lives, taken-s, taken-r, stands-leaves, TestsAlike, GivesSame, GivesLeaves}
 use Rattle.sameness.proofs.Readers.{children-names, children-unborn, home-twins, twin-eqb, children-taken}
 use Rattle.sameness.proofs.Same.{Same, same-trans}
 use Rattle.sameness.proofs.Twins.{Pair, Twin, Twins, taken-v, taken-u, twins-named, twins-level, owns, flip-same}
@@ -27,26 +28,25 @@ use Rattle.sameness.proofs.Freeing.{freed-alike, freed-leaves}
 use Rattle.sameness.proofs.Light.{shown, same-put}
 use Rattle.sameness.proofs.NewNamespace.{the-namespace, new-name, new-taken, new-still, new-unborn, not-held, same-free, new-outside}
 use Rattle.sameness.proofs.Still.{Still, near-here, same-still, stands-still, near, put-still}
-use Rattle.rules.specs.Answers.{is-no-room, refused, number-of, refusal-number, answers, granted, is-refused}
+use Rattle.rules.specs.Answers.{answers, granted}
 use Rattle.rules.specs.Births.{birth}
-use Rattle.rules.specs.Calls.{born, clone, clone-new, elsewhere, new-namespace, own-level, set-children, unshare}
+use Rattle.rules.specs.Calls.{born, elsewhere, new-namespace, own-level, set-children, making-refusals, processes-full, namespaces-full}
 use Rattle.table.specs.Limits.{process-slots, deepest, namespace-slots}
+use Rattle.rules.specs.Claims.{place}
 use Rattle.rules.specs.Pids.{free-slot, free-namespace-slot, next-pid}
 use Rattle.table.specs.Slots.{is-dead, is-alive, process}
-use Rattle.rules.specs.Read.{View, dead, namespace-taken, unborn, view, pid-seen, below, seen}
+use Rattle.rules.specs.Read.{View, dead, namespace-taken, unborn, view, pid-seen, below, seen, children, taken}
 use Rattle.sameness.specs.Sheet.{Row, name-by, row}
 use Rattle.rules.specs.Sound.{SoundTable}
-use Rattle.rules.specs.Step.{make}
 use Rattle.table.specs.Tests.{_or_, if_then_else_}
 use Rattle.table.specs.declared.Answer.the-variants.{Number}
 use Rattle.table.specs.declared.Call.the-variants.{Clone, CloneNew, Unshare}
 use Rattle.table.specs.declared.Life.the-variants.{Unborn, Alive, Dead}
 use Rattle.table.specs.declared.Life.{Life}
-use Rattle.table.specs.declared.Outcome.{Outcome}
-use Rattle.table.specs.declared.Refusal.the-variants.{Enomem, Eagain, Einval, Enospc}
+use Rattle.table.specs.declared.Refusal.the-variants.{Enomem, Eagain, Enospc}
 use Rattle.table.specs.declared.Table.{Table}
-use Rattle.sameness.specs.Events.{at, namespace-inside}
-use Rattle.rules.specs.Records.{with-children}
+use Rattle.table.specs.Records.{with-children}
+use Rattle.sameness.specs.Events.{namespace-inside}
 use Rattle.sameness.specs.Touches.{touched, clones-into}
 
 -- ---- plain clone, by twin callers
@@ -61,7 +61,7 @@ one-up {v} f n h k = go (v .level n) refl
 
 -- two births by twin callers, on their tables or with a fresh namespace each
 pub born-kept : {t u t₁ u₁ : Table} {s r c d n m : ℕ} (w : Ready t u s r c d) → Sane t₁ → Sane u₁ → Pair (view t₁) (view u₁) s r → Twin (view t₁) (view u₁) s r c d → Cradles (view t₁) (view u₁) s r n m
-    → ((i j : ℕ) → Twin (view t₁) (view u₁) s r i j → So (unborn (view t₁) (view t₁ .children i)) → So (unborn (view u₁) (view u₁ .children j)) → eqb (view t₁ .children i) n ≡ eqb (view u₁ .children j) m)
+    → ((i j : ℕ) → Twin (view t₁) (view u₁) s r i j → So (unborn (view t₁) (children (view t₁) i)) → So (unborn (view u₁) (children (view u₁) j)) → eqb (children (view t₁) i) n ≡ eqb (children (view u₁) j) m)
     → (free-slot (view t₁) ≡ process-slots → ⊥) → (free-slot (view u₁) ≡ process-slots → ⊥) → SoundTable (birth t₁ c n) → SoundTable (birth u₁ d m) → Kept t u s r (born t c (birth t₁ c n)) (born u d (birth u₁ d m))
 unfolding namespace-taken
 born-kept {t} {u} {t₁} {u₁} {s} {r} {c} {d} {n} {m} w a b p k cradles holders rt ru h g =
@@ -89,23 +89,23 @@ module _ {t u : Table} {s r c d : ℕ} (w : Ready t u s r c d) where
   fu : Facts (view u)
   fu = facts u (w .sound-u)
 
-  hn : So (namespace-taken (view t) (view t .children c))
+  hn : So (namespace-taken (view t) (children (view t) c))
   hn = children-taken ft c (runs-lives t c (w .runs-t))
 
-  hm : So (namespace-taken (view u) (view u .children d))
+  hm : So (namespace-taken (view u) (children (view u) d))
   hm = children-taken fu d (runs-lives u d (w .runs-u))
 
-  deads : dead (view t) (view t .children c) ≡ dead (view u) (view u .children d)
+  deads : dead (view t) (children (view t) c) ≡ dead (view u) (children (view u) d)
   unfolding row
   deads =
       sym (ap is-dead-name (name-taken ft s _ hn) ∙ by-dead (view t) s _ _) ∙ ap (λ (q : Row). is-dead-name (q .children)) (the-rows w) ∙ ap is-dead-name (name-taken fu r _ hm) ∙ by-dead (view u) r _ _
 
-  unborns : unborn (view t) (view t .children c) ≡ unborn (view u) (view u .children d)
+  unborns : unborn (view t) (children (view t) c) ≡ unborn (view u) (children (view u) d)
   unborns = children-unborn (w .pair) (w .twin) (runs-lives t c (w .runs-t))
 
-  cradles : dead (view t) (view t .children c) ≡ false → Cradles (view t) (view u) s r (view t .children c) (view u .children d)
+  cradles : dead (view t) (children (view t) c) ≡ false → Cradles (view t) (view u) s r (children (view t) c) (children (view u) d)
   cradles nd =
-      by-test (unborn (view t) (view t .children c))
+      by-test (unborn (view t) (children (view t) c))
       (λ h.
       let h′ = sym unborns ∙ h in
       inr
@@ -113,44 +113,31 @@ module _ {t u : Table} {s r c d : ℕ} (w : Ready t u s r c d) where
         unborn-v = h;
         unborn-u = h′;
         lasts = ft .unborn-last _ hn h ∙ sym (fu .unborn-last _ hm h′);
-        ups = subst₂ (Twins (view t) (view u) s r) (ft .unborn-own _ hn h c (taken-v (w .twin)) refl) (fu .unborn-own _ hm h′ d (taken-u (w .twin)) refl) (owns-twins w);
+        ups = subst₂ (Twins (view t) (view u) s r) (ft .unborn-own _ hn h c (taken-v (w .twin)) (holds-children (view t) c)) (fu .unborn-own _ hm h′ d (taken-u (w .twin)) (holds-children (view u) d)) (owns-twins w);
         level-v = one-up ft _ h hn;
         level-u = one-up fu _ h′ hm;
       }))
-      (λ h. inl (twins-named (w .pair) (children-names (w .pair) (w .twin) (runs-lives t c (w .runs-t)) h) (alive-otherwise (view t .life (view t .children c)) nd h)))
+      (λ h. inl (twins-named (w .pair) (children-names (w .pair) (w .twin) (runs-lives t c (w .runs-t)) h) (alive-otherwise (view t .life (children (view t) c)) nd h)))
 
-  holders : (i j : ℕ) → Twin (view t) (view u) s r i j → So (unborn (view t) (view t .children i)) → So (unborn (view u) (view u .children j)) → eqb (view t .children i) (view t .children c) ≡ eqb (view u .children j) (view u .children d)
+  holders : (i j : ℕ) → Twin (view t) (view u) s r i j → So (unborn (view t) (children (view t) i)) → So (unborn (view u) (children (view u) j)) → eqb (children (view t) i) (children (view t) c) ≡ eqb (children (view u) j) (children (view u) d)
   holders i j x h h′ =
       let e = twin-eqb (w .pair) x (w .twin) in
       bool-ext _ _
       (λ q.
       let z = eqb-true _ _ q in
-      eq-eqb _ _ (ap (view u .children) (eqb-true j d (sym e ∙ eq-eqb i c (ft .unborn-one _ hn (subst (λ n. So (unborn (view t) n)) z h) i c (taken-v x) z (taken-v (w .twin)) refl)))))
+      eq-eqb _ _ (ap (children (view u)) (eqb-true j d (sym e ∙ eq-eqb i c (ft .unborn-one _ hn (subst (λ n. So (unborn (view t) n)) z h) i c (taken-v x) (for-children (view t) i _ z) (taken-v (w .twin)) (holds-children (view t) c))))))
       (λ q.
       let z = eqb-true _ _ q in
-      eq-eqb _ _ (ap (view t .children) (eqb-true i c (e ∙ eq-eqb j d (fu .unborn-one _ hm (subst (λ n. So (unborn (view u) n)) z h′) j d (taken-u x) z (taken-u (w .twin)) refl)))))
-
--- no room on one of the tables
-pub no-room-left : (t u : Table) (s r : ℕ) (y : Outcome) → Kept t u s r (refused t Eagain) y
-unfolding refused is-no-room number-of refusal-number _or_
-no-room-left t u s r y = inl refl
-
-pub no-room-right : (t u : Table) (s r : ℕ) (x : Outcome) → Kept t u s r x (refused u Eagain)
-unfolding refused is-no-room number-of refusal-number
-no-room-right t u s r x = inl (or-true (is-no-room (x .reply .answer)))
+      eq-eqb _ _ (ap (children (view t)) (eqb-true i c (e ∙ eq-eqb j d (fu .unborn-one _ hm (subst (λ n. So (unborn (view u) n)) z h′) j d (taken-u x) (for-children (view u) j _ z) (taken-u (w .twin)) (holds-children (view u) d))))))
 
 -- plain clone
-pub clone-same : MadeSame Clone
-unfolding MadeSame make clone
-clone-same t u s r c d w h g =
-    let same = deads w in
-    by-test (dead (view t) (view t .children c)) (λ ea. rw (ea, sym same ∙ ea, clone) (both-refuse w Enomem))
-    (λ ea. by-test (eqb (free-slot (view t)) process-slots)
-    (λ eb. rw (ea, eb, clone) (no-room-left t u s r (clone u d)))
-    (λ eb. by-test (eqb (free-slot (view u)) process-slots)
-    (λ eb′. rw (sym same ∙ ea, eb′, clone) (no-room-right t u s r (clone t c)))
-    (λ eb′. rw (ea, sym same ∙ ea, eb, eb′, clone)
-    (born-kept w (sane t (w .sound-t)) (sane u (w .sound-u)) (w .pair) (w .twin) (cradles w ea) (holders w) (eqb-false _ _ eb) (eqb-false _ _ eb′) (rw (ea, eb, clone) at h) (rw (sym same ∙ ea, eb′, clone) at g)))))
+pub clone-alike : TestsAlike Clone
+clone-alike t u s r c d w = alike (deads w) (no-room all-alike)
+
+pub clone-same : GivesSame Clone
+unfolding place
+clone-same t u s r c d w n m h g =
+    born-kept w (sane t (w .sound-t)) (sane u (w .sound-u)) (w .pair) (w .twin) (cradles w (n Enomem)) (holders w) (eqb-false _ _ (n Eagain)) (eqb-false _ _ (m Eagain)) h g
 
 -- ---- unshare, and clone with a new namespace, by twin callers
 
@@ -208,7 +195,7 @@ module _ {t u : Table} {s r c d : ℕ} (w : Ready t u s r c d) (ot : own-level (
         refl,
         freed-alike t u a b (new-pair .alive-v) (new-pair .alive-u)
             (same-put tn un new-pair new-twin (gt .shape-of) (gu .shape-of)
-            (record { states = z .states; handleds = z .handleds; pendings = z .pendings; childrens = new-name st c rt s ∙ sym (new-name su d ru r) })
+            (record { states = z .states; traitss = z .traitss; childrens = new-name st c rt s ∙ sym (new-name su d ru r) })
             (refl, refl, refl) (refl, refl, refl)),
       )
 
@@ -232,7 +219,7 @@ module _ {t u : Table} {s r c d : ℕ} (w : Ready t u s r c d) (ot : own-level (
 
   cloned-kept : (free-slot (view t) ≡ process-slots → ⊥) → (free-slot (view u) ≡ process-slots → ⊥) → SoundTable (birth tn c (free-namespace-slot (view t))) → SoundTable (birth un d (free-namespace-slot (view u))) → Kept t u s r (born t c (birth tn c (free-namespace-slot (view t)))) (born u d (birth un d (free-namespace-slot (view u))))
   cloned-kept pt pu h g =
-      born-kept w gt gu new-pair new-twin new-cradles (λ i j m y z. not-held st c rt i (taken-v m) ∙ sym (not-held su d ru j (taken-u m)))
+      born-kept w gt gu new-pair new-twin new-cradles (λ i j m y z. ne-eqb _ _ (λ e. not-held st c rt i (taken-v m) (for-children (view tn) i _ e)) ∙ sym (ne-eqb _ _ (λ e. not-held su d ru j (taken-u m) (for-children (view un) j _ e))))
       (λ e. pt (sym (same-free t c) ∙ e)) (λ e. pu (sym (same-free u d) ∙ e)) h g
 
 levels-alike : {t u : Table} {s r c d : ℕ} → Ready t u s r c d → own-level (view t) c ≡ own-level (view u) d
@@ -242,37 +229,27 @@ levels-alike w = twins-level (w .pair) (owns-twins w)
 homes-alike : {t u : Table} {s r c d : ℕ} → Ready t u s r c d → elsewhere (view t) c ≡ elsewhere (view u) d
 homes-alike {t} {c} w = ap not (home-twins (w .pair) (w .twin) (runs-lives t c (w .runs-t)) (own-lives w))
 
+-- both calls: twins agree on all but the room
+making-alike : {t u : Table} {s r c d : ℕ} → Ready t u s r c d → (a b : Bool) → Alike (making-refusals (view t) c a) (making-refusals (view u) d b)
+making-alike w a b = alike (homes-alike w) (alike (ap (λ n. eqb n deepest) (levels-alike w)) (no-room all-alike))
+
 -- unshare by twin callers
-pub unshare-same : MadeSame Unshare
-unfolding MadeSame make unshare answers granted
-unshare-same t u s r c d w h g =
-    let away = homes-alike w in
-    let deep = ap (λ n. eqb n deepest) (levels-alike w) in
-    by-test (elsewhere (view t) c) (λ em. rw (em, sym away ∙ em, unshare) (both-refuse w Einval))
-    (λ em. by-test (eqb (own-level (view t) c) deepest)
-    (λ ea. rw (em, sym away ∙ em, ea, sym deep ∙ ea, unshare) (both-refuse w Enospc))
-    (λ ea. by-test (eqb (free-namespace-slot (view t)) namespace-slots)
-    (λ eb. rw (em, ea, eb, unshare) (no-room-left t u s r (unshare u d)))
-    (λ eb. by-test (eqb (free-namespace-slot (view u)) namespace-slots)
-    (λ eb′. rw (sym away ∙ em, sym deep ∙ ea, eb′, unshare) (no-room-right t u s r (unshare t c)))
-    (λ eb′. rw (em, sym away ∙ em, ea, sym deep ∙ ea, eb, eb′, unshare)
-    (unshared-kept w (eqb-false _ _ ea) (eqb-false _ _ (sym deep ∙ ea)) (eqb-false _ _ eb) (eqb-false _ _ eb′))))))
+pub unshare-alike : TestsAlike Unshare
+unshare-alike t u s r c d w = making-alike w (namespaces-full (view t)) (namespaces-full (view u))
+
+pub unshare-same : GivesSame Unshare
+unfolding place answers granted
+unshare-same t u s r c d w n m h g = unshared-kept w (eqb-false _ _ (n Enospc)) (eqb-false _ _ (m Enospc)) (eqb-false _ _ (n Eagain)) (eqb-false _ _ (m Eagain))
 
 -- clone new by twin callers
-pub clone-new-same : MadeSame CloneNew
-unfolding MadeSame make clone-new
-clone-new-same t u s r c d w h g =
-    let away = homes-alike w in
-    let deep = ap (λ n. eqb n deepest) (levels-alike w) in
-    by-test (elsewhere (view t) c) (λ em. rw (em, sym away ∙ em, clone-new) (both-refuse w Einval))
-    (λ em. by-test (eqb (own-level (view t) c) deepest)
-    (λ ea. rw (em, sym away ∙ em, ea, sym deep ∙ ea, clone-new) (both-refuse w Enospc))
-    (λ ea. by-test (eqb (free-slot (view t)) process-slots or eqb (free-namespace-slot (view t)) namespace-slots)
-    (λ eb. rw (em, ea, eb, clone-new) (no-room-left t u s r (clone-new u d)))
-    (λ eb. by-test (eqb (free-slot (view u)) process-slots or eqb (free-namespace-slot (view u)) namespace-slots)
-    (λ eb′. rw (sym away ∙ em, sym deep ∙ ea, eb′, clone-new) (no-room-right t u s r (clone-new t c)))
-    (λ eb′. rw (em, sym away ∙ em, ea, sym deep ∙ ea, eb, eb′, clone-new)
-    (cloned-kept w (eqb-false _ _ ea) (eqb-false _ _ (sym deep ∙ ea)) (eqb-false _ _ (or-false-right _ _ eb)) (eqb-false _ _ (or-false-right _ _ eb′)) (eqb-false _ _ (or-false-left _ _ eb)) (eqb-false _ _ (or-false-left _ _ eb′)) (rw (em, ea, eb, clone-new) at h) (rw (sym away ∙ em, sym deep ∙ ea, eb′, clone-new) at g))))))
+pub clone-new-alike : TestsAlike CloneNew
+clone-new-alike t u s r c d w = making-alike w (processes-full (view t) or namespaces-full (view t)) (processes-full (view u) or namespaces-full (view u))
+
+pub clone-new-same : GivesSame CloneNew
+unfolding place
+clone-new-same t u s r c d w n m h g =
+    cloned-kept w (eqb-false _ _ (n Enospc)) (eqb-false _ _ (m Enospc)) (eqb-false _ _ (or-false-right _ _ (n Eagain))) (eqb-false _ _ (or-false-right _ _ (m Eagain)))
+    (eqb-false _ _ (or-false-left _ _ (n Eagain))) (eqb-false _ _ (or-false-left _ _ (m Eagain))) h g
 
 -- ---- by an outsider: the child is born outside S
 
@@ -285,7 +262,7 @@ module _ {v : View} {n k : ℕ} (room : Room v n k) (c s : ℕ) (o : below v n s
   apart i h = old room c i (seen-taken v s i h)
 
   seen-either : (i : ℕ) → Dec (i ≡ k) → seen v′ s i ≡ seen v s i
-  unfolding seen
+  unfolding seen taken
   seen-either i (no e) = seen-grown room c s i e
   seen-either i (yes e) = bool-ext _ _ (λ h. absurd (no-so o (sym (below-grown room c n s) ∙ subst (λ x. So (below v′ x s)) (rw (eq-eqb i k e)) (right _ _ h)))) (λ h. absurd (old room c i (left _ _ h) e))
 
@@ -326,57 +303,38 @@ module _ {t : Table} (w : Sane t) (c n : ℕ) (tn : So (namespace-taken (view t)
   birth-stands h = stands-still (w .facts) still h
 
 -- plain clone
-pub clone-leaves : MadeLeaves Clone
-unfolding MadeLeaves make clone refused is-refused touched clones-into namespace-inside
-clone-leaves t s i h hs k a g =
-    by-test (dead (view t) (view t .children i)) (λ ea. rw (ea, clone) (as-it-was t s hs))
-    (λ ea. by-test (eqb (free-slot (view t)) process-slots)
-    (λ eb. rw (ea, eb, clone) (as-it-was t s hs))
-    (λ eb.
-    let n = view t .children i in
-    let tn = children-taken (facts t h) i (runs-lives t i k) in
-    let o = untouched-made s i Clone h k a (born t i (birth t i n)) (rw (ea, eb, clone) refl) refl in
-    rw (ea, eb, clone)
-    (stands-leaves h (rw (ea, eb, clone) at g) hs (birth-stands (sane t h) i n tn (eqb-false _ _ eb) s o hs) (birth-leaves (sane t h) i n tn (eqb-false _ _ eb) s o))))
+pub clone-leaves : GivesLeaves Clone
+unfolding place touched clones-into namespace-inside
+clone-leaves t s i h hs k n x o g =
+    let m = children (view t) i in
+    let tm = children-taken (facts t h) i (runs-lives t i k) in
+    let room = eqb-false _ _ (n Eagain) in
+    stands-leaves h g hs (birth-stands (sane t h) i m tm room s o hs) (birth-leaves (sane t h) i m tm room s o)
 
 -- clone new
-pub clone-new-leaves : MadeLeaves CloneNew
-unfolding MadeLeaves make clone-new refused
-clone-new-leaves t s i h hs k a g =
-    by-test (elsewhere (view t) i) (λ em. rw (em, clone-new) (as-it-was t s hs))
-    (λ em. by-test (eqb (own-level (view t) i) deepest)
-    (λ ea. rw (em, ea, clone-new) (as-it-was t s hs))
-    (λ ea. by-test (eqb (free-slot (view t)) process-slots or eqb (free-namespace-slot (view t)) namespace-slots)
-    (λ eb. rw (em, ea, eb, clone-new) (as-it-was t s hs))
-    (λ eb.
+pub clone-new-leaves : GivesLeaves CloneNew
+unfolding place
+clone-new-leaves t s i h hs k n away z g =
     let x = free-namespace-slot (view t) in
-    let room : x ≡ namespace-slots → ⊥ = eqb-false _ _ (or-false-right _ _ eb) in
-    let room₁ : free-slot (view (new-namespace t i)) ≡ process-slots → ⊥ = λ e. eqb-false _ _ (or-false-left _ _ eb) (sym (same-free t i) ∙ e) in
+    let room : x ≡ namespace-slots → ⊥ = eqb-false _ _ (or-false-right _ _ (n Eagain)) in
+    let room₁ : free-slot (view (new-namespace t i)) ≡ process-slots → ⊥ = λ e. eqb-false _ _ (or-false-left _ _ (n Eagain)) (sym (same-free t i) ∙ e) in
     let still = new-still (sane t h) i room s hs in
     let li = runs-lives t i k in
-    let f₁ = namespace-sane t (sane t h) i li (eqb-false _ _ ea) room in
+    let f₁ = namespace-sane t (sane t h) i li (eqb-false _ _ (n Enospc)) room in
     let tx = new-taken (sane t h) i room in
-    let o = new-outside (sane t h) i room s hs (lives-taken (view t) i li) (f₁ .facts) (outsider t s i CloneNew a) in
-    rw (em, ea, eb, clone-new)
-    (stands-leaves h (rw (em, ea, eb, clone-new) at g) hs (birth-stands f₁ i x tx room₁ s o (stands-still (facts t h) still hs))
-    (same-trans (birth-leaves f₁ i x tx room₁ s o) (same-still (facts t h) still))))))
+    let o = new-outside (sane t h) i room s hs (lives-taken (view t) i li) (f₁ .facts) away in
+    stands-leaves h g hs (birth-stands f₁ i x tx room₁ s o (stands-still (facts t h) still hs))
+    (same-trans (birth-leaves f₁ i x tx room₁ s o) (same-still (facts t h) still))
 
 -- unshare
-pub unshare-leaves : MadeLeaves Unshare
-unfolding MadeLeaves make unshare set-children answers granted refused namespace-taken
-unshare-leaves t s i h hs k a g =
-    by-test (elsewhere (view t) i) (λ em. rw (em, unshare) (as-it-was t s hs))
-    (λ em. by-test (eqb (own-level (view t) i) deepest)
-    (λ ea. rw (em, ea, unshare) (as-it-was t s hs))
-    (λ ea. by-test (eqb (free-namespace-slot (view t)) namespace-slots)
-    (λ eb. rw (em, ea, eb, unshare) (as-it-was t s hs))
-    (λ eb.
-    let room : free-namespace-slot (view t) ≡ namespace-slots → ⊥ = eqb-false _ _ eb in
+pub unshare-leaves : GivesLeaves Unshare
+unfolding place set-children answers granted namespace-taken
+unshare-leaves t s i h hs k n away z g =
+    let room : free-namespace-slot (view t) ≡ namespace-slots → ⊥ = eqb-false _ _ (n Eagain) in
     let t₁ = new-namespace t i in
-    let f₁ = namespace-sane t (sane t h) i (runs-lives t i k) (eqb-false _ _ ea) room .facts in
+    let f₁ = namespace-sane t (sane t h) i (runs-lives t i k) (eqb-false _ _ (n Enospc)) room .facts in
     let still = new-still (sane t h) i room s hs in
-    rw (em, ea, eb, unshare)
-    (freed-leaves h (unshare-sane t h i k (eqb-false _ _ ea) room) hs (stands-still (facts t h) still hs)
+    freed-leaves h (unshare-sane t h i k (eqb-false _ _ (n Enospc)) room) hs (stands-still (facts t h) still hs)
     (same-trans
-    (same-still f₁ (put-still t₁ f₁ i (with-children (process t₁ i) (free-namespace-slot (view t))) (refl, refl, refl) s (still .seens i ∙ outsider t s i Unshare a)))
-    (same-still (facts t h) still))))))
+    (same-still f₁ (put-still t₁ f₁ i (with-children (process t₁ i) (free-namespace-slot (view t))) (refl, refl, refl) s (still .seens i ∙ away)))
+    (same-still (facts t h) still))

@@ -10,22 +10,23 @@ use mathlib.Core.Path.{_≡_, refl, sym, _∙_, ap, subst}
 use borrow.Author.Tests.{eq-eqb, ne-eqb, not-true}
 use Rattle.rules.proofs.Keeps.Changes.{keeps-sound, make-sound}
 use Rattle.rules.proofs.Laws.Facts.{facts, seen-below}
+use Rattle.rules.proofs.Laws.Judged.{alike, all-alike}
 use Rattle.rules.proofs.Laws.Lists.{heads-equal, tails-equal, not-empty}
 use Rattle.rules.proofs.Laws.Slots.{alive-taken, living-own-alive, alive-above, pid-unique}
 use Rattle.rules.proofs.Laws.Steps.{step-made, step-refused, runs-lives}
 use Rattle.rules.proofs.Laws.Tests.{left, right}
 use Rattle.sameness.proofs.Cases.{by-test}
-use Rattle.sameness.proofs.Clone.{clone-same, clone-new-same, unshare-same, clone-leaves, clone-new-leaves, unshare-leaves}
-use Rattle.sameness.proofs.Calls.{Kept, MadeSame, PlaceStands, follow-self, refused-same, MadeLeaves, getpid-leaves, getppid-leaves, handle-leaves, poll-leaves, as-it-was, getpid-same, getppid-same, handle-same, poll-same}
+use Rattle.sameness.proofs.Clone.{clone-alike, clone-new-alike, unshare-alike, clone-same, clone-new-same, unshare-same, clone-leaves, clone-new-leaves, unshare-leaves}
+use Rattle.sameness.proofs.Calls.{Kept, PlaceStands, follow-self, refused-same, getpid-leaves, getppid-leaves, handle-leaves, poll-leaves, as-it-was, getpid-same, getppid-same, handle-same, poll-same, TestsAlike, GivesSame, GivesLeaves, made-same, made-leaves}
 use Rattle.sameness.proofs.EndLeaves.{exit-leaves}
-use Rattle.sameness.proofs.ExitSame.{exit-same}
-use Rattle.sameness.proofs.Kill.{kill-same}
+use Rattle.sameness.proofs.ExitSame.{exit-alike, exit-same}
+use Rattle.sameness.proofs.Kill.{kill-alike, kill-same}
 use Rattle.sameness.proofs.KillLeaves.{kill-leaves}
 use Rattle.sameness.proofs.Readers.{find-same, find-none}
 use Rattle.sameness.proofs.Same.{same-of-sheets, level-lt, row-pid}
 use Rattle.sameness.proofs.Twins.{Pair, Twin, taken-v, taken-u}
-use Rattle.sameness.proofs.Setns.{setns-same, setns-leaves}
-use Rattle.sameness.proofs.Wait.{wait-leaves, wait-same}
+use Rattle.sameness.proofs.Setns.{setns-alike, setns-same, setns-leaves}
+use Rattle.sameness.proofs.Wait.{wait-alike, wait-leaves, wait-same}
 use Rattle.rules.specs.Answers.{is-no-room, refused}
 use Rattle.rules.specs.Claims.{KeepsSound}
 use Rattle.sameness.specs.Claims.{Agree, Observed, OutsideLeaves, Sameness, observations, observe, lacks-room, NothingLearnt, roomy}
@@ -48,24 +49,24 @@ use Rattle.table.proofs.Chains.{or-false}
 -- ---- each call
 
 -- by two callers with the same number in S, and by an outsider
-each : (c : Call) → MadeSame c × MadeLeaves c
-each Clone = (clone-same, clone-leaves)
-each CloneNew = (clone-new-same, clone-new-leaves)
-each Unshare = (unshare-same, unshare-leaves)
-each (Setns n) = (setns-same n, setns-leaves n)
-each (Kill n s) = (kill-same n s, kill-leaves n s)
-each (Exit s) = (exit-same s, exit-leaves s)
-each Wait = (wait-same, wait-leaves)
-each Getpid = (getpid-same, getpid-leaves)
-each Getppid = (getppid-same, getppid-leaves)
-each (Handle s on) = (handle-same s on, handle-leaves s on)
-each Poll = (poll-same, poll-leaves)
+each : (c : Call) → TestsAlike c × GivesSame c × GivesLeaves c
+each Clone = (clone-alike, clone-same, clone-leaves)
+each CloneNew = (clone-new-alike, clone-new-same, clone-new-leaves)
+each Unshare = (unshare-alike, unshare-same, unshare-leaves)
+each (Setns n) = (setns-alike n, setns-same n, setns-leaves n)
+each (Kill n s) = (kill-alike n s, kill-same n s, kill-leaves n s)
+each (Exit s) = (exit-alike s, exit-same s, exit-leaves s)
+each Wait = (wait-alike, wait-same, wait-leaves)
+each Getpid = (λ t u s r i j w. all-alike, getpid-same, getpid-leaves)
+each Getppid = (λ t u s r i j w. all-alike, getppid-same, getppid-leaves)
+each (Handle s on) = (λ t u s r i j w. alike refl all-alike, handle-same s on, handle-leaves s on)
+each Poll = (λ t u s r i j w. all-alike, poll-same, poll-leaves)
 
 -- an outside call that makes no touch leaves the sheet
 pub outside-leaves : OutsideLeaves
-unfolding OutsideLeaves MadeLeaves happens table-after refused
+unfolding OutsideLeaves happens table-after refused
 outside-leaves t s i c h hs a =
-    by-test (runs (view t) i) (λ k. rw (step-made t i c h k) (each c .1 t s i h hs k a (make-sound t i c h k)))
+    by-test (runs (view t) i) (λ k. rw (step-made t i c h k) (made-leaves c (each c .2) t s i h hs k a (make-sound t i c h k)))
     (λ k. rw (step-refused t i c h k) (as-it-was t s hs))
 
 runs-alive : {t : Table} (s i : ℕ) → SoundTable t → So (seen (view t) s i) → So (runs (view t) i) → So (alive (view t) s)
@@ -78,7 +79,6 @@ runs-same k e = rw (taken-v k, taken-u k) (ap (λ (q : Row). true and is-running
 
 -- An inside call, by the same number in S on both tables: no room on one, or the same answer and the same sheet.
 inside-same : {t u : Table} {s r i j : ℕ} (c : Call) → SoundTable t → SoundTable u → So (namespace-taken (view t) s) → So (namespace-taken (view u) r) → sheet (view t) s ≡ sheet (view u) r → Twin (view t) (view u) s r i j → Kept t u s r (step t i c) (step u j c)
-unfolding MadeSame
 inside-same {t} {u} {s} {r} {i} {j} c h g hs hr e m =
     let w = same-of-sheets (facts t h) (facts u g) e in
     let (x, n, q) = w .there i (m .seen-v) in
@@ -90,7 +90,7 @@ inside-same {t} {u} {s} {r} {i} {j} c h g hs hr e m =
     let l : So (runs (view u) j) = sym both-run ∙ k in
     let p : Pair (view t) (view u) s r = record { facts-v = facts t h; facts-u = facts u g; alive-v = runs-alive s i h (m .seen-v) k; alive-u = runs-alive r j g (m .seen-u) l; same = w } in
     rw (step-made t i c h k, step-made u j c g l)
-    (each c .0 t u s r i j (record { sound-t = h; sound-u = g; pair = p; twin = m; runs-t = k; runs-u = l }) (make-sound t i c h k) (make-sound u j c g l)))
+    (made-same c (each c .0) (each c .1) t u s r i j (record { sound-t = h; sound-u = g; pair = p; twin = m; runs-t = k; runs-u = l }) (make-sound t i c h k) (make-sound u j c g l)))
     (λ k. rw (step-refused t i c h k, step-refused u j c g (sym both-run ∙ k)) (refused-same t u s r NotRunning hs hr e))
 
 -- ---- the relation that every call keeps

@@ -6,6 +6,7 @@ use mathlib.Core.Path.{_≡_, refl, sym, _∙_, ap, subst}
 use borrow.Author.Tests.{eqb-true, eqb-false, ne-eqb}
 use lib.Dec.{eqb}
 use lib.IntN.{ℤ}
+use Rattle.table.specs.declared.Refusal.the-variants.{Ebusy}
 use Rattle.rules.proofs.Keeps.End.{end-view, end-sane}
 use Rattle.rules.proofs.Keeps.Freed.{freed-view}
 use Rattle.rules.proofs.Keeps.InitEnds.{gone, subtree-gone}
@@ -18,20 +19,20 @@ use Rattle.rules.proofs.Laws.Tree.{below-refl}
 use Rattle.sameness.proofs.Freeing.{freed-still}
 use Rattle.sameness.proofs.Ends.{not-seen-stays, fallen-places, member-of}
 use Rattle.sameness.proofs.Anchor.{below-up}
-use Rattle.sameness.proofs.Cases.{by-test, by-equal}
-use Rattle.sameness.proofs.Calls.{MadeLeaves, as-it-was, outsider, untouched-made}
+use Rattle.sameness.proofs.Cases.{by-equal}
+use Rattle.sameness.proofs.Calls.{GivesLeaves}
 use Rattle.sameness.proofs.Twins.{pid-in-unseen}
 use Rattle.sameness.proofs.Remain.{seen-same}
 use Rattle.sameness.proofs.Still.{Still, near}
-use Rattle.rules.specs.Answers.{answers, granted, is-refused, refused}
-use Rattle.rules.specs.Calls.{exit, status}
+use Rattle.rules.specs.Answers.{answers, granted}
+use Rattle.rules.specs.Calls.{status}
+use Rattle.rules.specs.Claims.{place}
 use Rattle.rules.specs.Ends.{end}
 use Rattle.sameness.specs.Events.{at}
 use Rattle.rules.specs.Freeing.{freed, kept}
 use Rattle.table.specs.Limits.{namespace-slots}
 use Rattle.table.specs.Slots.{is-alive}
 use Rattle.rules.specs.Read.{View, alive, below, child-of, init, is-init, living, pid-in, seen, taken, view}
-use Rattle.rules.specs.Step.{make}
 use Rattle.table.specs.Tests.{if_then_else_}
 use Rattle.sameness.specs.Touches.{ends-above, touched}
 use Rattle.table.specs.declared.Call.the-variants.{Exit}
@@ -54,7 +55,7 @@ module _ {v : View} (f : Facts v) (x : ℕ) (e : End) (lives : So (alive v (v .o
 
   -- neither the old parent nor the new is of S
   init-unseen : seen v s (init v (v .own x)) ≡ false
-  unfolding seen
+  unfolding seen taken
   init-unseen = isnt-so (λ k. no-so o (both _ _ tx (subst (λ n. So (below v n s)) (init-own v f (v .own x) lives) (right _ _ k))))
 
   parents-as : (i : ℕ) → So (seen v s i) → pid-in v s (if eqb i x then v .parent i else (if child-of v x i then init v (v .own x) else v .parent i)) ≡ pid-in v s (v .parent i)
@@ -82,7 +83,7 @@ module _ {v : View} (f : Facts v) (x : ℕ) (e : End) (lives : So (alive v (v .o
 module _ {v : View} (f : Facts v) (x : ℕ) (e : End) (tx : So (taken v x)) (s : ℕ) (o : seen v s x ≡ false) (n : below v s (v .own x) ≡ false) where
   -- nothing lies in both
   disjoint : (m : ℕ) → So (below v m s) → So (below v m (v .own x)) → ⊥
-  unfolding seen
+  unfolding seen taken
   disjoint m a b = ⊎-elim (λ k. no-so n k) (λ k. no-so o (both _ _ tx k)) (either-below f (v .level m) m s (v .own x) refl a b)
 
   spared : (i : ℕ) → So (seen v s i) → seen v (v .own x) i ≡ false
@@ -137,7 +138,7 @@ lives-freed t s w h m l o b a k = h m l o b a (isnt-so (λ y. no-so k (freed-bac
 
 -- an end leaves all that the sheet of S rests on
 pub end-still : {t : Table} (w : Sane t) (x : ℕ) (e : End) → So (living (view t) x) → (s : ℕ) → seen (view t) s x ≡ false → Above t s (end t x e) → Still (view t) (view (end t x e)) s
-unfolding seen
+unfolding seen taken
 end-still {t} w x e l s o h =
     let f = w .facts in
     let tx = lives-taken (view t) x l in
@@ -149,13 +150,10 @@ end-still {t} w x e l s o h =
     (choose (λ u. Still (view t) u s) (is-init (view t) x) (λ q. init-still f x e tx s o (not-above q)) (λ q. member-still f x e lives tx s o))
 
 -- exit by an outsider
-pub exit-leaves : (z : ℤ) → MadeLeaves (Exit z)
-unfolding MadeLeaves make exit answers granted refused is-refused touched
-exit-leaves z t s i h hs k a g =
-    by-test (eqb i 0) (λ q. rw (q, exit) (as-it-was t s hs))
-    (λ q.
+pub exit-leaves : (z : ℤ) → GivesLeaves (Exit z)
+unfolding place answers granted touched
+exit-leaves z t s i h hs k n o x g =
     let e = Exited (status z) in
     let li = runs-lives t i k in
-    let w = end-sane t (sane t h) i e li (eqb-false _ _ q) (remainder z) in
-    let no-touch = untouched-made s i (Exit z) h k a (answers (freed (end t i e)) 0) (rw (q, exit) refl) refl in
-    rw (q, exit) (freed-still h w hs (end-still (sane t h) i e li s (outsider t s i (Exit z) a) (lives-freed t s w (lives-on t (freed (end t i e)) s no-touch)))))
+    let w = end-sane t (sane t h) i e li (eqb-false _ _ (n Ebusy)) (remainder z) in
+    freed-still h w hs (end-still (sane t h) i e li s o (lives-freed t s w (lives-on t (freed (end t i e)) s x)))

@@ -9,7 +9,7 @@ use borrow.Author.Tests.{ne-eqb}
 use lib.Dec.{eqb}
 use Rattle.rules.proofs.Keeps.InitEnds.{subtree-gone, gone}
 use Rattle.rules.proofs.Laws.Below.{up-level, below-level, below-trans}
-use Rattle.rules.proofs.Laws.Facts.{Facts, seen-taken}
+use Rattle.rules.proofs.Laws.Facts.{Facts, seen-taken, ended-children}
 use Rattle.rules.proofs.Laws.Slots.{alive-up, child-seen, init-own, init-seen}
 use Rattle.rules.proofs.Laws.Tests.{isnt, isnt-not, isnt-so, no-so, false-and, right, both}
 use Rattle.rules.proofs.Keeps.Changed.{pick}
@@ -22,13 +22,14 @@ use Rattle.sameness.proofs.Twins.{Pair, Twin, owns, pid-in-seen, twin-r
 use Rattle.sameness.proofs.Cases.{by-test, by-equal}
 use Rattle.table.specs.Limits.{no-slot, sigkill}
 use Rattle.table.specs.Slots.{init-of, is-alive}
-use Rattle.rules.specs.Read.{View, alive, below, init, namespace-taken, pid-in, seen, taken, child-of, is-init, living, unborn}
+use Rattle.rules.specs.Read.{View, alive, below, init, namespace-taken, pid-in, seen, taken, child-of, is-init, living, unborn, children}
 use Rattle.sameness.specs.Sheet.{dead-at, name, name-by, nearest, row, Row}
 use Rattle.table.specs.Tests.{if_then_else_, _and_}
 use Rattle.table.specs.declared.End.{End}
 use Rattle.table.specs.declared.Life.the-variants.{Dead}
 use Rattle.table.specs.declared.State.the-variants.{Ended, Running}
 use Rattle.table.specs.declared.End.the-variants.{Signaled}
+use Rattle.table.specs.Traits.{no-traits, ended-traits}
 
 -- ---- an init, on one table: who stays keeps his place; a namespace outside keeps its name, and one that died is named
 -- by the init above
@@ -64,7 +65,7 @@ fallen-places v x e =
 module _ {v : View} (f : Facts v) (x : ℕ) (e : End) where
   -- the init of a namespace outside stays
   pub init-stays : (n : ℕ) → below v n (v .own x) ≡ false → So (stays v x (init v n))
-  unfolding seen
+  unfolding seen taken
   init-stays n h =
       not-seen-stays v x (init v n)
       (isnt-so
@@ -153,8 +154,8 @@ module _ {v : View} (f : Facts v) (x : ℕ) (e : End) (s i : ℕ) where
       pid-in-remain f (member-remain x e .places) s (after .parent i) refl refl
       ∙ pick (pid-in v s) (eqb i x) _ _ ∙ ap (λ (n : ℕ). if eqb i x then pid-in v s (v .parent i) else n) (pick (pid-in v s) (child-of v x i) _ _)
 
-  children-after : name after s (after .children i) ≡ (if eqb i x then name v s no-slot else name v s (v .children i))
-  children-after = name-remain f (member-remain x e) s (after .children i) refl refl ∙ pick (name v s) (eqb i x) no-slot (v .children i)
+  children-after : name after s (children after i) ≡ (if eqb i x then name v s no-slot else name v s (children v i))
+  children-after = name-remain f (member-remain x e) s (children after i) refl refl ∙ pick (name v s) (eqb i x) no-slot (children v i)
 
 module _ {v u : View} {s r : ℕ} (p : Pair v u s r) {x y : ℕ} (e : End) (k : Twin v u s r x y) (lives : So (alive v (v .own x))) where
   -- the inits that take the children
@@ -172,8 +173,7 @@ module _ {v u : View} {s r : ℕ} (p : Pair v u s r) {x y : ℕ} (e : End) (k : 
       let none = name-no-slot v s no-slot refl ∙ sym (name-no-slot u r no-slot refl) in
       record {
         states = λ z. if slot z then Ended e else rows z .state;
-        handleds = λ z. if slot z then 0 else rows z .handled;
-        pendings = λ z. if slot z then 0 else rows z .pending;
+        traitss = λ z. if slot z then ended-traits (rows z .traits) else rows z .traits;
         parents = parent-after (p .facts-v) x e s i ∙ (λ z. if slot z then rows z .parent else (if child z then reapers z else rows z .parent)) ∙ sym (parent-after (p .facts-u) y e r j);
         childrens = children-after (p .facts-v) x e s i ∙ (λ z. if slot z then none z else rows z .children) ∙ sym (children-after (p .facts-u) y e r j);
         lasts = λ z. rows z .last;
@@ -215,10 +215,10 @@ module _ {v u : View} {s r : ℕ} (p : Pair v u s r) {x y : ℕ} (e : End) (k : 
   namesakes a = either-name _ _ (a .names) (a .stands-v) (a .stands-u) (below-named p a tops) (λ h. level-named p a)
 
   -- of two that live on, the namespaces for their children
-  living-names : {i j : ℕ} → Twin v u s r i j → So (living v i) → seen v (v .own x) i ≡ false → name v′ s (v .children i) ≡ name u′ r (u .children j)
+  living-names : {i j : ℕ} → Twin v u s r i j → So (living v i) → seen v (v .own x) i ≡ false → name v′ s (children v i) ≡ name u′ r (children u j)
   unfolding row
   living-names {i} {j} m li o =
-      by-test (unborn v (v .children i))
+      by-test (unborn v (children v i))
       (λ z.
       let lj = sym (living-twins p m) ∙ li in
       let a = unborn-outside (p .facts-v) _ i li z (tops .lives-v) o in
@@ -226,12 +226,12 @@ module _ {v u : View} {s r : ℕ} (p : Pair v u s r) {x y : ℕ} (e : End) (k : 
       either-name _ _ (ap (λ (o : Row). o .children) (twin-rows p m)) (children-taken (p .facts-v) i li) (children-taken (p .facts-u) j lj) (a ∙ sym b) (λ h. absurd (no-so a h)))
       (λ z. namesakes (children-names p m li z))
 
-  child-names : {i j : ℕ} → Twin v u s r i j → name v′ s (if seen v (v .own x) i then no-slot else v .children i) ≡ name u′ r (if seen u (u .own y) j then no-slot else u .children j)
+  child-names : {i j : ℕ} → Twin v u s r i j → name v′ s (if seen v (v .own x) i then no-slot else children v i) ≡ name u′ r (if seen u (u .own y) j then no-slot else children u j)
   unfolding living
   child-names {i} {j} m =
       by-test (seen v (v .own x) i) (λ o. rw (o, sym (sees m) ∙ o) (none no-slot no-slot refl refl))
       (λ o. by-test (v .ended i)
-      (λ d. rw (o, sym (sees m) ∙ o) (none _ _ (p .facts-v .ended-bare i (taken-v m) d .0 .0) (p .facts-u .ended-bare j (taken-u m) (sym (ended-twins p m) ∙ d) .0 .0)))
+      (λ d. rw (o, sym (sees m) ∙ o) (none _ _ (ended-children v (p .facts-v) i (taken-v m) d) (ended-children u (p .facts-u) j (taken-u m) (sym (ended-twins p m) ∙ d))))
       (λ d. rw (o, sym (sees m) ∙ o) (living-names m (both _ _ (taken-v m) (ap not d)) o)))
     where
       none : (a b : ℕ) → a ≡ no-slot → b ≡ no-slot → name v′ s a ≡ name u′ r b
@@ -247,8 +247,7 @@ module _ {v u : View} {s r : ℕ} (p : Pair v u s r) {x y : ℕ} (e : End) (k : 
       row-by v′ u′ s r i j
       (pids-remain (p .facts-v) (fallen-places v x e) s i refl q ∙ ap (λ (o : Row). o .pids) rows ∙ sym (pids-remain (p .facts-u) (fallen-places u y e) r j refl q′))
       (λ z. if going z then Running else (if sees m z then (if slot z then Ended e else (if ended-twins p m z then rows z .state else Ended (Signaled sigkill))) else rows z .state))
-      (λ z. if going z then 0 else (if sees m z then 0 else rows z .handled))
-      (λ z. if going z then 0 else (if sees m z then 0 else rows z .pending))
+      (λ z. if going z then no-traits else (if sees m z then ended-traits (rows z .traits) else rows z .traits))
       (parent-left (p .facts-v) x e s i (taken-v m) q ∙ ap (λ (o : Row). o .parent) rows ∙ sym (parent-left (p .facts-u) y e r j (taken-u m) q′))
       (rw (here v x i q, here u y j q′) (namesakes (own-names p m)))
       (rw (here v x i q, here u y j q′) (child-names m))

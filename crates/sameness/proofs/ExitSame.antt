@@ -11,12 +11,13 @@ use lib.IntN.{ℤ}
 use Rattle.rules.proofs.Keeps.End.{end-sane, end-tree, end-view}
 use Rattle.rules.proofs.Laws.Below.{below-level, up-level}
 use Rattle.rules.proofs.Laws.Facts.{Facts, Sane, sane, seen-below}
+use Rattle.rules.proofs.Laws.Judged.{alike, all-alike}
 use Rattle.rules.proofs.Laws.Slots.{alive-taken, init-own, root-only, pid-unique, alive-up, init-seen}
 use Rattle.rules.proofs.Laws.Steps.{remainder, runs-lives}
 use Rattle.rules.proofs.Laws.Tests.{isnt-so, right, bool-ext}
 use Rattle.rules.proofs.Laws.Tree.{below-refl}
-use Rattle.sameness.proofs.Cases.{by-test, by-equal}
-use Rattle.sameness.proofs.Calls.{Kept, Ready, MadeSame, both-refuse, owns-twins, own-lives, taken-s, taken-r}
+use Rattle.sameness.proofs.Cases.{by-equal}
+use Rattle.sameness.proofs.Calls.{Kept, Ready, owns-twins, own-lives, taken-s, taken-r, TestsAlike, GivesSame}
 use Rattle.sameness.proofs.EndSame.{midway, ended-init, end-same}
 use Rattle.sameness.proofs.Freeing.{freed-alike, freed-sheets}
 use Rattle.sameness.proofs.Ends.{init-same}
@@ -24,13 +25,12 @@ use Rattle.sameness.proofs.Readers.{is-init-twins}
 use Rattle.sameness.proofs.Same.{Same}
 use Rattle.sameness.proofs.Twins.{pid-in-unseen, top-twins, Pair, Twin, flip-pair, flip-twin, twins-unique, taken-v, taken-u}
 use Rattle.rules.specs.Answers.{answers, granted}
-use Rattle.rules.specs.Calls.{exit, status}
+use Rattle.rules.specs.Calls.{status}
+use Rattle.rules.specs.Claims.{place}
 use Rattle.rules.specs.Ends.{end}
-use Rattle.sameness.specs.Events.{at}
 use Rattle.rules.specs.Freeing.{freed}
 use Rattle.rules.specs.Read.{View, alive, init, is-init, namespace-taken, pid-in, pid-seen, seen, view, taken}
 use Rattle.rules.specs.Sound.{SoundTable, kept-end}
-use Rattle.rules.specs.Step.{make}
 use Rattle.table.specs.Tests.{_or_}
 use Rattle.table.specs.declared.Call.the-variants.{Exit}
 use Rattle.table.specs.declared.End.the-variants.{Exited}
@@ -52,7 +52,7 @@ zero-there {v} {u} {s} {r} w {i} {j} k z =
 
 -- the init of the namespace above S is not seen from S
 above-zero : {v : View} (f : Facts v) (s n : ℕ) → So (alive v s) → 0 < v .level s → n ≡ s → pid-in v s (init v (v .up n)) ≡ 0
-unfolding seen
+unfolding seen taken
 above-zero {v} f s n a l q =
     let e : v .level s ≡ suc (pred (v .level s)) = omega arith in
     ap (λ x. pid-in v s (init v (v .up x))) q
@@ -103,22 +103,23 @@ module _ {t u : Table} {s r c d : ℕ} (w : Ready t u s r c d) (e : End) (ok : S
             (end-stands ft c s e tc (taken-s w)) (end-stands fu d r e td (taken-r w)) (λ k. end-level ft c s e tc) (λ k. end-level fu d r e td) same,
       )
 
--- exit by twin callers
-pub exit-same : (z : ℤ) → MadeSame (Exit z)
-unfolding MadeSame make exit answers granted
-exit-same z t u s r c d w h g =
-    by-test (eqb c 0) (λ n. rw (n, sym zeros ∙ n, exit) (both-refuse w Ebusy))
-    (λ n. rw (n, sym zeros ∙ n, exit) (ends n (ℕ-discrete (view t .own c) s) (is-init (view t) c) refl (rw (n, exit) at h) (rw (sym zeros ∙ n, exit) at g)))
-  where
-    zeros : eqb c 0 ≡ eqb d 0
-    zeros =
-        bool-ext _ _ (λ e. eq-eqb d 0 (zero-there (w .pair) (w .twin) (eqb-true c 0 e)))
-        (λ e. eq-eqb c 0 (zero-there (flip-pair (w .pair)) (flip-twin (w .twin)) (eqb-true d 0 e)))
+-- exit by twin callers: the root init is its own twin
+zeros : {t u : Table} {s r c d : ℕ} → Ready t u s r c d → eqb c 0 ≡ eqb d 0
+zeros {c} {d} w =
+    bool-ext _ _ (λ e. eq-eqb d 0 (zero-there (w .pair) (w .twin) (eqb-true c 0 e)))
+    (λ e. eq-eqb c 0 (zero-there (flip-pair (w .pair)) (flip-twin (w .twin)) (eqb-true d 0 e)))
 
+pub exit-alike : (z : ℤ) → TestsAlike (Exit z)
+exit-alike z t u s r c d w = alike (zeros w) all-alike
+
+pub exit-same : (z : ℤ) → GivesSame (Exit z)
+unfolding place answers granted
+exit-same z t u s r c d w n m h g = ends (ℕ-discrete (view t .own c) s) (is-init (view t) c) refl
+  where
     e : End
     e = Exited (status z)
 
-    ends : eqb c 0 ≡ false → Dec (view t .own c ≡ s) → (b : Bool) → is-init (view t) c ≡ b → SoundTable (freed (end t c e)) → SoundTable (freed (end u d e)) → Kept t u s r (answers (freed (end t c e)) 0) (answers (freed (end u d e)) 0)
-    ends n (yes o) true i a b = dies w e (remainder z) i o (eqb-false c 0 n) (eqb-false d 0 (sym zeros ∙ n)) a b
-    ends n (yes o) false i a b = lives-on w e (remainder z) (λ j q. false≢true (sym i ∙ j)) a b
-    ends n (no o) i j a b = lives-on w e (remainder z) (λ j q. o q) a b
+    ends : Dec (view t .own c ≡ s) → (b : Bool) → is-init (view t) c ≡ b → Kept t u s r (answers (freed (end t c e)) 0) (answers (freed (end u d e)) 0)
+    ends (yes o) true i = dies w e (remainder z) i o (eqb-false c 0 (n Ebusy)) (eqb-false d 0 (m Ebusy)) h g
+    ends (yes o) false i = lives-on w e (remainder z) (λ j q. false≢true (sym i ∙ j)) h g
+    ends (no o) b i = lives-on w e (remainder z) (λ j q. o q) h g

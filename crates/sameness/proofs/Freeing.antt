@@ -17,7 +17,7 @@ use Rattle.sameness.proofs.Still.{Still, same-still, stands-still}
 use Rattle.sameness.proofs.Same.{Same, sheets-of-same, listed-seen}
 use Rattle.sameness.specs.Events.{at, follow, gone, sheet-of}
 use Rattle.rules.specs.Freeing.{freed, kept}
-use Rattle.rules.specs.Read.{View, all-seen, is-init, namespace-taken, seen, taken, view, alive, init}
+use Rattle.rules.specs.Read.{View, all-seen, is-init, namespace-taken, seen, taken, view, alive, init, children}
 use Rattle.sameness.specs.Sheet.{Sheet, row, sheet}
 use Rattle.rules.specs.Sound.{SoundTable}
 use Rattle.table.specs.Tests.{if_then_else_}
@@ -51,7 +51,7 @@ module _ {v : View} (f : Facts v) where
   row-freed s i ks h =
       let last : (if is-init v i then w .last (v .own i) else 0) ≡ (if is-init v i then v .last (v .own i) else 0) = rw (kept-own v f i h) in
       row-remain f remain s i ks refl h
-      ∙ (λ z. lit v s i (v .state i) (v .handled i) (v .pending i) (pid-in-remain f (remain .places) s (v .parent i) ks refl z) (name-remain f remain s (v .children i) ks (kept-children v f i h) z) (last z))
+      ∙ (λ z. lit v s i (v .state i) (v .traits i) (pid-in-remain f (remain .places) s (v .parent i) ks refl z) (name-remain f remain s (children v i) ks (kept-children v f i h) z) (last z))
 
   module _ (s : ℕ) where
     same-freed : So (kept v s) → Same w v s s

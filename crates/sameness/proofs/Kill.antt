@@ -15,11 +15,12 @@ use Rattle.rules.proofs.Keeps.Premises.{natural-low}
 use Rattle.rules.proofs.Laws.Below.{below-taken, below-level}
 use Rattle.rules.proofs.Laws.Facts.{Facts, Sane}
 use Rattle.rules.proofs.Laws.Find.{targets-seen}
+use Rattle.rules.proofs.Laws.Judged.{alike, all-alike}
 use Rattle.rules.proofs.Laws.Lists.{In, in-map, map-in, ascending-sorted, Sorted, map-sorted, sorted-unique, heads-equal, tails-equal, not-empty}
 use Rattle.rules.proofs.Laws.Slots.{pid-unique, alive-taken, living-own-alive, root-only, own-taken}
-use Rattle.rules.proofs.Laws.Tests.{choose, left, right, both, or-true, bool-ext}
+use Rattle.rules.proofs.Laws.Tests.{choose, left, right, both, or-true, bool-ext, isnt-not}
 use Rattle.sameness.proofs.Cases.{by-test, by-equal}
-use Rattle.sameness.proofs.Calls.{Ready, MadeSame, owns-twins, both-refuse}
+use Rattle.sameness.proofs.Calls.{Ready, owns-twins, TestsAlike, GivesSame}
 use Rattle.sameness.proofs.EndSame.{midway, end-same, pair-of, Midway, Onward, Target, from-after, targets-after}
 use Rattle.sameness.proofs.Freeing.{freed-alike}
 use Rattle.sameness.proofs.Light.{Placed, Shown, shown, same-put, put-other, put-remain}
@@ -28,23 +29,25 @@ use Rattle.sameness.proofs.Same.{seen-listed, listed-seen}
 use Rattle.sameness.proofs.Setns.{named-twins}
 use Rattle.sameness.proofs.Twins.{flip-twin, Pair, Twin, Twins, flip-pair, flip-twins, twin-there, seen-twins, pid-twins, owns, twins-unique}
 use Rattle.rules.specs.Answers.{answers, granted}
-use Rattle.rules.specs.Calls.{named, others, targets, kill, names-group, natural, within}
+use Rattle.rules.specs.Calls.{named, others, targets, natural}
+use Rattle.rules.specs.Claims.{place}
 use Rattle.rules.specs.Delivery.{act, action-on, deliver, deliver-all, resumed, with-pending}
 use Rattle.table.specs.Limits.{process-slots, signals}
 use Rattle.table.specs.Slots.{is-ended, pid-at, process, put}
 use Rattle.rules.specs.Read.{View, alive, all-seen, pid-seen, seen, view, below, is-init, living, taken}
-use Rattle.rules.specs.Records.{with-state}
 use Rattle.table.specs.SignalSets.{has, with-signal}
-use Rattle.rules.specs.Step.{make}
 use Rattle.table.specs.Tests.{_and_, if_then_else_, only, _or_}
 use Rattle.table.specs.declared.Action.the-variants.{Finish, Nothing, Pend, Resume, Stop}
 use Rattle.table.specs.declared.Action.{Action}
 use Rattle.table.specs.declared.Call.the-variants.{Kill}
 use Rattle.table.specs.declared.End.the-variants.{Signaled}
 use Rattle.table.specs.declared.Process.{Process}
-use Rattle.table.specs.declared.Refusal.the-variants.{Einval, Enosys, Esrch}
+use Rattle.table.specs.declared.Refusal.the-variants.{Einval}
 use Rattle.table.specs.declared.State.the-variants.{Running}
 use Rattle.table.specs.declared.Table.{Table}
+use Rattle.table.specs.Records.{with-state}
+use Rattle.table.specs.Traits.{with-signals}
+use Rattle.table.specs.declared.Traits.{Traits}
 
 -- ---- whom a kill finds: pairs of twins, in the same order
 
@@ -125,7 +128,7 @@ unfolding action-on
 action-twins {t} {u} {s} {r} {f} {g} w {x} {y} n k =
     let p = pair-of w in
     by-test (living (view t) x)
-    (λ e. rw (living-twins p k, is-init-twins p k (living-own-alive (view t) (w .sane-t .facts) x e), twins-eqb p (owns p k (living-own-alive (view t) (w .sane-t .facts) x e)) (w .from), shown t u p k .handleds, action-on)
+    (λ e. rw (living-twins p k, is-init-twins p k (living-own-alive (view t) (w .sane-t .facts) x e), twins-eqb p (owns p k (living-own-alive (view t) (w .sane-t .facts) x e)) (w .from), ap (λ (x : Traits). x .handled) (shown t u p k .traitss), action-on)
     refl)
     (λ e. action-none (view t) f x n e ∙ sym (action-none (view u) g y n (sym (living-twins p k) ∙ e)))
 
@@ -169,7 +172,7 @@ is-finish Pend = false
 finish-own : (v : View) (f x n : ℕ) → action-on v f x n ≡ Finish → So (is-init v x) → v .own x ≡ f → ⊥
 unfolding action-on _and_
 finish-own v f x n e h q =
-    let no-finish : is-finish (action-on v f x n) ≡ false = rw (h, eq-eqb (v .own x) f q, action-on) (go (eqb n 0 or not (living v x)) (eqb n 18) (eqb n 9 or eqb n 19) (has (v .handled x) n)) in
+    let no-finish : is-finish (action-on v f x n) ≡ false = rw (h, eq-eqb (v .own x) f q, action-on) (go (eqb n 0 or not (living v x)) (eqb n 18) (eqb n 9 or eqb n 19) (has (v .traits x .handled) n)) in
     false≢true (sym no-finish ∙ ap is-finish e)
   where
     go : (a b c d : Bool) → is-finish (if a then Nothing else (if b then Resume else (if c then Nothing else (if d then Pend else Nothing)))) ≡ false
@@ -181,15 +184,15 @@ finish-own v f x n e h q =
 
 pub resumed-placed : (p : Process) → Placed (resumed p) p
 unfolding resumed with-pending
-resumed-placed p = choose (λ q. Placed q p) (has (p .handled) 18) (λ a. (refl, refl, refl)) (λ a. (refl, refl, refl))
+resumed-placed p = choose (λ q. Placed q p) (has (p .traits .handled) 18) (λ a. (refl, refl, refl)) (λ a. (refl, refl, refl))
 
 resumed-shown : {t u : Table} {s r : ℕ} {p q : Process} → Shown t u s r p q → Shown t u s r (resumed p) (resumed q)
 unfolding resumed with-pending
-resumed-shown {t} {u} {s} {r} {p} {q} z = subst (λ b. Shown t u s r (resumed p) (if b then with-pending (with-state q Running) 18 else with-state q Running)) (ap (λ h. has h 18) (z .handleds)) (go (has (p .handled) 18))
+resumed-shown {t} {u} {s} {r} {p} {q} z = subst (λ b. Shown t u s r (resumed p) (if b then with-pending (with-state q Running) 18 else with-state q Running)) (ap (λ (x : Traits). has (x .handled) 18) (z .traitss)) (go (has (p .traits .handled) 18))
   where
     go : (b : Bool) → Shown t u s r (if b then with-pending (with-state p Running) 18 else with-state p Running) (if b then with-pending (with-state q Running) 18 else with-state q Running)
-    go true = record { states = refl; handleds = z .handleds; pendings = ap (λ h. with-signal h 18) (z .pendings); childrens = z .childrens }
-    go false = record { states = refl; handleds = z .handleds; pendings = z .pendings; childrens = z .childrens }
+    go true = record { states = refl; traitss = ap (λ (x : Traits). with-signals x (x .handled) (with-signal (x .pending) 18)) (z .traitss); childrens = z .childrens }
+    go false = record { states = refl; traitss = z .traitss; childrens = z .childrens }
 
 -- signal 0 ends nobody
 finish-pos : (v : View) (f x n : ℕ) → action-on v f x n ≡ Finish → 1 ≤ n
@@ -200,7 +203,7 @@ finish-pos v f x n e =
 
 -- the root init is seen from the root only
 root-safe : {v : View} (h : Facts v) (f x : ℕ) → So (seen v f x) → x ≡ 0 → f ≡ 0
-unfolding seen
+unfolding seen taken
 root-safe {v} h f x k z =
     let b : So (below v (v .own x) f) = right _ _ k in
     root-only v h f (below-taken v h (v .own x) f (own-taken v h x (left _ _ k)) b) (omega (arith, below-level v h (v .own x) f b, ap (v .level) (ap (v .own) z ∙ h .root-own), h .root-level))
@@ -220,13 +223,13 @@ module _ {t u : Table} {s r f g : ℕ} (w : Midway t u s r f g) {x y : ℕ} (n :
   action-onward Nothing e = (w, λ a b h. h)
   action-onward Resume e = light-onward w k lx (resumed-shown z) (resumed-placed (process t x)) (resumed-placed (process u y)) (acted-t Resume lx) (acted-u Resume (ly w k lx))
   action-onward Stop e =
-      light-onward w k lx (record { states = refl; handleds = z .handleds; pendings = z .pendings; childrens = z .childrens })
+      light-onward w k lx (record { states = refl; traitss = z .traitss; childrens = z .childrens })
       (refl, refl, refl) (refl, refl, refl) (acted-t Stop lx) (acted-u Stop (ly w k lx))
   action-onward Finish e = end-same (Signaled n) w k hx lx (both _ _ (le-leb 1 n (finish-pos (view t) f x n e)) (lt-ltb n signals low)) (finish-own (view t) f x n e)
   action-onward Pend e =
       let a = subst (Good (view t) x n) e (action-good (view t) x n f (w .sane-t .facts) (root-safe (w .sane-t .facts) f x hx)) in
-      light-onward w k lx (record { states = z .states; handleds = z .handleds; pendings = ap (λ q. with-signal q n) (z .pendings); childrens = z .childrens })
-      (refl, refl, refl) (refl, refl, refl) (acted-t Pend a) (acted-u Pend (ly w k lx, subst (λ h. So (has h n)) (z .handleds) (a .1)))
+      light-onward w k lx (record { states = z .states; traitss = ap (λ (x : Traits). with-signals x (x .handled) (with-signal (x .pending) n)) (z .traitss); childrens = z .childrens })
+      (refl, refl, refl) (refl, refl, refl) (acted-t Pend a) (acted-u Pend (ly w k lx, subst (λ (x : Traits). So (has (x .handled) n)) (z .traitss) (a .1)))
 
 module _ (n : ℕ) (low : n < signals) where
   deliver-onward : {t u : Table} {s r f g : ℕ} → Midway t u s r f g → (x y : ℕ) → Target (view t) (view u) s r f x y → Onward t u s r f g (deliver t f x n) (deliver u g y n)
@@ -252,17 +255,11 @@ module _ {t u : Table} {s r i j : ℕ} (w : Ready t u s r i j) where
       (along-with (targets (view t) i z) (λ x y m k. inl (k, targets-seen (view t) i z x m)) (targets-twins w z))
 
 -- kill by twin callers
-pub kill-same : (z n : ℤ) → MadeSame (Kill z n)
-unfolding MadeSame make kill answers granted
-kill-same z n t u s r i j w h g =
-    let lengths = along-length (targets-twins w z) in
-    by-test (within 0 signals n)
-    (λ ea. by-test (names-group z)
-    (λ eb. rw (ea, eb, kill) (both-refuse w Enosys))
-    (λ eb. by-test (eqb (length (targets (view t) i z)) 0)
-    (λ ec. rw (ea, eb, ec, sym (ap (λ x. eqb x 0) lengths) ∙ ec, kill) (both-refuse w Esrch))
-    (λ ec.
-    let d = kill-after w z (natural n) (natural-low n ea) in
-    rw (ea, eb, ec, sym (ap (λ x. eqb x 0) lengths) ∙ ec, kill)
-    (inr (refl, freed-alike t u (d .sane-t) (d .sane-u) (d .alive-s) (d .alive-r) (d .same))))))
-    (λ ea. rw (ea, kill) (both-refuse w Einval))
+pub kill-alike : (z n : ℤ) → TestsAlike (Kill z n)
+kill-alike z n t u s r i j w = alike refl (alike refl (alike (ap (λ x. eqb x 0) (along-length (targets-twins w z))) all-alike))
+
+pub kill-same : (z n : ℤ) → GivesSame (Kill z n)
+unfolding place answers granted
+kill-same z n t u s r i j w a b h g =
+    let d = kill-after w z (natural n) (natural-low n (isnt-not _ (a Einval))) in
+    inr (refl, freed-alike t u (d .sane-t) (d .sane-u) (d .alive-s) (d .alive-r) (d .same))

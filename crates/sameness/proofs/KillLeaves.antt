@@ -5,25 +5,26 @@ use mathlib.Core.List.{List, _∷_, []}
 use mathlib.Core.Path.{_≡_, refl, sym, _∙_, ap, subst}
 use lib.Dec.{eqb}
 use lib.IntN.{ℤ}
-use lib.ListN.{length}
+use Rattle.table.specs.declared.Refusal.the-variants.{Einval}
 use Rattle.rules.proofs.Keeps.Changes.{deliver-sane, deliver-all-sane}
 use Rattle.rules.proofs.Keeps.Deliver.{Safe, Good, action-good}
 use Rattle.rules.proofs.Keeps.End.{end-view}
 use Rattle.rules.proofs.Keeps.Premises.{natural-low, targets-safe}
 use Rattle.rules.proofs.Laws.Facts.{Facts, facts, Sane, sane, lives-taken}
 use Rattle.rules.proofs.Laws.Lists.{some-of-false}
-use Rattle.rules.proofs.Laws.Tests.{isnt-so, both, or-false-left, or-false-right}
+use Rattle.rules.proofs.Laws.Tests.{isnt-so, both, or-false-left, or-false-right, isnt-not}
 use Rattle.sameness.proofs.Cases.{by-test}
 use Rattle.sameness.proofs.EndLeaves.{Above, end-still, end-back, lives-freed, lives-on}
 use Rattle.sameness.proofs.EndSame.{ended-end}
 use Rattle.sameness.proofs.Freeing.{after, freed-leaves}
 use Rattle.sameness.proofs.Kill.{not-living-put, resumed-placed, action-none}
 use Rattle.sameness.proofs.Light.{Placed}
-use Rattle.sameness.proofs.Calls.{MadeLeaves, as-it-was, untouched-made}
+use Rattle.sameness.proofs.Calls.{GivesLeaves}
 use Rattle.sameness.proofs.Same.{Same, same-trans}
 use Rattle.sameness.proofs.Still.{Still, same-still, stands-still, above-still, put-still}
-use Rattle.rules.specs.Answers.{answers, granted, is-refused, refused}
-use Rattle.rules.specs.Calls.{kill, names-group, natural, targets, within}
+use Rattle.rules.specs.Answers.{answers, granted}
+use Rattle.rules.specs.Calls.{natural, targets}
+use Rattle.rules.specs.Claims.{place}
 use Rattle.rules.specs.Delivery.{act, action-on, deliver, deliver-all, with-pending}
 use Rattle.rules.specs.Ends.{end}
 use Rattle.sameness.specs.Events.{at, is-inside}
@@ -31,9 +32,7 @@ use Rattle.rules.specs.Freeing.{freed}
 use Rattle.table.specs.Limits.{signals}
 use Rattle.table.specs.Slots.{process, put}
 use Rattle.rules.specs.Read.{View, alive, below, living, namespace-taken, seen, view}
-use Rattle.rules.specs.Records.{with-state}
 use Rattle.sameness.specs.Sheet.{sheet}
-use Rattle.rules.specs.Step.{make}
 use Rattle.table.specs.Tests.{_and_, _or_, some-of}
 use Rattle.sameness.specs.Touches.{signals-into, touched}
 use Rattle.table.specs.declared.Action.the-variants.{Finish, Nothing, Pend, Resume, Stop}
@@ -43,6 +42,7 @@ use Rattle.table.specs.declared.End.the-variants.{Signaled}
 use Rattle.table.specs.declared.Process.{Process}
 use Rattle.table.specs.declared.State.the-variants.{Stopped}
 use Rattle.table.specs.declared.Table.{Table}
+use Rattle.table.specs.Records.{with-state}
 
 -- in the middle of the deliveries: S is as it was, and what lives lived before
 record Going (t₀ t : Table) (s : ℕ) : Type 0 where
@@ -158,17 +158,9 @@ sent true b e h = absurd (false≢true (sym e))
 sent false b e h = h
 
 -- kill by an outsider
-pub kill-leaves : (z n : ℤ) → MadeLeaves (Kill z n)
-unfolding MadeLeaves make kill answers granted refused is-refused touched signals-into
-kill-leaves z n t s i h hs k a g =
-    by-test (within 0 signals n)
-    (λ ea. by-test (names-group z)
-    (λ eb. rw (ea, eb, kill) (as-it-was t s hs))
-    (λ eb. by-test (eqb (length (targets (view t) i z)) 0)
-    (λ ec. rw (ea, eb, ec, kill) (as-it-was t s hs))
-    (λ ec. rw (ea, eb, ec, kill)
-    (done (natural-low n ea) (untouched-made s i (Kill z n) h k a (answers (freed t₁) 0) (rw (ea, eb, ec, kill) refl) refl)))))
-    (λ ea. rw (ea, kill) (as-it-was t s hs))
+pub kill-leaves : (z n : ℤ) → GivesLeaves (Kill z n)
+unfolding place answers granted touched signals-into
+kill-leaves z n t s i h hs k a o x g = done (natural-low n (isnt-not _ (a Einval))) x
   where
     xs : List ℕ
     xs = targets (view t) i z

@@ -66,8 +66,7 @@ put-other t c p i n = getD-set-other (t .processes) c i p no-process n
 -- what two processes show of themselves besides their places
 pub record Shown (t u : Table) (s r : ℕ) (p q : Process) : Type 0 where
   pub states : p .state ≡ q .state
-  pub handleds : p .handled ≡ q .handled
-  pub pendings : p .pending ≡ q .pending
+  pub traitss : p .traits ≡ q .traits
   pub childrens : name (view t) s (p .children .0) ≡ name (view u) r (q .children .0)
 
 pub shown : (t u : Table) {s r : ℕ} (w : Pair (view t) (view u) s r) {i j : ℕ} → Twin (view t) (view u) s r i j → Shown t u s r (process t i) (process u j)
@@ -76,8 +75,7 @@ shown t u w k =
     let e = twin-rows w k in
     record {
       states = ap (λ (q : Row). q .state) e;
-      handleds = ap (λ (q : Row). q .handled) e;
-      pendings = ap (λ (q : Row). q .pending) e;
+      traitss = ap (λ (q : Row). q .traits) e;
       childrens = ap (λ (q : Row). q .children) e;
     }
 
@@ -102,8 +100,7 @@ module _ (t u : Table) {s r c d : ℕ} (w : Pair (view t) (view u) s r) (k : Twi
       let z = shown-put l in
       record {
         states = z .states;
-        handleds = z .handleds;
-        pendings = z .pendings;
+        traitss = z .traitss;
         parents = parent-pid-kept t c p a (w .facts-v) s i ∙ ap (λ (o : Row). o .parent) e ∙ sym (parent-pid-kept u d q b (w .facts-u) r j);
         childrens = name-remain (w .facts-v) (put-remain t c p a) s _ refl refl ∙ z .childrens ∙ sym (name-remain (w .facts-u) (put-remain u d q b) r _ refl refl);
         lasts = ap (λ (o : Row). o .last) e;

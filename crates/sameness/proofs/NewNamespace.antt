@@ -11,8 +11,8 @@ use lib.Seq.{getD-set-same, getD-set-other}
 use Rattle.rules.proofs.Keeps.Changed.{namespace-count}
 use Rattle.rules.proofs.Keeps.Premises.{free-namespace-is}
 use Rattle.rules.proofs.Laws.Below.{below-taken, deep-namespace, no-level, shallow-below}
-use Rattle.rules.proofs.Laws.Facts.{Facts, Sane, seen-taken}
-use Rattle.rules.proofs.Laws.Slots.{own-taken, up-taken, children-of}
+use Rattle.rules.proofs.Laws.Facts.{Facts, Sane, seen-taken, Holds, hold-cases}
+use Rattle.rules.proofs.Laws.Slots.{own-taken, up-taken}
 use Rattle.rules.proofs.Laws.Tests.{both, cases, isnt, isnt-so, no-so}
 use Rattle.sameness.proofs.Anchor.{below-up}
 use Rattle.sameness.proofs.Remain.{Places, everyone, below-stays, seen-remain}
@@ -20,11 +20,12 @@ use Rattle.sameness.proofs.Still.{Still, near}
 use Rattle.rules.specs.Calls.{new-namespace}
 use Rattle.table.specs.Limits.{namespace-slots, no-slot}
 use Rattle.rules.specs.Pids.{free-namespace-slot, free-slot}
-use Rattle.table.specs.Slots.{is-unborn, namespace, no-namespace, to-pid}
+use Rattle.table.specs.Slots.{is-unborn, namespace, no-namespace}
 use Rattle.rules.specs.Read.{below, namespace-taken, seen, taken, unborn, view}
 use Rattle.sameness.specs.Sheet.{name, name-by, unborn-name}
 use Rattle.table.specs.declared.Life.the-variants.{Unborn}
 use Rattle.table.specs.declared.Table.{Table}
+use Rattle.table.specs.Records.{to-pid}
 
 -- the processes are the same
 pub same-free : (t : Table) (c : ℕ) → free-slot (view (new-namespace t c)) ≡ free-slot (view t)
@@ -59,9 +60,9 @@ module _ {t : Table} (f : Sane t) (c : ℕ) (room : free-namespace-slot (view t)
   taken-other : (n : ℕ) → So (namespace-taken (view t) n) → n ≡ x → ⊥
   taken-other n h e = free-namespace-is (view t) room .1 (subst (λ m. So (namespace-taken (view t) m)) e h)
 
-  pub not-held : (i : ℕ) → So (taken (view t₁) i) → eqb (view t₁ .children i) x ≡ false
+  pub not-held : (i : ℕ) → So (taken (view t₁) i) → Holds (view t₁) i x → ⊥
   unfolding new-namespace taken
-  not-held i h = ne-eqb (view t₁ .children i) x (λ e. ⊎-elim (λ y. taken-other _ y e) (λ y. omega (arith, free-namespace-is (view t) room .0, sym e ∙ y)) (children-of (view t) (f .facts) i h))
+  not-held i h (k, l, e) = ⊎-elim (λ y. taken-other _ y e) (λ y. omega (arith, free-namespace-is (view t) room .0, sym e ∙ y)) (hold-cases (view t) (f .facts) i h k l)
 
   -- ---- all else stands
 
@@ -106,7 +107,7 @@ module _ {t : Table} (f : Sane t) (c : ℕ) (room : free-namespace-slot (view t)
 
     -- it is not of S if the caller is not
     pub new-outside : So (taken (view t) c) → Facts (view t₁) → seen (view t) s c ≡ false → below (view t₁) x s ≡ false
-    unfolding seen
+    unfolding seen taken
     new-outside tc g o =
         isnt-so
         (λ b. no-so o

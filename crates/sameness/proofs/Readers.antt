@@ -4,11 +4,11 @@ use native.Mathlib.Omega.{arith}
 use mathlib.Core.Bool.{Bool, false, So, false≢true, not}
 use mathlib.Core.List.{[]}
 use mathlib.Core.Logic.{_⊎_, inl, inr}
-use mathlib.Core.Path.{_≡_, refl, sym, _∙_, ap, ap₂, subst}
+use mathlib.Core.Path.{_≡_, sym, _∙_, ap, ap₂, subst}
 use borrow.Author.Tests.{eq-eqb, ne-eqb, eqb-true}
 use lib.Dec.{eqb}
 use Rattle.rules.proofs.Laws.Below.{below-trans}
-use Rattle.rules.proofs.Laws.Facts.{seen-taken, Facts, seen-below, lives-taken}
+use Rattle.rules.proofs.Laws.Facts.{seen-taken, Facts, seen-below, lives-taken, holds-children}
 use Rattle.rules.proofs.Laws.Find.{Found, find-cases}
 use Rattle.rules.proofs.Laws.Lists.{In, in-map}
 use Rattle.rules.proofs.Laws.Slots.{alive-taken, pid-unique, alive-not-unborn, own-not-unborn}
@@ -19,7 +19,7 @@ use Rattle.sameness.proofs.Same.{same-of-sheets, row-pid, level-lt, see
 use Rattle.sameness.proofs.Twins.{Namesakes, parent-seen, parent-twin, taken-v, taken-u, twin-pid-in, Pair, Twin, Twins, flip-pair, flip-twin, twin-rows, twin-there, twin-unique, seen-twins, pid-twins, inits-twin, owns, own-names, alive-named, twins-named, twins-unique, twins-up}
 use Rattle.table.specs.Limits.{process-slots}
 use Rattle.table.specs.Slots.{is-ended}
-use Rattle.rules.specs.Read.{pid-seen, View, all-seen, alive, below, child-of, find, is-init, pid-in, seen, living, init, namespace-taken, unborn}
+use Rattle.rules.specs.Read.{pid-seen, View, all-seen, alive, below, child-of, find, is-init, pid-in, seen, living, init, namespace-taken, unborn, children, taken}
 use Rattle.sameness.specs.Sheet.{Row, row, sheet}
 use Rattle.rules.specs.Sound as S
 use Rattle.table.specs.Tests.{_and_, if_then_else_}
@@ -30,7 +30,7 @@ NobodyOrTwins v u s r x y = ((x ≡ process-slots) × (y ≡ process-slots)) ⊎
 
 -- seen from one is seen from all above
 pub seen-above : {v : View} (f : Facts v) (n m i : ℕ) → So (below v n m) → So (seen v n i) → So (seen v m i)
-unfolding seen
+unfolding seen taken
 seen-above {v} f n m i h k = both _ _ (left _ _ k) (below-trans v f _ n m (right _ _ k) h)
 
 unseen-below : {v : View} (f : Facts v) (n m i : ℕ) → So (below v n m) → seen v m i ≡ false → seen v n i ≡ false
@@ -132,33 +132,33 @@ find-none {v} s k h e = go (find-cases v s k)
 -- ---- the namespaces that twins hold for their children
 
 module _ {v : View} (f : Facts v) where
-  pub children-taken : (i : ℕ) → So (living v i) → So (namespace-taken v (v .children i))
+  pub children-taken : (i : ℕ) → So (living v i) → So (namespace-taken v (children v i))
   unfolding S.children-namespaces
   children-taken i h = f .children i (lives-taken v i h) h .0
 
-  pub children-below : (i : ℕ) → So (living v i) → So (below v (v .children i) (v .own i))
+  pub children-below : (i : ℕ) → So (living v i) → So (below v (children v i) (v .own i))
   unfolding S.children-namespaces
   children-below i h = f .children i (lives-taken v i h) h .1
 
   -- an unborn one lies below a living one only if its holder is seen from there
-  pub unborn-outside : (top i : ℕ) → So (living v i) → So (unborn v (v .children i)) → So (alive v top) → seen v top i ≡ false → below v (v .children i) top ≡ false
-  unfolding seen
+  pub unborn-outside : (top i : ℕ) → So (living v i) → So (unborn v (children v i)) → So (alive v top) → seen v top i ≡ false → below v (children v i) top ≡ false
+  unfolding seen taken
   unborn-outside top i h n a o =
       isnt-so
       (λ b. no-so o
       (both _ _ (lives-taken v i h)
-      (subst (λ x. So (below v x top)) (sym (f .unborn-own (v .children i) (children-taken i h) n i (lives-taken v i h) refl))
-      (below-up f (v .children i) top b (λ e. no-so (alive-not-unborn (v .life top) a) (subst (λ x. So (unborn v x)) e n))))))
+      (subst (λ x. So (below v x top)) (sym (f .unborn-own (children v i) (children-taken i h) n i (lives-taken v i h) (holds-children v i)))
+      (below-up f (children v i) top b (λ e. no-so (alive-not-unborn (v .life top) a) (subst (λ x. So (unborn v x)) e n))))))
 
 module _ {v u : View} {s r : ℕ} (w : Pair v u s r) {i j : ℕ} (k : Twin v u s r i j) (li : So (living v i)) where
   lj : So (living u j)
   lj = sym (living-twins w k) ∙ li
 
-  pub children-unborn : unborn v (v .children i) ≡ unborn u (u .children j)
+  pub children-unborn : unborn v (children v i) ≡ unborn u (children u j)
   unfolding row
   children-unborn = sym (name-unborn (w .facts-v) s _ (children-taken (w .facts-v) i li)) ∙ ap (λ (q : Row). is-unborn-name (q .children)) (twin-rows w k) ∙ name-unborn (w .facts-u) r _ (children-taken (w .facts-u) j lj)
 
-  pub children-names : unborn v (v .children i) ≡ false → Namesakes v u s r (v .children i) (u .children j)
+  pub children-names : unborn v (children v i) ≡ false → Namesakes v u s r (children v i) (children u j)
   unfolding row
   children-names h =
       record {
@@ -172,13 +172,13 @@ module _ {v u : View} {s r : ℕ} (w : Pair v u s r) {i j : ℕ} (k : Twin v u s
       }
 
 -- a twin that holds its own namespace for its children has a twin that does
-home-there : {v u : View} {s r : ℕ} (w : Pair v u s r) {i j : ℕ} (k : Twin v u s r i j) → So (living v i) → So (alive v (v .own i)) → v .children i ≡ v .own i → u .children j ≡ u .own j
+home-there : {v u : View} {s r : ℕ} (w : Pair v u s r) {i j : ℕ} (k : Twin v u s r i j) → So (living v i) → So (alive v (v .own i)) → children v i ≡ v .own i → children u j ≡ u .own j
 home-there {v} w {i} k l a e =
     twins-unique w
     (twins-named w (children-names w k l (subst (λ n. unborn v n ≡ false) (sym e) (own-not-unborn v (w .facts-v) i (taken-v k)))) (subst (λ n. So (alive v n)) (sym e) a))
     (owns w k a) e
 
-pub home-twins : {v u : View} {s r : ℕ} (w : Pair v u s r) {i j : ℕ} (k : Twin v u s r i j) → So (living v i) → So (alive v (v .own i)) → eqb (v .children i) (v .own i) ≡ eqb (u .children j) (u .own j)
+pub home-twins : {v u : View} {s r : ℕ} (w : Pair v u s r) {i j : ℕ} (k : Twin v u s r i j) → So (living v i) → So (alive v (v .own i)) → eqb (children v i) (v .own i) ≡ eqb (children u j) (u .own j)
 home-twins w k l a =
     bool-ext _ _
     (λ h. eq-eqb _ _ (home-there w k l a (eqb-true _ _ h)))

@@ -10,7 +10,7 @@ use Rattle.rules.proofs.Laws.Facts.{Facts, seen-taken}
 use Rattle.rules.proofs.Laws.Lists.{In, in-map, map-in, in-ascending, ascending-in, ascending-sorted, Sorted, map-sorted, sorted-unique}
 use Rattle.rules.proofs.Laws.Slots.{pid-unique}
 use Rattle.table.specs.Limits.{levels, process-slots}
-use Rattle.rules.specs.Read.{View, all-seen, namespace-taken, pid-seen, seen, pid-in, is-init}
+use Rattle.rules.specs.Read.{View, all-seen, namespace-taken, pid-seen, seen, pid-in, is-init, children}
 use Rattle.sameness.specs.Sheet.{Row, row, sheet, name}
 use Rattle.table.specs.Tests.{values, if_then_else_}
 
@@ -82,10 +82,10 @@ sheets-of-same {v} {u} {s} {r} h g hs hr w =
     }
 
 -- a row by its parts
-pub row-by : (v u : View) (s r i j : ℕ) → values (v .pid i) (levels - v .level s) (v .level s) ≡ values (u .pid j) (levels - u .level r) (u .level r) → v .state i ≡ u .state j → v .handled i ≡ u .handled j → v .pending i ≡ u .pending j → pid-in v s (v .parent i) ≡ pid-in u r (u .parent j) → name v s (v .own i) ≡ name u r (u .own j) → name v s (v .children i) ≡ name u r (u .children j) → (if is-init v i then v .last (v .own i) else 0) ≡ (if is-init u j then u .last (u .own j) else 0) → row v s i ≡ row u r j
+pub row-by : (v u : View) (s r i j : ℕ) → values (v .pid i) (levels - v .level s) (v .level s) ≡ values (u .pid j) (levels - u .level r) (u .level r) → v .state i ≡ u .state j → v .traits i ≡ u .traits j → pid-in v s (v .parent i) ≡ pid-in u r (u .parent j) → name v s (v .own i) ≡ name u r (u .own j) → name v s (children v i) ≡ name u r (children u j) → (if is-init v i then v .last (v .own i) else 0) ≡ (if is-init u j then u .last (u .own j) else 0) → row v s i ≡ row u r j
 unfolding row
-row-by v u s r i j a b c d f g h z =
-    λ k. record { pids = a k; state = b k; handled = c k; pending = d k; parent = f k; own = g k; children = h k; last = z k }
+row-by v u s r i j a b c f g h z =
+    λ k. record { pids = a k; state = b k; traits = c k; parent = f k; own = g k; children = h k; last = z k }
 
 pub same-trans : {v u x : View} {s r q : ℕ} → Same v u s r → Same u x r q → Same v x s q
 same-trans a b =

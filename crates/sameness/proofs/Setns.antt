@@ -2,34 +2,34 @@
 use Prim.Native.Nat.{ℕ, zero, suc}
 use mathlib.Core.Bool.{So}
 use mathlib.Core.Logic.{inl, inr}
-use mathlib.Core.Path.{_∙_, refl, sym, ap}
+use mathlib.Core.Path.{_≡_, refl, ap}
 use borrow.Author.Tests.{eq-eqb, eqb-false}
 use lib.Dec.{eqb}
 use lib.IntN.{ℤ, pos, negsuc}
 use Rattle.rules.proofs.Keeps.Changes.{setns-sane}
 use Rattle.rules.proofs.Laws.Facts.{facts}
 use Rattle.rules.proofs.Laws.Find.{named-seen}
+use Rattle.rules.proofs.Laws.Judged.{alike, all-alike, gives}
 use Rattle.rules.proofs.Laws.Steps.{runs-lives}
 use Rattle.rules.proofs.Laws.Tests.{or-false-left}
-use Rattle.sameness.proofs.Cases.{by-test}
-use Rattle.sameness.proofs.Calls.{Kept, Ready, MadeSame, MadeLeaves, as-it-was, outsider, both-refuse, owns-twins}
+use Rattle.sameness.proofs.Calls.{Kept, Ready, owns-twins, TestsAlike, GivesSame, GivesLeaves}
 use Rattle.sameness.proofs.Light.{shown, same-put}
 use Rattle.sameness.proofs.Freeing.{freed-alike, freed-still}
 use Rattle.sameness.proofs.Readers.{NobodyOrTwins, find-twins, ended-twins, slot-v}
 use Rattle.sameness.proofs.Still.{put-still}
 use Rattle.sameness.proofs.Twins.{flip-pair, flip-twin, Twin, twin-rows}
-use Rattle.rules.specs.Answers.{answers, granted, refused}
-use Rattle.rules.specs.Calls.{named, set-children, setns}
+use Rattle.rules.specs.Answers.{answers, granted}
+use Rattle.rules.specs.Calls.{named, set-children}
 use Rattle.table.specs.Limits.{process-slots}
 use Rattle.table.specs.Slots.{process}
+use Rattle.rules.specs.Claims.{place}
 use Rattle.rules.specs.Read.{view, seen, namespace-taken}
-use Rattle.rules.specs.Records.{with-children}
 use Rattle.sameness.specs.Sheet.{Row, row}
-use Rattle.rules.specs.Step.{make}
 use Rattle.table.specs.Tests.{_or_}
 use Rattle.table.specs.declared.Call.the-variants.{Setns}
 use Rattle.table.specs.declared.Refusal.the-variants.{Esrch}
 use Rattle.table.specs.declared.Table.{Table}
+use Rattle.table.specs.Records.{with-children}
 
 -- a number names twins, or nobody
 pub named-twins : {t u : Table} {s r i j : ℕ} → Ready t u s r i j → (z : ℤ) → NobodyOrTwins (view t) (view u) s r (named (view t) i z) (named (view u) j z)
@@ -50,29 +50,36 @@ module _ {t u : Table} {s r i j : ℕ} (w : Ready t u s r i j) where
         refl,
         freed-alike t u a b (w .pair .alive-v) (w .pair .alive-u)
             (same-put t u (w .pair) (w .twin) (w .sound-t .shape) (w .sound-u .shape)
-            (record { states = z .states; handleds = z .handleds; pendings = z .pendings; childrens = ap (λ (q : Row). q .own) (twin-rows (w .pair) k) })
+            (record { states = z .states; traitss = z .traitss; childrens = ap (λ (q : Row). q .own) (twin-rows (w .pair) k) })
             (refl, refl, refl) (refl, refl, refl)),
       )
 
--- setns by twin callers
-pub setns-same : (z : ℤ) → MadeSame (Setns z)
-unfolding MadeSame make setns _or_ answers granted
-setns-same z t u s r i j w h g = go (named-twins w z)
+-- setns by twin callers: both name nobody, or twins, who have ended on both tables or on neither
+pub setns-alike : (z : ℤ) → TestsAlike (Setns z)
+unfolding _or_
+setns-alike z t u s r i j w = alike (go (named-twins w z)) all-alike
   where
-    go : NobodyOrTwins (view t) (view u) s r (named (view t) i z) (named (view u) j z) → Kept t u s r (setns t i z) (setns u j z)
-    go (inl (e, d)) = rw (eq-eqb _ _ e, eq-eqb _ _ d, setns) (both-refuse w Esrch)
-    go (inr a) =
-        let ex = slot-v (w .pair) a in
-        let ey = slot-v (flip-pair (w .pair)) (flip-twin a) in
-        let both-ended = ended-twins (w .pair) a in
-        by-test (view t .ended (named (view t) i z)) (λ e. rw (ex, ey, e, sym both-ended ∙ e, setns) (both-refuse w Esrch))
-        (λ e. rw (ex, ey, e, sym both-ended ∙ e, setns) (set-children-kept w a (named-seen (view t) i z (eqb-false _ _ ex)) (named-seen (view u) j z (eqb-false _ _ ey))))
+    go : NobodyOrTwins (view t) (view u) s r (named (view t) i z) (named (view u) j z) → eqb (named (view t) i z) process-slots or view t .ended (named (view t) i z) ≡ eqb (named (view u) j z) process-slots or view u .ended (named (view u) j z)
+    go (inl (e, d)) = rw (eq-eqb _ _ e, eq-eqb _ _ d)
+    go (inr a) = rw (slot-v (w .pair) a, slot-v (flip-pair (w .pair)) (flip-twin a)) (ended-twins (w .pair) a)
+
+pub setns-same : (z : ℤ) → GivesSame (Setns z)
+unfolding place answers granted
+setns-same z t u s r i j w n m h g = go (named-twins w z)
+  where
+    at-t : named (view t) i z ≡ process-slots → ⊥
+    at-t = eqb-false _ _ (or-false-left _ _ (n Esrch))
+
+    at-u : named (view u) j z ≡ process-slots → ⊥
+    at-u = eqb-false _ _ (or-false-left _ _ (m Esrch))
+
+    go : NobodyOrTwins (view t) (view u) s r (named (view t) i z) (named (view u) j z) → Kept t u s r (gives t i (Setns z) tt) (gives u j (Setns z) tt)
+    go (inl (e, d)) = absurd (at-t e)
+    go (inr a) = set-children-kept w a (named-seen (view t) i z at-t) (named-seen (view u) j z at-u)
 
 -- by an outsider
-pub setns-leaves : (z : ℤ) → MadeLeaves (Setns z)
-unfolding MadeLeaves make setns set-children answers granted refused namespace-taken
-setns-leaves z t s i h hs k a g =
-    by-test (eqb (named (view t) i z) process-slots or view t .ended (named (view t) i z)) (λ e. rw (e, setns) (as-it-was t s hs))
-    (λ e. rw (e, setns)
-    (freed-still h (setns-sane t h i _ (runs-lives t i k) (named-seen (view t) i z (eqb-false _ _ (or-false-left _ _ e)))) hs
-    (put-still t (facts t h) i (with-children (process t i) (view t .own (named (view t) i z))) (refl, refl, refl) s (outsider t s i (Setns z) a))))
+pub setns-leaves : (z : ℤ) → GivesLeaves (Setns z)
+unfolding place set-children answers granted namespace-taken
+setns-leaves z t s i h hs k n o x g =
+    freed-still h (setns-sane t h i _ (runs-lives t i k) (named-seen (view t) i z (eqb-false _ _ (or-false-left _ _ (n Esrch))))) hs
+    (put-still t (facts t h) i (with-children (process t i) (view t .own (named (view t) i z))) (refl, refl, refl) s o)

@@ -7,7 +7,7 @@ use mathlib.Core.Logic.{_⊎_, inl, inr, ⊎-elim}
 use mathlib.Core.Path.{_≡_, refl, sym, _∙_, ap, ap₂, fun-ext, subst}
 use lib.Dec.{eqb}
 use Rattle.rules.proofs.Laws.Below.{below-level, below-trans}
-use Rattle.rules.proofs.Laws.Facts.{Facts, seen-taken, seen-below}
+use Rattle.rules.proofs.Laws.Facts.{Facts, seen-taken, seen-below, ended-children}
 use Rattle.rules.proofs.Laws.Slots.{below-parent, below-same}
 use Rattle.rules.proofs.Laws.Tests.{both, cases, or-left, or-right}
 use Rattle.rules.proofs.Laws.Tree.{below-refl}
@@ -18,14 +18,15 @@ use Rattle.sameness.proofs.Readers.{children-below}
 use Rattle.sameness.proofs.Remain.{Tree, below-stays, name-stays, seen-remain, stands}
 use Rattle.sameness.proofs.Same.{Same}
 use Rattle.table.specs.Limits.{levels, no-slot}
-use Rattle.table.specs.Slots.{init-of, process, pid-at, put}
-use Rattle.rules.specs.Read.{View, below, init, is-init, living, namespace-taken, pid-in, pid-seen, seen, view}
+use Rattle.table.specs.Slots.{init-of, process, hold-at, pid-at, put}
+use Rattle.rules.specs.Read.{View, below, init, is-init, living, namespace-taken, pid-in, pid-seen, seen, view, children}
 use Rattle.sameness.specs.Sheet.{name, row}
 use Rattle.table.specs.Tests.{_or_, if_then_else_, values}
 use Rattle.table.specs.declared.Life.{Life}
 use Rattle.table.specs.declared.Process.{Process}
 use Rattle.table.specs.declared.State.{State}
 use Rattle.table.specs.declared.Table.{Table}
+use Rattle.table.specs.declared.Traits.{Traits}
 
 -- ---- all that lies below S or above it
 
@@ -45,11 +46,11 @@ module _ {v : View} (f : Facts v) (s : ℕ) where
       go b (yes q) l = or-right _ _ (subst (λ x. So (below v x (v .up n))) (below-same v f n s b (sym q)) (up-below f n k e))
       go b (no q) l = or-left _ _ (below-parent v f n s b (omega arith))
 
-  near-children : (i : ℕ) → So (seen v s i) → So (near v s (v .children i)) ⊎ (v .children i ≡ no-slot)
+  near-children : (i : ℕ) → So (seen v s i) → So (near v s (children v i)) ⊎ (children v i ≡ no-slot)
   unfolding living
   near-children i h =
       let ti = seen-taken v s i h in
-      by-test (v .ended i) (λ e. inr (f .ended-bare i ti e .0 .0))
+      by-test (v .ended i) (λ e. inr (ended-children v f i ti e))
       (λ e. inl (or-left _ _ (below-trans v f _ _ s (children-below f i (both _ _ ti (ap not e))) (seen-below v s i h))))
 
 -- ---- all of it stays
@@ -57,13 +58,12 @@ module _ {v : View} (f : Facts v) (s : ℕ) where
 -- what is read of a process besides its parent and its numbers
 pub record Look : Type 0 where
   pub own : ℕ
-  pub children : ℕ
+  pub holds : ℕ → ℕ
   pub state : State
-  pub handled : ℕ
-  pub pending : ℕ
+  pub traits : Traits
 
 abbrev pub look : View → ℕ → Look
-look v i = record { own = v .own i; children = v .children i; state = v .state i; handled = v .handled i; pending = v .pending i }
+look v i = record { own = v .own i; holds = λ k. v .hold i k; state = v .state i; traits = v .traits i }
 
 -- the namespaces near S, and the processes of S, stand as they stood
 pub record Still (v v′ : View) (s : ℕ) : Type 0 where
@@ -97,15 +97,14 @@ module _ {v v′ : View} {s : ℕ} (f : Facts v) (w : Still v v′ s) where
   row-still i q =
       let e = w .looks i q in
       let near-own = or-left _ _ (seen-below v s i q) in
-      let child = ⊎-elim (name-still (v .children i)) (λ n. name-no-slot v′ s _ n ∙ sym (name-no-slot v s _ n)) (near-children f s i q) in
+      let child = ⊎-elim (name-still (children v i)) (λ n. name-no-slot v′ s _ n ∙ sym (name-no-slot v s _ n)) (near-children f s i q) in
       λ k. record {
         pids = values (fun-ext (λ l. w .pids i l q) k) (levels - level k) (level k);
         state = e k .state;
-        handled = e k .handled;
-        pending = e k .pending;
+        traits = e k .traits;
         parent = (pid-in-still (v′ .parent i) ∙ w .parents i q) k;
         own = (ap (λ (l : Look). name v′ s (l .own)) e ∙ name-still (v .own i) near-own) k;
-        children = (ap (λ (l : Look). name v′ s (l .children)) e ∙ child) k;
+        children = (ap (λ (l : Look). name v′ s (l .holds 0)) e ∙ child) k;
         last = (ap (λ (l : Look). if eqb (init v′ (l .own)) i then v′ .last (l .own) else 0) e ∙ ap₂ (λ (x : Life) (z : ℕ). if eqb (init-of x) i then z else 0) (w .lives (v .own i) near-own) (w .lasts i q)) k;
       }
 
@@ -132,7 +131,7 @@ put-still t f c p k s o =
       levels = λ n h. refl;
       lives = λ n h. refl;
       seens = λ i. seen-remain f (put-remain t c p k .places) s i refl;
-      looks = λ i h. ap (λ q. record { own = q .own .0; children = q .children .0; state = q .state; handled = q .handled; pending = q .pending }) (same i h);
+      looks = λ i h. ap (λ q. record { own = q .own .0; holds = λ k. hold-at q k; state = q .state; traits = q .traits }) (same i h);
       pids = λ i l h. ap (λ q. pid-at q l) (same i h);
       parents = λ i h. ap (λ q. pid-in (view t) s (q .parent .0)) (same i h);
       lasts = λ i h. refl;

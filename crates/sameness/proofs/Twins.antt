@@ -210,7 +210,7 @@ module _ {v : View} (f : Facts v) where
 
   -- the parent of the init of a namespace below S, and not S
   init-parent-seen : (s n : ℕ) → So (alive v n) → So (below v n s) → v .level s < v .level n → So (seen v s (v .parent (init v n)))
-  unfolding seen
+  unfolding seen taken
   init-parent-seen s n a h l =
       let e : v .level n ≡ suc (pred (v .level n)) = omega arith in
       both _ _
@@ -270,7 +270,7 @@ module _ {v u : View} {s r : ℕ} (w : Pair v u s r) where
       (λ h. below-trans v (w .facts-v) _ _ top (anchor-below (w .facts-v) n) (below-twins (anchors w a) l ∙ anchor-least (w .facts-u) m end (l .lives-u) h))
 
   pub seen-twins : {i j n m : ℕ} → Twin v u s r i j → Twins v u s r n m → seen v n i ≡ seen u m j
-  unfolding seen
+  unfolding seen taken
   seen-twins k l = ap₂ _and_ (taken-v k ∙ sym (taken-u k)) (below-named (own-names w k) l)
 
   -- twins have the same number in corresponding namespaces

@@ -12,12 +12,13 @@ use Rattle.rules.proofs.Keeps.Freed.{freed-view}
 use Rattle.rules.proofs.Keeps.Puts.{reaped-sane, reaped-view}
 use Rattle.rules.proofs.Keeps.Reap.{without}
 use Rattle.rules.proofs.Laws.Facts.{Facts, facts, sane}
+use Rattle.rules.proofs.Laws.Judged.{alike, all-alike}
 use Rattle.rules.proofs.Laws.Slots.{init-living, parent-living, child-seen}
 use Rattle.rules.proofs.Laws.Tests.{no-so, zero-or, right, isnt, and-false, true-and, true-or, false-or-true, false-or-false, true-and-false, isnt-not, left, both, any-elim, any-intro, isnt-so, bool-ext}
 use Rattle.rules.proofs.Laws.Tree.{below-refl}
-use Rattle.sameness.proofs.Cases.{by-test, by-equal}
+use Rattle.sameness.proofs.Cases.{by-equal}
 use Rattle.sameness.proofs.Anchor.{init-or-none}
-use Rattle.sameness.proofs.Calls.{Kept, Ready, MadeSame, MadeLeaves, as-it-was, untouched-made, both-refuse, both-tell, owns-twins}
+use Rattle.sameness.proofs.Calls.{Kept, Ready, as-it-was, both-tell, owns-twins, TestsAlike, GivesSame, GivesLeaves}
 use Rattle.sameness.proofs.Light.{shown}
 use Rattle.sameness.proofs.Freeing.{after, freed-alike, freed-leaves}
 use Rattle.sameness.proofs.Readers.{twin-of-pid, twin-eqb, child-twins, seen-above, ended-twins}
@@ -25,25 +26,25 @@ use Rattle.sameness.proofs.Remain.{Remain, Lit, same-remain, pid-in-rem
 use Rattle.sameness.proofs.Same.{Same}
 use Rattle.sameness.proofs.Still.{Still, same-still}
 use Rattle.sameness.proofs.Twins.{Pair, Twin, twin-rows, flip-pair, flip-twin, twin-there, pid-twins, taken-v, taken-u}
-use Rattle.rules.specs.Answers.{granted, answers, is-refused, refused}
-use Rattle.rules.specs.Calls.{first-ended, pid-to, reap, wait}
-use Rattle.sameness.specs.Events.{gone, is-inside}
+use Rattle.rules.specs.Answers.{granted, answers}
+use Rattle.rules.specs.Calls.{first-ended, pid-to, reap}
+use Rattle.sameness.specs.Events.{at, gone, is-inside}
 use Rattle.rules.specs.Freeing.{freed}
 use Rattle.table.specs.Fresh.{empty-process}
 use Rattle.table.specs.Limits.{process-slots}
-use Rattle.table.specs.Slots.{is-ended, no-process, to-pid, put}
-use Rattle.rules.specs.Read.{init, living, pid-in, taken, View, child-of, seen, view, namespace-taken}
+use Rattle.table.specs.Slots.{is-ended, no-process, put}
+use Rattle.rules.specs.Read.{init, living, pid-in, taken, View, child-of, seen, view, namespace-taken, children}
 use Rattle.sameness.specs.Sheet.{Row, name, row, sheet}
 use Rattle.rules.specs.Sound.{SoundTable}
-use Rattle.rules.specs.Step.{make}
 use Rattle.table.specs.Tests.{_and_, _or_, if_then_else_, least, any}
 use Rattle.sameness.specs.Touches.{removes-from, touched}
 use Rattle.table.specs.declared.Answer.the-variants.{Reaped}
 use Rattle.table.specs.declared.Call.the-variants.{Wait}
-use Rattle.table.specs.declared.Refusal.the-variants.{Echild}
 use Rattle.table.specs.declared.State.the-variants.{Running, Stopped, Ended}
 use Rattle.table.specs.declared.State.{State}
 use Rattle.table.specs.declared.Table.{Table}
+use Rattle.table.specs.Records.{to-pid}
+use Rattle.table.specs.Traits.{no-traits}
 
 -- ---- the lowest
 
@@ -109,8 +110,8 @@ module _ {v : View} (f : Facts v) (x : ℕ) (tx : So (taken v x)) (ex : So (v .e
   reap-parent : (s i : ℕ) → So (taken v i) → So (others x i) → pid-in (without v x) s (without v x .parent i) ≡ pid-in v s (v .parent i)
   reap-parent s i k q = rw (isnt (eqb i x) q) (pid-in-remain f (reap-remain .places) s (v .parent i) refl (parent-other i k))
 
-  reap-children : (s i : ℕ) → So (others x i) → name (without v x) s (without v x .children i) ≡ name v s (v .children i)
-  reap-children s i q = rw (isnt (eqb i x) q) (name-remain f reap-remain s (v .children i) refl refl)
+  reap-children : (s i : ℕ) → So (others x i) → name (without v x) s (children (without v x) i) ≡ name v s (children v i)
+  reap-children s i q = rw (isnt (eqb i x) q) (name-remain f reap-remain s (children v i) refl refl)
 
 -- ---- two tables
 
@@ -126,8 +127,7 @@ module _ {v u : View} {s r : ℕ} (w : Pair v u s r) {x y : ℕ} (k : Twin v u s
       let slot = twin-eqb w m k in
       record {
         states = λ z. if slot z then Running else rows z .state;
-        handleds = λ z. if slot z then 0 else rows z .handled;
-        pendings = λ z. if slot z then 0 else rows z .pending;
+        traitss = λ z. if slot z then no-traits else rows z .traits;
         parents = reap-parent (w .facts-v) x (taken-v k) ex s i (taken-v m) q ∙ ap (λ (o : Row). o .parent) rows ∙ sym (reap-parent (w .facts-u) y (taken-u k) ey r j (taken-u m) q′);
         childrens = reap-children (w .facts-v) x (taken-v k) ex s i q ∙ ap (λ (o : Row). o .children) rows ∙ sym (reap-children (w .facts-u) y (taken-u k) ey r j q′);
         lasts = ap (λ (o : Row). o .last) rows;
@@ -141,7 +141,7 @@ module _ {v u : View} {s r : ℕ} (w : Pair v u s r) {x y : ℕ} (k : Twin v u s
 
 -- a child is seen from its parent's own namespace
 kid-seen : {v : View} (f : Facts v) (c i : ℕ) → So (taken v c) → So (child-of v c i) → So (seen v (v .own c) i)
-unfolding child-of seen
+unfolding child-of seen taken
 kid-seen {v} f c i h k =
     child-seen v f (v .own c) i (left _ _ k)
     (subst (λ y. So (seen v (v .own c) y)) (sym (eqb-true (v .parent i) c (right _ _ k))) (both _ _ h (below-refl v (v .own c))))
@@ -226,11 +226,12 @@ reap-kept {t} {u} {s} {r} w {x} {y} k ex ey (Ended e) z =
     )
 
 -- wait by twin callers
-pub wait-same : MadeSame Wait
-unfolding MadeSame make wait reap
-wait-same t u s r c d w h g =
-    by-test (any process-slots (child-of (view t) c)) (λ e. some-child e (first-twins w))
-    (λ e. rw (e, sym (any-same w) ∙ e, wait) (both-refuse w Echild))
+pub wait-alike : TestsAlike Wait
+wait-alike t u s r c d w = alike (ap not (any-same w)) all-alike
+
+pub wait-same : GivesSame Wait
+unfolding reap
+wait-same t u s r c d w n m h g = go (first-twins w)
   where
     x : ℕ
     x = first-ended (view t) c
@@ -238,12 +239,9 @@ wait-same t u s r c d w h g =
     y : ℕ
     y = first-ended (view u) d
 
-    some-child : any process-slots (child-of (view t) c) ≡ true → First w x y → Kept t u s r (wait t c) (wait u d)
-    some-child e (inl (a, b)) = rw (e, sym (any-same w) ∙ e, no-state (w .sound-t) x a, no-state (w .sound-u) y b, wait) (both-tell w 0 0 refl)
-    some-child e (inr (k, ex, ey)) =
-        let q = shown t u (w .pair) k .states in
-        rw (e, sym (any-same w) ∙ e, ← q, wait)
-        (reap-kept w k ex ey (view t .state x) ex)
+    go : First w x y → Kept t u s r (reap t c x (view t .state x)) (reap u d y (view u .state y))
+    go (inl (a, b)) = rw (no-state (w .sound-t) x a, no-state (w .sound-u) y b, reap) (both-tell w 0 0 refl)
+    go (inr (k, ex, ey)) = let q = shown t u (w .pair) k .states in rw (← q) (reap-kept w k ex ey (view t .state x) ex)
 
 -- ---- wait by an outsider that removes nobody of S
 
@@ -271,25 +269,22 @@ first-taken {t} h c e =
     ⊎-elim (λ a. absurd (no-so (ap is-ended (no-state h _ (a .0))) e)) (λ a. left _ _ (left _ _ (a .0))) (first-cases (view t) c)
 
 -- wait by an outsider that removes nobody of S
-pub wait-leaves : MadeLeaves Wait
-unfolding MadeLeaves make wait reap answers granted refused is-refused touched removes-from is-inside taken namespace-taken
-wait-leaves t s i h hs k a g = go (any process-slots (child-of (view t) i)) refl (view t .state x) refl g
+pub wait-leaves : GivesLeaves Wait
+unfolding reap answers granted touched removes-from is-inside taken namespace-taken
+wait-leaves t s i h hs k n o no-touch g = go (view t .state x) refl no-touch
   where
     x : ℕ
     x = first-ended (view t) i
 
-    go : (b : Bool) → any process-slots (child-of (view t) i) ≡ b → (z : State) → view t .state x ≡ z → SoundTable (wait t i .table) → after t s (wait t i .table) ≡ sheet (view t) s
-    go false e z q g = rw (e, wait) (as-it-was t s hs)
-    go true e Running q g = rw (e, q, wait) (as-it-was t s hs)
-    go true e Stopped q g = rw (e, q, wait) (as-it-was t s hs)
-    go true e (Ended y) q g =
+    go : (z : State) → view t .state x ≡ z → touched t (reap t i x z .table) (at s) i Wait ≡ false → after t s (reap t i x z .table) ≡ sheet (view t) s
+    go Running q no-touch = as-it-was t s hs
+    go Stopped q no-touch = as-it-was t s hs
+    go (Ended y) q no-touch =
         let ex = ap is-ended q in
         let tx = first-taken h i ex in
-        let no-touch = untouched-made s i Wait h k a (reap t i x (Ended y)) (rw (e, q, wait) refl) refl in
         let removed : taken (view (freed (put t x empty-process))) x ≡ false =
         ap (λ (u : View). taken u x) (freed-view _ (reaped-sane t (sane t h) x ex .shape-of))
         ∙ ap (λ (u : View). taken u x) (reaped-view t (sane t h) x ex) ∙ reap-remain (facts t h) x tx ex .places .gone x (ap not (eq-eqb x x refl)) in
         let unseen : seen (view t) s x ≡ false = isnt-so (λ m. no-so no-touch (any-intro _ _ x (facts t h .in-range x tx) (both _ _ m (ap not removed)))) in
-        rw (e, q, wait)
-        (freed-leaves h (reaped-sane t (sane t h) x ex) hs hs
-        (subst (λ (u : View). Same u (view t) s s) (sym (reaped-view t (sane t h) x ex)) (same-still (facts t h) (reap-still (facts t h) x tx ex unseen))))
+        freed-leaves h (reaped-sane t (sane t h) x ex) hs hs
+        (subst (λ (u : View). Same u (view t) s s) (sym (reaped-view t (sane t h) x ex)) (same-still (facts t h) (reap-still (facts t h) x tx ex unseen)))

@@ -26,6 +26,7 @@ use Rattle.table.specs.declared.Refusal.the-variants.{Eagain}
 use Rattle.table.specs.declared.State.{State}
 use Rattle.table.specs.declared.State.the-variants.{Running, Stopped, Ended}
 use Rattle.table.specs.declared.Table.{Table}
+use Rattle.table.specs.Traits.{no-traits}
 
 -- ---- where it applies
 
@@ -42,7 +43,7 @@ lone-init =
     record {
       level = 1;
       rows =
-          record { pids = 1 ∷ replicate 31 0; state = Running; handled = 0; pending = 0; parent = 0; own = by-init 1; children = by-init 1; last = 1 } ∷ [];
+          record { pids = 1 ∷ replicate 31 0; state = Running; traits = no-traits; parent = 0; own = by-init 1; children = by-init 1; last = 1 } ∷ [];
     }
 
 -- the same inside calls, with other calls between

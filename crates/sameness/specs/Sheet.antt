@@ -5,11 +5,12 @@ use mathlib.Core.List.{List, map}
 use lib.Dec.{eqb}
 use Rattle.table.specs.Limits.{levels, no-slot}
 use Rattle.table.specs.Slots.{is-alive}
-use Rattle.rules.specs.Read.{View, init, is-init, pid-in, all-seen}
+use Rattle.rules.specs.Read.{View, children, init, is-init, pid-in, all-seen}
 use Rattle.table.specs.Tests.{if_then_else_, values}
 use Rattle.table.specs.declared.Life.{Life}
 use Rattle.table.specs.declared.Life.the-variants.{Unborn, Alive, Dead}
 use Rattle.table.specs.declared.State.{State}
+use Rattle.table.specs.declared.Traits.{Traits}
 
 -- How a row names a namespace: by its init's number in S; "dead", its level and a number in S; "unborn"; "none".
 pub data Name : Type 0 where
@@ -18,13 +19,12 @@ pub data Name : Type 0 where
   unborn-name : Name
   no-name : Name
 
--- A row for each process: numbers from S's level down; state; signals; parent's number in S or 0; own and
+-- A row for each process: numbers from S's level down; state; signals (its traits); parent's number in S or 0; own and
 -- children's namespace; and for a living init, its namespace's last number. No slot appears.
 pub record Row : Type 0 where
   pub pids : List ℕ
   pub state : State
-  pub handled : ℕ
-  pub pending : ℕ
+  pub traits : Traits
   pub parent : ℕ
   pub own : Name
   pub children : Name
@@ -61,11 +61,10 @@ row v s i =
     record {
       pids = values (v .pid i) (levels - v .level s) (v .level s);
       state = v .state i;
-      handled = v .handled i;
-      pending = v .pending i;
+      traits = v .traits i;
       parent = pid-in v s (v .parent i);
       own = name v s (v .own i);
-      children = name v s (v .children i);
+      children = name v s (children v i);
       last = if is-init v i then v .last (v .own i) else 0;
     }
 

@@ -8,7 +8,7 @@ use Rattle.rules.specs.Answers.{is-refused}
 use Rattle.rules.specs.Calls.{natural, targets}
 use Rattle.sameness.specs.Events.{Place, at, gone, Event, inside, outside, is-inside, namespace-inside, next-table, next-place}
 use Rattle.table.specs.Limits.{process-slots, namespace-slots}
-use Rattle.rules.specs.Read.{view, taken, living, alive, below}
+use Rattle.rules.specs.Read.{view, taken, living, children, alive, below}
 use Rattle.rules.specs.Step.{step}
 use Rattle.table.specs.Tests.{_and_, _or_, any, some-of}
 use Rattle.table.specs.declared.Call.{Call}
@@ -17,7 +17,7 @@ use Rattle.table.specs.declared.Table.{Table}
 
 -- A child cloned into the subtree; clone new makes a namespace below the caller's own, which is outside.
 unfoldable pub clones-into : Table → Place → ℕ → Bool
-clones-into t p c = namespace-inside t p (view t .children c)
+clones-into t p c = namespace-inside t p (children (view t) c)
 
 -- a signal sent to a process in it. (Signal 0 is none, and an ended process takes none.)
 unfoldable pub signals-into : Table → Place → List ℕ → ℤ → Bool

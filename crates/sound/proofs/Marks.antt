@@ -3,7 +3,7 @@ use Prim.Native.Nat.{ℕ, zero, suc}
 use native.Mathlib.Omega.{arith}
 use mathlib.Core.Bool.{Bool, true, false, not}
 use mathlib.Core.List.{List}
-use mathlib.Core.Path.{_≡_, refl, sym, ap, ap₂, _∙_}
+use mathlib.Core.Path.{_≡_, refl, sym, ap, ap₂, _∙_, fun-ext}
 use borrow.Author.Tests.{ne-eqb}
 use lib.Dec.{eqb}
 use lib.ListN.{getD, set, replicate}
@@ -12,12 +12,13 @@ use Rattle.table.proofs.FoldLoops.{turns}
 use Rattle.table.proofs.MarkLoops.{Marks, marks-like, no-marks, one-mark, mark-if, marks-if, marked, marked-alone}
 use Rattle.table.specs.Limits.{process-slots, namespace-slots}
 use Rattle.table.specs.Slots.{no-namespace}
-use Rattle.rules.specs.Read.{View, view, taken, namespace-taken}
-use Rattle.rules.specs.Sound.{holds, held}
+use Rattle.rules.specs.Read.{View, view, taken, namespace-taken, children}
+use Rattle.rules.specs.Sound.{held}
 use Rattle.table.specs.Tests.{_and_, _or_, any}
 use Rattle.table.specs.declared.Namespace.{Namespace}
 use Rattle.table.specs.declared.Table.{Table}
 use Rattle.sound.specs.Quick.{mark-process, mark-namespace, process-at, namespace-row, held-by-processes, held-by-children}
+use Rattle.rules.proofs.Laws.OneHold.{holds-one}
 
 -- the turn of the process at i, and of the namespace at i
 abbrev pub process-turn : View → ℕ → List Bool → List Bool
@@ -42,18 +43,19 @@ turned false false false = refl
 
 -- the root is marked before the turns
 pub processes-marked : (v : View) → Marks namespace-slots (turns process-slots (process-turn v) (set (replicate namespace-slots false) 0 true)) (held-by-processes v)
-unfolding held-by-processes holds
+unfolding held-by-processes
 processes-marked v =
     marks-like namespace-slots _ _ _
-    (marked namespace-slots (process-turn v) (λ i n. own n i or inner n i) (λ i. marks-if namespace-slots (taken v i) (v .own i) (v .children i)) process-slots _ _
+    (marked namespace-slots (process-turn v) (λ i n. own n i or inner n i) (λ i. marks-if namespace-slots (taken v i) (v .own i) (children v i)) process-slots _ _
     (one-mark namespace-slots 0 _ _ (no-marks namespace-slots)))
-    (λ n. ap₂ (λ x y. x or y) (any-or process-slots (own n) (inner n)) (root n) ∙ turned (any process-slots (own n)) (any process-slots (inner n)) (eqb n 0))
+    (λ n. ap₂ (λ x y. x or y) (any-or process-slots (own n) (inner n)) (root n) ∙ turned (any process-slots (own n)) (any process-slots (inner n)) (eqb n 0)
+    ∙ ap (λ f. eqb n 0 or any process-slots (own n) or any process-slots f) (fun-ext (λ i. sym (holds-one v n i))))
   where
     own : ℕ → ℕ → Bool
     own n i = taken v i and eqb (v .own i) n
 
     inner : ℕ → ℕ → Bool
-    inner n i = taken v i and eqb (v .children i) n
+    inner n i = taken v i and eqb (children v i) n
 
 pub children-marked : (s : List Namespace) → Marks namespace-slots (turns namespace-slots (namespace-turn s) (replicate namespace-slots false)) (held-by-children s)
 unfolding held-by-children

@@ -1,9 +1,9 @@
 -- Sets of signals by masks: a set is among another exactly if the bits that they share are all of its bits.
-use Prim.Native.Nat.{ℕ, zero, suc, _+_, _*_, _/_, _%_, _^_, _<_, _≤_, min}
+use Prim.Native.Nat.{ℕ, zero, suc, _/_, _%_, _^_, _<_, min}
 use native.Mathlib.Decide.{ℕ-discrete}
 use native.Mathlib.Nat.{min-eq-left, min-zero, zero-min, min-le-left}
 use native.Mathlib.Omega.{arith}
-use mathlib.Core.Bool.{Bool, true, false, not, So, false≢true}
+use mathlib.Core.Bool.{true, false, not, So, false≢true}
 use mathlib.Core.Path.{_≡_, refl, sym, ap, _∙_}
 use borrow.Author.Tests.{eq-eqb, ne-eqb, eqb-true}
 use lib.Bits.{bitAnd, and-step, and-zero-l}
@@ -13,7 +13,8 @@ use Rattle.rules.proofs.Laws.Tests.{tests, all-elim}
 use Rattle.table.specs.Limits.{signals, sigkill, sigstop}
 use Rattle.table.specs.SignalSets.{has}
 use Rattle.table.specs.Tests.{_and_, _implies_, all}
-use Rattle.sound.specs.Quick.{signals-ok}
+use Rattle.table.specs.Traits.{traits-ok, handled-ok, pending-ok}
+use Rattle.table.specs.declared.Traits.{Traits}
 
 -- ---- one bit
 
@@ -65,7 +66,13 @@ lacks : Catchable catchable
 unfolding has
 lacks = ((λ e. false≢true e, λ e. false≢true e), λ e. false≢true e)
 
-module _ (h q : ℕ) (hl : h < 2 ^ signals) (ql : q < 2 ^ signals) where
+module _ (x : Traits) (hl : x .handled < 2 ^ signals) (ql : x .pending < 2 ^ signals) where
+  abbrev h : ℕ
+  h = x .handled
+
+  abbrev q : ℕ
+  q = x .pending
+
   masked : Catchable h → bitAnd h catchable ≡ h
   masked o =
       shared signals h catchable hl
@@ -78,20 +85,20 @@ module _ (h q : ℕ) (hl : h < 2 ^ signals) (ql : q < 2 ^ signals) where
     λ k. lacks .1 (among h catchable e sigstop k),
   )
 
-  says : So (signals-ok h q) → Catchable h × ((s : ℕ) → s < signals → So (has q s) → So (has h s))
-  unfolding signals-ok
+  says : So (traits-ok x) → Catchable h × ((s : ℕ) → s < signals → So (has q s) → So (has h s))
+  unfolding traits-ok handled-ok pending-ok
   says t = simp tests at t
 
   -- the first test fails, or the second is what is returned
-  pub signals-fail : (bitAnd h catchable ≡ h → ⊥) → false ≡ signals-ok h q
-  signals-fail o = by-bool (signals-ok h q) (λ t. absurd (o (masked (says t .0)))) (λ f. sym f)
+  pub traits-fail : (bitAnd h catchable ≡ h → ⊥) → false ≡ traits-ok x
+  traits-fail o = by-bool (traits-ok x) (λ t. absurd (o (masked (says t .0)))) (λ f. sym f)
 
-  pub signals-last : bitAnd h catchable ≡ h → eqb (bitAnd q h) q ≡ signals-ok h q
-  unfolding signals-ok
-  signals-last e = go (ℕ-discrete (bitAnd q h) q)
+  pub traits-last : bitAnd h catchable ≡ h → eqb (bitAnd q h) q ≡ traits-ok x
+  unfolding traits-ok handled-ok pending-ok
+  traits-last e = go (ℕ-discrete (bitAnd q h) q)
     where
-      go : Dec (bitAnd q h ≡ q) → eqb (bitAnd q h) q ≡ signals-ok h q
+      go : Dec (bitAnd q h ≡ q) → eqb (bitAnd q h) q ≡ traits-ok x
       go (yes a) =
-          let t : So (signals-ok h q) = simp tests (unmasked e, λ s b. among q h a s) in
+          let t : So (traits-ok x) = simp tests (unmasked e, λ s b. among q h a s) in
           eq-eqb _ q a ∙ sym t
-      go (no o) = ne-eqb _ q o ∙ by-bool (signals-ok h q) (λ t. absurd (o (shared signals q h ql (says t .1)))) (λ f. sym f)
+      go (no o) = ne-eqb _ q o ∙ by-bool (traits-ok x) (λ t. absurd (o (shared signals q h ql (says t .1)))) (λ f. sym f)

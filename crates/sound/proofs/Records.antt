@@ -2,29 +2,27 @@
 use Prim.Native.Nat.{ℕ, _≤_}
 use mathlib.Core.Bool.{Bool, false}
 use mathlib.Core.List.{map}
-use mathlib.Core.Path.{_≡_, refl, ap, fun-ext, _∙_}
-use lib.ListN.{length, List·getD-eq-default}
-use native.Mathlib.Omega.{arith}
+use mathlib.Core.Path.{_≡_, ap, fun-ext, _∙_}
+use lib.ListN.{length}
 use Rattle.rules.proofs.Keeps.Changed.{getD-replicate}
-use Rattle.rules.proofs.Laws.Facts.{Past}
 use Rattle.table.proofs.Slots.{field-past}
 use Rattle.table.specs.Fresh.{empty-process, empty-namespace}
 use Rattle.table.specs.Limits.{levels, process-slots, namespace-slots}
 use Rattle.table.specs.Slots.{process, namespace, no-pid, no-process, no-namespace, init-of}
-use Rattle.rules.specs.Read.{view, taken, namespace-taken}
-use Rattle.rules.specs.Sound.{held, zero-process, zero-namespace}
-use Rattle.table.specs.Tests.{_and_, all}
+use Rattle.rules.specs.Read.{view, taken, namespace-taken, children}
+use Rattle.rules.specs.Sound.{held}
 use Rattle.table.specs.declared.Namespace.{Namespace}
 use Rattle.table.specs.declared.Pid.{Pid}
 use Rattle.table.specs.declared.Process.{Process}
 use Rattle.table.specs.declared.State.the-variants.{Running}
 use Rattle.table.specs.declared.Table.{Table}
-use Rattle.sound.specs.Quick.{ProcessRow, process-row, namespace-row, process-at, namespace-at, process-ok, namespace-ok, blank, blank-namespace}
+use Rattle.table.specs.Traits.{no-traits}
+use Rattle.sound.specs.Quick.{ProcessRow, process-row, namespace-row, process-at, namespace-at, process-ok, namespace-ok}
 
 -- an empty slot and what lies past the last one read alike
 pub empty-row : process-row empty-process ≡ process-row no-process
 empty-row =
-    ap (λ (f : ℕ → ℕ). record { taken = false; own = 0; children = 0; parent = 0; state = Running; ended = false; handled = 0; pending = 0; pid = f })
+    ap (λ (f : ℕ → ℕ). record { taken = false; own = 0; children = 0; parent = 0; state = Running; ended = false; traits = no-traits; pid = f })
     (fun-ext (λ l. ap (λ (p : Pid). p .0) (getD-replicate no-pid levels l)))
 
 -- past the last slot the code takes an empty record, o
@@ -41,7 +39,7 @@ module _ (t : Table) where
       → up ≡ view t .up → home ≡ namespace t (process t i .own .0) → inner ≡ namespace t (process t i .children .0)
       → parent ≡ process-row (process t (process t i .parent .0))
       → r ≡ process-ok up i (process-row (process t i)) (namespace-row (process t i .own .0) home) (namespace-row (process t i .children .0) inner) parent
-      → r ≡ process-ok (view t .up) i (process-at (view t) i) (namespace-at (view t) (view t .own i)) (namespace-at (view t) (view t .children i)) (process-at (view t) (view t .parent i))
+      → r ≡ process-ok (view t .up) i (process-at (view t) i) (namespace-at (view t) (view t .own i)) (namespace-at (view t) (children (view t) i)) (process-at (view t) (view t .parent i))
   unfolding taken namespace-taken
   process-reads i up home inner parent r a b c d e =
       e
@@ -61,13 +59,3 @@ module _ (t : Table) where
       ∙ ap (λ u. namespace-ok n u (namespace-row n (namespace t n)) (namespace-row (namespace t n .parent .0) above) init) a
       ∙ ap (λ u. namespace-ok n (held (view t) n) (namespace-row n (namespace t n)) (namespace-row (namespace t n .parent .0) u) init) b
       ∙ ap (λ u. namespace-ok n (held (view t) n) (namespace-row n (namespace t n)) (namespace-row (namespace t n .parent .0) (namespace t (namespace t n .parent .0))) u) c
-
--- Past the last slot all is zero: the arrays have the lengths of their types.
-pub past-from : (t : Table) → length (t .processes) ≡ process-slots → length (t .namespaces) ≡ namespace-slots → Past (view t)
-unfolding zero-process zero-namespace blank blank-namespace all _and_
-past-from t a b =
-    record {
-      ended-is = λ i. refl;
-      past = λ i h. ap (λ p. blank (process-row p)) (List·getD-eq-default (t .processes) no-process (omega arith));
-      past-namespaces = λ n h. ap (λ s. blank-namespace (namespace-row 0 s)) (List·getD-eq-default (t .namespaces) no-namespace (omega arith));
-    }

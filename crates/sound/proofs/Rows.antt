@@ -1,12 +1,13 @@
--- For a function that makes a row of tests and leaves with `false` at the first that fails. The definition joins the same
--- tests by `and`. For n of them `search (row-n, atoms)` closes each `return`: the failed test is one of the first n - 1, or all
--- of those hold and the last is what is returned.
-use Prim.Native.Nat.{ℕ}
+-- For a function that makes a row of tests, of any length, and leaves with `false` at the first that fails. The definition
+-- joins the same tests by `and`. `by-row _ _ (search row depth 20)` closes each `return`: one test failed, or all but the
+-- last hold and the last is what is returned. The laws have no bound; `search` reads 128 records of what the code found, which
+-- was enough for nine and ten tests, not for eleven. Split a longer function.
+use Prim.Native.Nat.{ℕ, _<_, _≤_}
 use mathlib.Core.Bool.{Bool, true, false, not, true≢false, false≢true}
 use mathlib.Core.Path.{_≡_, refl, sym, ap, _∙_}
-use borrow.Author.Tests.{eq-eqb, ne-eqb, lt-ltb, le-ltb, le-leb, lt-leb}
-use Rattle.table.proofs.Chains.{same, told, told-not, told-yes, told-equal, told-other, not-no, not-yes, and-false, and-false-later, or-true, or-goes}
-use lib.Dec.{eqb}
+use borrow.Author.Tests.{not-true, not-false, eq-eqb, ne-eqb, lt-ltb, le-ltb, le-leb, lt-leb}
+use Rattle.table.proofs.Chains.{same, told, told-not, told-yes, told-equal, told-other, not-no, not-yes, and-true, and-false, and-false-later, and-goes, or-true, or-goes}
+use lib.Dec.{eqb, ltb, leb}
 use Rattle.table.specs.Tests.{_and_, _or_, _implies_, agree}
 
 -- ---- one test, by what the code found
@@ -15,105 +16,96 @@ pub ruleset atoms = (same, eq-eqb, ne-eqb, lt-ltb, le-ltb, le-leb, lt-leb, told,
 
 -- ---- rows
 
-pub passes-2 : (a b x : Bool) → a ≡ true → x ≡ b → x ≡ a and b
-unfolding _and_
-passes-2 true b x p q = q
-passes-2 false b x p q = absurd (false≢true p)
+-- Each of the next three is a path, as a type of its own: so `search` goes down the row, at its end asks what the code found,
+-- and never goes round in circles.
 
-pub fails-2-1 : (a b : Bool) → a ≡ false → false ≡ a and b
-fails-2-1 a b p = sym (and-false a b p)
+-- x is what the row says
+pub data Says (x b : Bool) : Type 0 where
+  says : x ≡ b → Says x b
 
-pub ruleset row-2 = (passes-2, fails-2-1)
+-- a test, or a row, comes to c
+pub data Comes (b c : Bool) : Type 0 where
+  comes : b ≡ c → Comes b c
 
-pub passes-3 : (a b c x : Bool) → a ≡ true → b ≡ true → x ≡ c → x ≡ a and b and c
-unfolding _and_
-passes-3 a b c x p1 p2 q = passes-2 (a and b) c x (sym (passes-2 a b true p1 (sym p2))) q
+-- a branch saw that a callee's result is c
+pub data Seen (r c : Bool) : Type 0 where
+  seen : r ≡ c → Seen r c
 
-pub fails-3-1 : (a b c : Bool) → a ≡ false → false ≡ a and b and c
-fails-3-1 a b c p = sym (and-false (a and b) c (sym (fails-2-1 a b p)))
+path : (b c : Bool) → Comes b c → b ≡ c
+path b c (comes p) = p
 
-pub fails-3-2 : (a b c : Bool) → b ≡ false → false ≡ a and b and c
-fails-3-2 a b c p = sym (and-false (a and b) c (and-false-later (a) b p))
+pub by-row : (x b : Bool) → Says x b → x ≡ b
+by-row x b (says p) = p
 
-pub ruleset row-3 = (passes-3, fails-3-1, fails-3-2)
+-- a row: all before its last test is a row again
 
-pub passes-4 : (a b c d x : Bool) → a ≡ true → b ≡ true → c ≡ true → x ≡ d → x ≡ a and b and c and d
-unfolding _and_
-passes-4 a b c d x p1 p2 p3 q = passes-2 (a and b and c) d x (sym (passes-3 a b c true p1 p2 (sym p3))) q
+pub row-fails : (a b : Bool) → Comes (a and b) false → Says false (a and b)
+row-fails a b f = says (sym (path (a and b) false f))
 
-pub fails-4-1 : (a b c d : Bool) → a ≡ false → false ≡ a and b and c and d
-fails-4-1 a b c d p = sym (and-false (a and b and c) d (sym (fails-3-1 a b c p)))
+pub row-goes : (a b x : Bool) → Comes a true → x ≡ b → Says x (a and b)
+row-goes a b x h q = says (and-goes a b x (path a true h) q)
 
-pub fails-4-2 : (a b c d : Bool) → b ≡ false → false ≡ a and b and c and d
-fails-4-2 a b c d p = sym (and-false (a and b and c) d (sym (fails-3-2 a b c p)))
+pub fails-last : (a b : Bool) → Comes b false → Comes (a and b) false
+fails-last a b f = comes (and-false-later a b (path b false f))
 
-pub fails-4-3 : (a b c d : Bool) → c ≡ false → false ≡ a and b and c and d
-fails-4-3 a b c d p = sym (and-false (a and b and c) d (and-false-later (a and b) c p))
+pub fails-before : (a b : Bool) → Comes a false → Comes (a and b) false
+fails-before a b f = comes (and-false a b (path a false f))
 
-pub ruleset row-4 = (passes-4, fails-4-1, fails-4-2, fails-4-3)
+pub both-hold : (a b : Bool) → Comes a true → Comes b true → Comes (a and b) true
+both-hold a b g h = comes (and-true a b (path a true g) (path b true h))
 
-pub passes-5 : (a b c d e x : Bool) → a ≡ true → b ≡ true → c ≡ true → d ≡ true → x ≡ e → x ≡ a and b and c and d and e
-unfolding _and_
-passes-5 a b c d e x p1 p2 p3 p4 q = passes-2 (a and b and c and d) e x (sym (passes-4 a b c d true p1 p2 p3 (sym p4))) q
+-- one test, by what the code found
 
-pub fails-5-1 : (a b c d e : Bool) → a ≡ false → false ≡ a and b and c and d and e
-fails-5-1 a b c d e p = sym (and-false (a and b and c and d) e (sym (fails-4-1 a b c d p)))
+pub not-holds : (a : Bool) → Comes a false → Comes (not a) true
+not-holds a f = comes (not-no a (path a false f))
 
-pub fails-5-2 : (a b c d e : Bool) → b ≡ false → false ≡ a and b and c and d and e
-fails-5-2 a b c d e p = sym (and-false (a and b and c and d) e (sym (fails-4-2 a b c d p)))
+pub not-fails : (a : Bool) → Comes a true → Comes (not a) false
+not-fails a h = comes (not-yes a (path a true h))
 
-pub fails-5-3 : (a b c d e : Bool) → c ≡ false → false ≡ a and b and c and d and e
-fails-5-3 a b c d e p = sym (and-false (a and b and c and d) e (sym (fails-4-3 a b c d p)))
+pub equal : (a b : ℕ) → a ≡ b → Comes (eqb a b) true
+equal a b p = comes (eq-eqb a b p)
 
-pub fails-5-4 : (a b c d e : Bool) → d ≡ false → false ≡ a and b and c and d and e
-fails-5-4 a b c d e p = sym (and-false (a and b and c and d) e (and-false-later (a and b and c) d p))
+pub not-equal : (a b : ℕ) → (a ≡ b → ⊥) → Comes (eqb a b) false
+not-equal a b p = comes (ne-eqb a b p)
 
-pub ruleset row-5 = (passes-5, fails-5-1, fails-5-2, fails-5-3, fails-5-4)
+pub less : (a b : ℕ) → a < b → Comes (ltb a b) true
+less a b p = comes (lt-ltb a b p)
 
-pub passes-6 : (a b c d e f x : Bool) → a ≡ true → b ≡ true → c ≡ true → d ≡ true → e ≡ true → x ≡ f → x ≡ a and b and c and d and e and f
-unfolding _and_
-passes-6 a b c d e f x p1 p2 p3 p4 p5 q = passes-2 (a and b and c and d and e) f x (sym (passes-5 a b c d e true p1 p2 p3 p4 (sym p5))) q
+pub not-less : (a b : ℕ) → b ≤ a → Comes (ltb a b) false
+not-less a b p = comes (le-ltb a b p)
 
-pub fails-6-1 : (a b c d e f : Bool) → a ≡ false → false ≡ a and b and c and d and e and f
-fails-6-1 a b c d e f p = sym (and-false (a and b and c and d and e) f (sym (fails-5-1 a b c d e p)))
+pub at-most : (a b : ℕ) → a ≤ b → Comes (leb a b) true
+at-most a b p = comes (le-leb a b p)
 
-pub fails-6-2 : (a b c d e f : Bool) → b ≡ false → false ≡ a and b and c and d and e and f
-fails-6-2 a b c d e f p = sym (and-false (a and b and c and d and e) f (sym (fails-5-2 a b c d e p)))
+pub not-at-most : (a b : ℕ) → b < a → Comes (leb a b) false
+not-at-most a b p = comes (lt-leb a b p)
 
-pub fails-6-3 : (a b c d e f : Bool) → c ≡ false → false ≡ a and b and c and d and e and f
-fails-6-3 a b c d e f p = sym (and-false (a and b and c and d and e) f (sym (fails-5-3 a b c d e p)))
+-- the same by a callee's result and its contract
 
-pub fails-6-4 : (a b c d e f : Bool) → d ≡ false → false ≡ a and b and c and d and e and f
-fails-6-4 a b c d e f p = sym (and-false (a and b and c and d and e) f (sym (fails-5-4 a b c d e p)))
+pub seen-true : (r : Bool) → not r ≡ false → Seen r true
+seen-true r p = seen (not-false r p)
 
-pub fails-6-5 : (a b c d e f : Bool) → e ≡ false → false ≡ a and b and c and d and e and f
-fails-6-5 a b c d e f p = sym (and-false (a and b and c and d and e) f (and-false-later (a and b and c and d) e p))
+pub seen-false : (r : Bool) → not r ≡ true → Seen r false
+seen-false r p = seen (not-true r p)
 
-pub ruleset row-6 = (passes-6, fails-6-1, fails-6-2, fails-6-3, fails-6-4, fails-6-5)
+pub by-callee : (r b c : Bool) → r ≡ b → Seen r c → Comes b c
+by-callee r b c p (seen q) = comes (told r b c p q)
 
-pub passes-7 : (a b c d e f g x : Bool) → a ≡ true → b ≡ true → c ≡ true → d ≡ true → e ≡ true → f ≡ true → x ≡ g → x ≡ a and b and c and d and e and f and g
-unfolding _and_
-passes-7 a b c d e f g x p1 p2 p3 p4 p5 p6 q = passes-2 (a and b and c and d and e and f) g x (sym (passes-6 a b c d e f true p1 p2 p3 p4 p5 (sym p6))) q
+pub by-equal : (a b k : ℕ) → a ≡ b → a ≡ k → Comes (eqb b k) true
+by-equal a b k p q = comes (told-equal a b k p q)
 
-pub fails-7-1 : (a b c d e f g : Bool) → a ≡ false → false ≡ a and b and c and d and e and f and g
-fails-7-1 a b c d e f g p = sym (and-false (a and b and c and d and e and f) g (sym (fails-6-1 a b c d e f p)))
+pub by-other : (a b k : ℕ) → a ≡ b → (a ≡ k → ⊥) → Comes (eqb b k) false
+by-other a b k p q = comes (told-other a b k p q)
 
-pub fails-7-2 : (a b c d e f g : Bool) → b ≡ false → false ≡ a and b and c and d and e and f and g
-fails-7-2 a b c d e f g p = sym (and-false (a and b and c and d and e and f) g (sym (fails-6-2 a b c d e f p)))
+-- a test r of two: the first is a callee's result t
+pub by-agree : (r t b h c : Bool) → r ≡ agree t h → t ≡ b → Seen r c → Comes (agree b h) c
+by-agree r t b h c p e (seen q) = comes (ap (λ x. agree x h) (sym e) ∙ sym p ∙ q)
 
-pub fails-7-3 : (a b c d e f g : Bool) → c ≡ false → false ≡ a and b and c and d and e and f and g
-fails-7-3 a b c d e f g p = sym (and-false (a and b and c and d and e and f) g (sym (fails-6-3 a b c d e f p)))
+-- the last test: a number n that is b, compared with k
+pub told-same : (n b k : ℕ) → n ≡ b → eqb n k ≡ eqb b k
+told-same n b k e = ap (λ x. eqb x k) e
 
-pub fails-7-4 : (a b c d e f g : Bool) → d ≡ false → false ≡ a and b and c and d and e and f and g
-fails-7-4 a b c d e f g p = sym (and-false (a and b and c and d and e and f) g (sym (fails-6-4 a b c d e f p)))
-
-pub fails-7-5 : (a b c d e f g : Bool) → e ≡ false → false ≡ a and b and c and d and e and f and g
-fails-7-5 a b c d e f g p = sym (and-false (a and b and c and d and e and f) g (sym (fails-6-5 a b c d e f p)))
-
-pub fails-7-6 : (a b c d e f g : Bool) → f ≡ false → false ≡ a and b and c and d and e and f and g
-fails-7-6 a b c d e f g p = sym (and-false (a and b and c and d and e and f) g (and-false-later (a and b and c and d and e) f p))
-
-pub ruleset row-7 = (passes-7, fails-7-1, fails-7-2, fails-7-3, fails-7-4, fails-7-5, fails-7-6)
+pub ruleset row = (row-fails, row-goes, fails-last, fails-before, both-hold, by-callee, seen-true, seen-false, seen, not-holds, not-fails, equal, not-equal, less, not-less, at-most, not-at-most, by-equal, by-other, by-agree, told-same)
 
 -- ---- a choice by a test t: a where it holds, b where it does not
 
@@ -133,25 +125,17 @@ pub ruleset choice = (takes, takes-other)
 -- a choice where what is taken is a test m and then, but at the first slot, another: as for a slot that holds something
 
 pub slot-fails : (t m z p b : Bool) → t ≡ true → m ≡ false → false ≡ (t implies m and (z or p)) and (t or b)
-slot-fails t m z p b h k = takes t (m and (z or p)) b false h (fails-2-1 m (z or p) k)
+slot-fails t m z p b h k = takes t (m and (z or p)) b false h (sym (and-false m (z or p) k))
 
 pub slot-first : (t m z p b : Bool) → t ≡ true → m ≡ true → z ≡ true → true ≡ (t implies m and (z or p)) and (t or b)
-slot-first t m z p b h k e = takes t (m and (z or p)) b true h (passes-2 m (z or p) true k (sym (or-true z p e)))
+slot-first t m z p b h k e = takes t (m and (z or p)) b true h (and-goes m (z or p) true k (sym (or-true z p e)))
 
 pub slot-other : (t m z p b x : Bool) → t ≡ true → m ≡ true → z ≡ false → x ≡ p → x ≡ (t implies m and (z or p)) and (t or b)
-slot-other t m z p b x h k e q = takes t (m and (z or p)) b x h (passes-2 m (z or p) x k (or-goes z p x e q))
+slot-other t m z p b x h k e q = takes t (m and (z or p)) b x h (and-goes m (z or p) x k (or-goes z p x e q))
 
 pub ruleset slots = (takes-other, slot-fails, slot-first, slot-other)
 
--- ---- a callee's result that goes into a test
-
--- a number n that is b, compared with k
-pub told-same : (n b k : ℕ) → n ≡ b → eqb n k ≡ eqb b k
-told-same n b k e = ap (λ x. eqb x k) e
-
--- a test r of two: the first is a callee's result t
-pub told-agree : (r t b h c : Bool) → r ≡ agree t h → t ≡ b → r ≡ c → agree b h ≡ c
-told-agree r t b h c p e q = ap (λ x. agree x h) (sym e) ∙ sym p ∙ q
+-- ---- whether two tests agree, by the first
 
 pub agree-yes : (a b : Bool) → a ≡ true → b ≡ agree a b
 unfolding agree

@@ -2,28 +2,31 @@
 use Prim.Native.Nat.{ℕ, zero, suc, _+_, _*_, _-_, _<_, _≤_}
 use native.Mathlib.Decide.{decLt, ℕ-discrete}
 use native.Mathlib.Omega.{arith}
-use mathlib.Core.Bool.{Bool, true, false, not, So, false≢true}
+use mathlib.Core.Bool.{Bool, true, false, So, false≢true}
 use mathlib.Core.Logic.{_⊎_, inl, inr, ⊎-elim}
 use mathlib.Core.Path.{_≡_, refl, sym, _∙_, ap, subst}
 use borrow.Author.Tests.{eq-eqb, ne-eqb, eqb-true, leb-true, le-leb, lt-ltb, le-ltb}
-use lib.Dec.{eqb, leb, ltb}
+use lib.Dec.{eqb, leb}
 use Rattle.table.proofs.Chains.{by-bool, pick-yes, pick-no}
 use Rattle.rules.proofs.Laws.Below as Below
 use Rattle.rules.proofs.Laws.Clauses.{sound-is, is-sound}
-use Rattle.rules.proofs.Laws.Facts.{Facts, Held, Holder, root, member, for-children, child, Past, Taken, Stands, Lives, Seen, Other, SignalsOk, pid-ok, facts-of, held-of, is-sound-view, lives-taken, not-ended, is-living, seen-taken, seen-below, is-seen, holder-of, is-held, held-namespace}
+use Rattle.rules.proofs.Laws.Facts.{Facts, Held, Holder, root, member, for-children, child, Past, Taken, Stands, Lives, Seen, Other, pid-ok, facts-of, held-of, is-sound-view, lives-taken, not-ended, is-living, seen-taken, seen-below, is-seen, holder-of, is-held, held-namespace, zero-of, holds-children, ended-children, Holds, holder}
 use Rattle.rules.proofs.Laws.Tests.{tests, and-iff, not-iff, left, right, both, cases, all-intro, all-elim}
 use Rattle.rules.proofs.Laws.Reach.{reach-zero, reach-step}
 use Rattle.rules.proofs.Laws.Tree.{Stepwise, below-refl, climb-cases}
 use Rattle.table.specs.Limits.{process-slots, namespace-slots, levels, deepest, greatest-pid, no-slot}
 use Rattle.table.specs.Slots.{is-alive, is-unborn}
-use Rattle.rules.specs.Read.{View, taken, namespace-taken, alive, dead, unborn, init, below, climb, above-at, up-by, pid-seen}
+use Rattle.rules.specs.Read.{View, taken, namespace-taken, alive, dead, unborn, init, below, climb, above-at, up-by, pid-seen, children}
 use Rattle.rules.specs.Sound.{sound-view, zero-process, zero-namespace, reaches-root, kept-end, held}
 use Rattle.rules.specs.Sound as S
 use Rattle.table.specs.Tests.{_and_, if_then_else_, all}
 use Rattle.table.specs.declared.Life.{Life}
 use Rattle.table.specs.declared.Life.the-variants.{Unborn, Alive, Dead}
+use Rattle.table.specs.Traits.{traits-ok, bare-traits, ended-traits}
 use Rattle.sound.specs.Quick as Q
 use Rattle.sound.specs.Quick.{pid-values, quick, process-at, namespace-at, top, pid-keys, unborn-keys}
+use Rattle.rules.proofs.Laws.OneHold.{zero-one, only-children}
+use Rattle.rules.proofs.Laws.Holds.{each-index}
 
 -- ---- keys
 
@@ -77,24 +80,24 @@ key-is v k l i q = subst (λ l. ((v .pid i l ≡ 0) × (pid-keys v k i ≡ 0)) �
 
 -- the unborn namespace that a process holds, or 0
 HoldsUnborn : View → ℕ → Type 0
-HoldsUnborn v i = ((Taken v i × Stands v (v .children i)) × So (unborn v (v .children i))) × (unborn-keys v i ≡ v .children i)
+HoldsUnborn v i = ((Taken v i × Stands v (children v i)) × So (unborn v (children v i))) × (unborn-keys v i ≡ children v i)
 
 unborn-key-is : (v : View) (i : ℕ) → (unborn-keys v i ≡ 0) ⊎ HoldsUnborn v i
 unfolding Q.unborn-key HoldsUnborn
 unborn-key-is v i =
-    by-bool (taken v i and namespace-taken v (v .children i) and unborn v (v .children i))
+    by-bool (taken v i and namespace-taken v (children v i) and unborn v (children v i))
     (λ e. inr ((simp and-iff at e), pick-yes _ _ _ e))
     (λ e. inl (pick-no _ _ _ e))
 
-is-unborn-key : (v : View) (i : ℕ) → Taken v i → Stands v (v .children i) → So (unborn v (v .children i)) → unborn-keys v i ≡ v .children i
+is-unborn-key : (v : View) (i : ℕ) → Taken v i → Stands v (children v i) → So (unborn v (children v i)) → unborn-keys v i ≡ children v i
 unfolding Q.unborn-key
 is-unborn-key v i t s u = pick-yes _ _ _ (both _ _ (both _ _ t s) u)
 
 -- ---- empty slots
 
 blank-is : (v : View) (i : ℕ) → Q.blank (process-at v i) ≡ zero-process v i
-unfolding Q.blank zero-process
-blank-is v i = refl
+unfolding Q.blank
+blank-is v i = sym (zero-one v i)
 
 blank-namespace-is : (v : View) (n : ℕ) → Q.blank-namespace (namespace-at v n) ≡ zero-namespace v n
 unfolding Q.blank-namespace zero-namespace
@@ -110,16 +113,16 @@ alive-unborn Dead a u = false≢true u
 
 module _ (v : View) (p : Facts v) (h : Held v) where
   -- what a process holds for its children, if it is unborn, lies right below its own namespace
-  process-fits : (i : ℕ) → So (Q.process-ok (v .up) i (process-at v i) (namespace-at v (v .own i)) (namespace-at v (v .children i)) (process-at v (v .parent i)))
-  unfolding Q.process-ok Q.member-ok Q.parent-ok Q.state-ok Q.ended-ok Q.living-ok Q.signals-ok Q.pids-ok below pid-seen
+  process-fits : (i : ℕ) → So (Q.process-ok (v .up) i (process-at v i) (namespace-at v (v .own i)) (namespace-at v (children v i)) (process-at v (v .parent i)))
+  unfolding Q.process-ok Q.member-ok Q.parent-ok Q.state-ok Q.ended-ok Q.living-ok Q.pids-ok below pid-seen
   process-fits i =
       simp tests (
         λ t. (
           (
-            ((((p .members i t .0 .0, p .members i t .1), p .ends-kept i t), p .signal-sets i t), p .pid-range i t),
+            ((((p .members i t .0 .0, p .members i t .1), p .ends-kept i t), p .traits i t), p .pid-range i t),
             (
-              p .ended-bare i t,
-              λ o. let c = p .children i t (is-living v i t o) in (((λ d. o (p .members i t .0 .1 d), c .0), c .1), λ u. p .unborn-own (v .children i) (c .0) u i t refl),
+              λ e. (ended-children v p i t e, p .ended-traits i t e),
+              λ o. let c = p .children i t (is-living v i t o) in (((λ d. o (p .members i t .0 .1 d), c .0), c .1), λ u. p .unborn-own (children v i) (c .0) u i t (holds-children v i)),
             ),
           ),
           λ o. let q = p .parents i t o in (((lives-taken v _ (q .0 .0), not-ended v _ (q .0 .0)), q .0 .1), p .first-parents i t o),
@@ -155,8 +158,8 @@ module _ (v : View) (p : Facts v) (h : Held v) where
       ⊎-elim (λ z. o z)
       (λ hi. ⊎-elim (λ z. o (sym e ∙ z))
       (λ hj.
-      let same : v .children j ≡ v .children i = sym (hj .1) ∙ e ∙ hi .1 in
-      let q : j ≡ i = p .unborn-one (v .children i) (hi .0 .0 .1) (hi .0 .1) j i (hj .0 .0 .0) same (hi .0 .0 .0) refl in
+      let same : children v j ≡ children v i = sym (hj .1) ∙ e ∙ hi .1 in
+      let q : j ≡ i = p .unborn-one (children v i) (hi .0 .0 .1) (hi .0 .1) j i (hj .0 .0 .0) (for-children v j _ same) (hi .0 .0 .0) (holds-children v i) in
       omega arith)
       (unborn-key-is v j))
       (unborn-key-is v i))
@@ -217,7 +220,7 @@ module _ (v : View) (p : Facts v) (h : Held v) where
       go i k e (yes z) = reach-zero (v .parent) process-slots i z
       go i true t (no o) = p .parents i t o .1
       go i false e (no o) =
-          let z : v .parent i ≡ 0 = (simp tests at (p .empty-process i (λ t. false≢true (sym e ∙ t)))) .0 .0 .0 .0 .1 in
+          let z : v .parent i ≡ 0 = zero-of v i (p .empty-process i (λ t. false≢true (sym e ∙ t))) .parent in
           reach-step (v .parent) 63 i (reach-zero (v .parent) 63 (v .parent i) z)
 
   quick-from : So (quick v)
@@ -243,12 +246,12 @@ module _ (v : View) (p : Facts v) (h : Held v) where
 -- what it tests of a process, and of a process and its parent
 abbrev Member : View → ℕ → Type 0
 Member v i =
-    (((((Stands v (v .own i) × (So (unborn v (v .own i)) → ⊥)) × So (kept-end (v .state i))) × SignalsOk (v .handled i) (v .pending i))
+    (((((Stands v (v .own i) × (So (unborn v (v .own i)) → ⊥)) × So (kept-end (v .state i))) × So (traits-ok (v .traits i)))
     × ((l : ℕ) → l < levels → pid-ok v i l))
-    × ((So (v .ended i) → ((v .children i ≡ no-slot) × (v .handled i ≡ 0)) × (v .pending i ≡ 0))
+    × ((So (v .ended i) → (children v i ≡ no-slot) × So (bare-traits (v .traits i)))
     × ((So (v .ended i) → ⊥)
-    → (((So (dead v (v .own i)) → ⊥) × Stands v (v .children i)) × So (below v (v .children i) (v .own i)))
-    × (So (unborn v (v .children i)) → v .own i ≡ v .up (v .children i)))))
+    → (((So (dead v (v .own i)) → ⊥) × Stands v (children v i)) × So (below v (children v i) (v .own i)))
+    × (So (unborn v (children v i)) → v .own i ≡ v .up (children v i)))))
 
 abbrev Child : View → ℕ → Type 0
 Child v i =
@@ -283,7 +286,7 @@ module _ (v : View) (r : Past v) (q : So (quick v)) where
   base = simp tests at (parts .0 .0 .0 .0 .0 .1)
 
   process-says : (i : ℕ) → i < process-slots → (Taken v i → Member v i × (Other i → Child v i)) × ((Taken v i → ⊥) → So (Q.blank (process-at v i)))
-  unfolding Q.processes-ok Q.process-ok Q.member-ok Q.parent-ok Q.state-ok Q.ended-ok Q.living-ok Q.signals-ok Q.pids-ok below pid-seen
+  unfolding Q.processes-ok Q.process-ok Q.member-ok Q.parent-ok Q.state-ok Q.ended-ok Q.living-ok Q.pids-ok below pid-seen
   process-says i b = simp tests at (all-elim process-slots _ (parts .0 .0 .0 .0 .1) i b)
 
   namespace-says :
@@ -399,16 +402,16 @@ module _ (v : View) (r : Past v) (q : So (quick v)) where
   unborn-other n u z = alive-unborn (v .life 0) (base .0 .0) (subst (λ m. So (unborn v m)) z u)
 
   -- who holds one for its children has not ended
-  holds-unborn : (n i : ℕ) → Stands v n → So (unborn v n) → Taken v i → v .children i ≡ n → v .own i ≡ v .up n
+  holds-unborn : (n i : ℕ) → Stands v n → So (unborn v n) → Taken v i → children v i ≡ n → v .own i ≡ v .up n
   holds-unborn n i s u t e =
       by-bool (v .ended i)
-      (λ x. let z = member-of i t .1 .0 x .0 .0 in omega (arith, namespace-range n s))
+      (λ x. let z = member-of i t .1 .0 x .0 in omega (arith, namespace-range n s))
       (λ x. member-of i t .1 .1 (λ y. false≢true (sym x ∙ y)) .1 (subst (λ m. So (unborn v m)) (sym e) u) ∙ ap (v .up) e)
 
-  holder-key : (n i : ℕ) → Stands v n → So (unborn v n) → Taken v i → v .children i ≡ n → unborn-keys v i ≡ n
+  holder-key : (n i : ℕ) → Stands v n → So (unborn v n) → Taken v i → children v i ≡ n → unborn-keys v i ≡ n
   holder-key n i s u t e = is-unborn-key v i t (subst (Stands v) (sym e) s) (subst (λ m. So (unborn v m)) (sym e) u) ∙ e
 
-  one-holder : (n : ℕ) → Stands v n → So (unborn v n) → (i j : ℕ) → Taken v i → v .children i ≡ n → Taken v j → v .children j ≡ n → i ≡ j
+  one-holder : (n : ℕ) → Stands v n → So (unborn v n) → (i j : ℕ) → Taken v i → children v i ≡ n → Taken v j → children v j ≡ n → i ≡ j
   one-holder n s u i j a b c d =
       let ki = holder-key n i s u a b in
       let kj = holder-key n j s u c d in
@@ -422,10 +425,10 @@ module _ (v : View) (r : Past v) (q : So (quick v)) where
   no-child : (n : ℕ) → So (unborn v n) → (m : ℕ) → Stands v m → Other m → v .up m ≡ n → ⊥
   no-child n u m s o e = placed m s o .0 .1 (subst (λ m. So (unborn v m)) (sym e) u)
 
-  a-holder : (n : ℕ) → So (unborn v n) → Holder v n → (i : ℕ) × Taken v i × (v .children i ≡ n)
+  a-holder : (n : ℕ) → So (unborn v n) → Holder v n → (i : ℕ) × Taken v i × Holds v i n
   a-holder n u (root z) = absurd (unborn-other n u z)
   a-holder n u (member i t e) = absurd (no-member n u i t e)
-  a-holder n u (for-children i t e) = (i, t, e)
+  a-holder n u (holder i t e) = (i, t, e)
   a-holder n u (child m s o e) = absurd (no-child n u m s o e)
 
   -- ---- all of it
@@ -452,8 +455,8 @@ module _ (v : View) (r : Past v) (q : So (quick v)) where
         unborn-last = λ n s u. namespace-says n (namespace-range n s) .1 .0 s .0 .1 (λ a. alive-unborn (v .life n) a u) u;
         unborn-empty = λ n s u. no-member n u;
         unborn-leaf = λ n s u. no-child n u;
-        unborn-own = λ n s u i t e. holds-unborn n i s u t e;
-        unborn-one = one-holder;
+        unborn-own = λ n s u i t e. holds-unborn n i s u t (only-children v i n e);
+        unborn-one = λ n s u i j a x b y. one-holder n s u i j a (only-children v i n x) b (only-children v j n y);
         last-pids = λ n b. namespace-says n b .0 .0;
         pid-range = λ i t. member-of i t .0 .1;
         differ = differ;
@@ -462,8 +465,9 @@ module _ (v : View) (r : Past v) (q : So (quick v)) where
         parents = λ i t o. let c = child-of i t o in ((is-living v (v .parent i) (c .0 .0 .0) (c .0 .0 .1), c .0 .1), reach i (range i t));
         first-parents = λ i t o. child-of i t o .1;
         children = λ i t a. let c = member-of i t .1 .1 (not-ended v i a) in (c .0 .0 .1, c .0 .1);
-        signal-sets = λ i t. member-of i t .0 .0 .1;
-        ended-bare = λ i t. member-of i t .1 .0;
+        traits = λ i t. member-of i t .0 .0 .1;
+        ended-holds = λ i t e. each-index (λ k. v .hold i k ≡ no-slot) (member-of i t .1 .0 e .0);
+        ended-traits = λ i t e. member-of i t .1 .0 e .1;
         ends-kept = λ i t. member-of i t .0 .0 .0 .1;
       }
     where

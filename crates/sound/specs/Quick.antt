@@ -6,10 +6,9 @@ use mathlib.Core.Bool.{Bool, true, not}
 use mathlib.Core.List.{List}
 use lib.Dec.{eqb, leb, ltb}
 use lib.ListN.{getD, set}
-use Rattle.table.specs.Limits.{process-slots, namespace-slots, levels, deepest, greatest-pid, no-slot, signals, sigkill, sigstop}
+use Rattle.table.specs.Limits.{process-slots, namespace-slots, levels, deepest, greatest-pid, no-slot}
 use Rattle.table.specs.Slots.{no-namespace, pid-at, is-running, is-ended, is-unborn, is-alive, is-dead, init-of}
-use Rattle.rules.specs.Read.{View, taken, namespace-taken, climb}
-use Rattle.table.specs.SignalSets.{has}
+use Rattle.rules.specs.Read.{View, taken, namespace-taken, climb, children}
 use Rattle.rules.specs.Sound.{root-process, root-namespace, reaches-root, kept-end, holds, held}
 use Rattle.table.specs.Tests.{_and_, _or_, _implies_, agree, if_then_else_, all, any}
 use Rattle.table.specs.declared.Life.{Life}
@@ -17,6 +16,8 @@ use Rattle.table.specs.declared.Namespace.{Namespace}
 use Rattle.table.specs.declared.ProcSlot.{ProcSlot}
 use Rattle.table.specs.declared.Process.{Process}
 use Rattle.table.specs.declared.State.{State}
+use Rattle.table.specs.declared.Traits.{Traits}
+use Rattle.table.specs.Traits.{blank-traits, bare-traits, traits-ok}
 
 -- ---- one slot: of a view, and of what the code has read
 
@@ -27,8 +28,7 @@ pub record ProcessRow : Type 0 where
   pub parent : ℕ
   pub state : State
   pub ended : Bool
-  pub handled : ℕ
-  pub pending : ℕ
+  pub traits : Traits
   pub pid : ℕ → ℕ
 
 pub record NamespaceRow : Type 0 where
@@ -43,12 +43,11 @@ process-at v i =
     record {
       taken = taken v i;
       own = v .own i;
-      children = v .children i;
+      children = children v i;
       parent = v .parent i;
       state = v .state i;
       ended = v .ended i;
-      handled = v .handled i;
-      pending = v .pending i;
+      traits = v .traits i;
       pid = v .pid i;
     }
 
@@ -61,8 +60,7 @@ process-row p =
       parent = p .parent .0;
       state = p .state;
       ended = is-ended (p .state);
-      handled = p .handled;
-      pending = p .pending;
+      traits = p .traits;
       pid = pid-at p;
     }
 
@@ -77,7 +75,7 @@ namespace-row n s =
 
 -- what an ended process has left
 unfoldable pub ended-ok : ProcessRow → Bool
-ended-ok p = eqb (p .children) no-slot and eqb (p .handled) 0 and eqb (p .pending) 0
+ended-ok p = eqb (p .children) no-slot and bare-traits (p .traits)
 
 -- what a living one may have for its children; an unborn namespace only right below its own
 unfoldable pub living-ok : (ℕ → ℕ) → ProcessRow → NamespaceRow → NamespaceRow → Bool
@@ -88,12 +86,6 @@ living-ok up p home inner =
 unfoldable pub state-ok : (ℕ → ℕ) → ProcessRow → NamespaceRow → NamespaceRow → Bool
 state-ok up p home inner = (p .ended implies ended-ok p) and (p .ended or living-ok up p home inner)
 
--- handled signals but 0, 9 and 19, and pending ones among them
-unfoldable pub signals-ok : ℕ → ℕ → Bool
-signals-ok handled pending =
-    not (has handled 0) and not (has handled sigkill) and not (has handled sigstop)
-    and all signals (λ s. has pending s implies has handled s)
-
 -- numbers up to the own level, and none beyond
 abbrev pub pid-ok : ℕ → ℕ → ℕ → Bool
 pid-ok pid l level = if leb l level then leb 1 pid and leb pid greatest-pid else eqb pid 0
@@ -103,7 +95,7 @@ pids-ok pid level = all levels (λ l. pid-ok (pid l) l level)
 
 unfoldable pub member-ok : (ℕ → ℕ) → ProcessRow → NamespaceRow → NamespaceRow → Bool
 member-ok up p home inner =
-    home .taken and not (is-unborn (home .life)) and kept-end (p .state) and signals-ok (p .handled) (p .pending)
+    home .taken and not (is-unborn (home .life)) and kept-end (p .state) and traits-ok (p .traits)
     and pids-ok (p .pid) (home .level) and state-ok up p home inner
 
 -- ---- a process and its parent
@@ -116,8 +108,8 @@ parent-ok up p home parent =
 -- an empty slot
 unfoldable pub blank : ProcessRow → Bool
 blank p =
-    eqb (p .own) 0 and eqb (p .children) 0 and eqb (p .parent) 0 and is-running (p .state) and eqb (p .handled) 0
-    and eqb (p .pending) 0 and all levels (λ l. eqb (p .pid l) 0)
+    eqb (p .own) 0 and eqb (p .children) 0 and eqb (p .parent) 0 and is-running (p .state) and blank-traits (p .traits)
+    and all levels (λ l. eqb (p .pid l) 0)
 
 unfoldable pub process-ok : (ℕ → ℕ) → ℕ → ProcessRow → NamespaceRow → NamespaceRow → ProcessRow → Bool
 process-ok up i p home inner parent =
@@ -126,7 +118,7 @@ process-ok up i p home inner parent =
 unfoldable pub processes-ok : View → Bool
 processes-ok v =
     all process-slots
-    (λ i. process-ok (v .up) i (process-at v i) (namespace-at v (v .own i)) (namespace-at v (v .children i)) (process-at v (v .parent i)))
+    (λ i. process-ok (v .up) i (process-at v i) (namespace-at v (v .own i)) (namespace-at v (children v i)) (process-at v (v .parent i)))
 
 abbrev pub process-in : List ProcSlot → ℕ → ℕ
 process-in slots i = getD slots i (record { 0 = 0 }) .0
@@ -201,7 +193,7 @@ unfoldable pub unborn-key : ProcessRow → NamespaceRow → ℕ
 unborn-key p inner = if p .taken and inner .taken and is-unborn (inner .life) then p .children else 0
 
 abbrev pub unborn-keys : View → ℕ → ℕ
-unborn-keys v i = unborn-key (process-at v i) (namespace-at v (v .children i))
+unborn-keys v i = unborn-key (process-at v i) (namespace-at v (children v i))
 
 -- each namespace itself, and those below a level one up
 unfoldable pub itself : ℕ → ℕ

@@ -17,6 +17,7 @@ use table::SIGSTOP;
 use table::STATUSES;
 use table::State;
 use table::Table;
+use table::Traits;
 use table::empty_namespace;
 use table::empty_process;
 use tree::below;
@@ -36,8 +37,44 @@ ghost use Rattle.rules.specs.Read.{view};
 ghost use Rattle.rules.specs.Sound.{kept-end, reaches-root, root-process, root-namespace, sound};
 ghost use Rattle.table.specs.Tests.{_and_, _implies_, agree, if_then_else_, all};
 ghost use Rattle.table.specs.declared.State.the-variants.{Ended};
+ghost use Rattle.table.specs.Traits.{blank-traits, bare-traits, traits-ok};
 ghost use Rattle.tree.specs.Tree.{slot-in, level-in};
-ghost use Rattle.sound.specs.Quick.{process-row, namespace-row, process-at, ended-ok, living-ok, state-ok, signals-ok, pid-ok, pids-ok, member-ok, parent-ok, blank, process-ok, processes-ok, init-ok, life-ok, place-ok, blank-namespace, filled-ok, namespace-ok, namespaces-ok, mark-process, mark-namespace, held-by-processes, held-by-children, process-in, reach-ok, key-in, differs-at, differ, unborn-key, unborn-keys, raised, itself, pid-key, pid-keys, root-process-ok, root-namespace-ok};
+ghost use Rattle.sound.specs.Quick.{process-row, namespace-row, process-at, ended-ok, living-ok, state-ok, pid-ok, pids-ok, member-ok, parent-ok, blank, process-ok, processes-ok, init-ok, life-ok, place-ok, blank-namespace, filled-ok, namespace-ok, namespaces-ok, mark-process, mark-namespace, held-by-processes, held-by-children, process-in, reach-ok, key-in, differs-at, differ, unborn-key, unborn-keys, raised, itself, pid-key, pid-keys, root-process-ok, root-namespace-ok};
+
+// ---- a process's traits
+
+// Whether they are an empty slot's.
+fn traits_blank(x: Traits) -> bool
+    ensures { λ r. ⌜ r ≡ blank-traits x ⌝ }
+{
+    if x.handled != 0 {
+        return false;
+    }
+    x.pending == 0
+}
+
+// Whether they are what an end leaves.
+fn traits_bare(x: Traits) -> bool
+    ensures { λ r. ⌜ r ≡ bare-traits x ⌝ }
+{
+    if x.handled != 0 {
+        return false;
+    }
+    x.pending == 0
+}
+
+// Signals that can be handled, as bits: all but 0, 9 and 19.
+const CATCHABLE: u32 = !(1 | 1 << SIGKILL | 1 << SIGSTOP);
+
+// Whether a process may handle its signals, and the pending ones are among them.
+fn traits_ok(x: Traits) -> bool
+    ensures { λ r. ⌜ r ≡ traits-ok x ⌝ }
+{
+    if (x.handled & CATCHABLE) != x.handled {
+        return false;
+    }
+    (x.pending & x.handled) == x.pending
+}
 
 // ---- a process by itself
 
@@ -48,10 +85,7 @@ fn ended_ok(p: Process) -> bool
     if p.children.0 != NO_SLOT {
         return false;
     }
-    if p.handled != 0 {
-        return false;
-    }
-    p.pending == 0
+    traits_bare(p.traits)
 }
 
 // Whether what a living process holds for its children, if it is unborn, lies right below its own namespace.
@@ -90,19 +124,6 @@ fn state_ok(up: [NsSlot; NAMESPACE_SLOTS], p: Process, home: Namespace, inner: N
         return ended_ok(p);
     }
     living_ok(up, p, home, inner)
-}
-
-// Signals that can be handled, as bits: all but 0, 9 and 19.
-const CATCHABLE: u32 = !(1 | 1 << SIGKILL | 1 << SIGSTOP);
-
-// Whether a process may handle these signals, and the pending ones are among them.
-fn signals_ok(handled: u32, pending: u32) -> bool
-    ensures { λ r. ⌜ r ≡ signals-ok handled pending ⌝ }
-{
-    if (handled & CATCHABLE) != handled {
-        return false;
-    }
-    (pending & handled) == pending
 }
 
 // Whether an end is one that can be kept: a number to 255, which every byte is, or a signal.
@@ -174,7 +195,7 @@ fn member_ok(up: [NsSlot; NAMESPACE_SLOTS], p: Process, home: Namespace, inner: 
     if !end_ok(state) {
         return false;
     }
-    if !signals_ok(p.handled, p.pending) {
+    if !traits_ok(p.traits) {
         return false;
     }
     if !pids_ok(p, home.level) {
@@ -245,10 +266,7 @@ fn is_blank(p: Process) -> bool
     if !p.is_running() {
         return false;
     }
-    if p.handled != 0 {
-        return false;
-    }
-    if p.pending != 0 {
+    if !traits_blank(p.traits) {
         return false;
     }
     no_pids(p)

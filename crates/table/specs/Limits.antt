@@ -26,6 +26,10 @@ restart-pid = 300
 abbrev pub no-slot : ℕ
 no-slot = 255
 
+-- A process holds one namespace beside its own: that of its children.
+abbrev pub hold-slots : ℕ
+hold-slots = 1
+
 -- Signal numbers are 0 to 31, and 0 is no signal.
 abbrev pub signals : ℕ
 signals = 32

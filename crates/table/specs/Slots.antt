@@ -1,9 +1,10 @@
 -- A table by its slots: what stands at each, the conditions that a record can be in, and a table with a record changed.
-use Prim.Native.Nat.{ℕ}
+use Prim.Native.Nat.{ℕ, zero, suc}
 use mathlib.Core.Bool.{Bool, true, false}
 use mathlib.Core.List.{[]}
 use lib.ListN.{getD, set}
 use Rattle.table.specs.Limits.{process-slots, namespace-slots, no-slot}
+use Rattle.table.specs.Records.{to-pid, blank-process, blank-namespace}
 use Rattle.table.specs.Tests.{changed-to}
 use Rattle.table.specs.declared.Life.{Life}
 use Rattle.table.specs.declared.Life.the-variants.{Unborn, Alive, Dead}
@@ -14,20 +15,16 @@ use Rattle.table.specs.declared.State.{State}
 use Rattle.table.specs.declared.State.the-variants.{Running, Stopped, Ended}
 use Rattle.table.specs.declared.Table.{Table}
 
--- a number as a field holds it
-abbrev pub to-pid : ℕ → Pid
-to-pid k = record { 0 = k }
-
 -- ---- what is read past the end of an array: all zero, running, unborn
 
 abbrev pub no-pid : Pid
-no-pid = record { 0 = 0 }
+no-pid = to-pid 0
 
 abbrev pub no-process : Process
-no-process = record { own = record { 0 = 0 }; children = record { 0 = 0 }; parent = record { 0 = 0 }; state = Running; handled = 0; pending = 0; pids = [] }
+no-process = blank-process []
 
 abbrev pub no-namespace : Namespace
-no-namespace = record { parent = record { 0 = 0 }; level = 0; last = no-pid; life = Unborn }
+no-namespace = blank-namespace
 
 -- ---- what stands at a slot
 
@@ -42,6 +39,11 @@ namespace t n = getD (t .namespaces) n no-namespace
 -- a process's number at a level
 abbrev pub pid-at : Process → ℕ → ℕ
 pid-at p l = getD (p .pids) l no-pid .0
+
+-- a namespace that a process holds beside its own, by an index: at 0 that of its children; past the last, none
+abbrev pub hold-at : Process → ℕ → ℕ
+hold-at p zero = p .children .0
+hold-at p (suc k) = no-slot
 
 -- ---- a state is running, stopped or ended
 

@@ -5,6 +5,7 @@ ghost use mathlib.Core.Bool.{not};
 ghost use lib.Dec.{eqb};
 ghost use lib.ListN.{getD};
 ghost use Rattle.table.specs.Fresh.{empty-process, empty-namespace, fresh as fresh-table};
+ghost use Rattle.table.specs.Traits.{no-traits, born-traits, ended-traits, with-signals};
 ghost use Rattle.table.specs.Slots.{namespace, pid-at, is-running, is-ended, is-unborn, is-alive, is-dead, init-of, put, put-namespace};
 
 // ---- the numbers of document 01, each named once
@@ -65,15 +66,20 @@ pub enum State {
     Ended(End),
 }
 
-// Own namespace, fixed at birth; children's namespace; parent; state; handled and pending signals, bit s for
-// signal s; and one number for each level from the root's to its own.
+// What a process has and no rule of the tree reads: handled and pending signals, bit s for signal s.
+pub struct Traits {
+    pub handled: u32,
+    pub pending: u32,
+}
+
+// Own namespace, fixed at birth; children's namespace; parent; state; traits; and one number for each level from the
+// root's to its own.
 pub struct Process {
     pub own: NsSlot,
     pub children: NsSlot,
     pub parent: ProcSlot,
     pub state: State,
-    pub handled: u32,
-    pub pending: u32,
+    pub traits: Traits,
     pub pids: [Pid; LEVELS],
 }
 
@@ -155,19 +161,60 @@ pub struct Outcome {
     pub table: Table,
 }
 
+// ---- traits
+
+// Those of an empty slot.
+pub fn no_traits() -> Traits
+    ensures { λ r. ⌜ r ≡ no-traits ⌝ }
+{
+    Traits {
+        handled: 0,
+        pending: 0,
+    }
+}
+
+impl Traits {
+    // A child's, by its parent's.
+    pub fn born(self) -> Traits
+        ensures { λ r. ⌜ r ≡ born-traits self ⌝ }
+    {
+        let child = self.with_signals(0, 0);
+        child
+    }
+
+    // What an end leaves of them.
+    pub fn ended(self) -> Traits
+        ensures { λ r. ⌜ r ≡ ended-traits self ⌝ }
+    {
+        let left = self.with_signals(0, 0);
+        left
+    }
+
+    // With these signals handled and pending.
+    pub fn with_signals(self, handled: u32, pending: u32) -> Traits
+        ensures { λ r. ⌜ r ≡ with-signals self handled pending ⌝ }
+    {
+        Traits {
+            handled: handled,
+            pending: pending,
+            ..self
+        }
+    }
+}
+
 // ---- the fresh table
 
 // An empty process slot: all zero, running.
 pub fn empty_process() -> Process
     ensures { λ r. ⌜ r ≡ empty-process ⌝ }
 {
+    let traits = no_traits();
     Process {
         own: NsSlot(0),
         children: NsSlot(0),
         parent: ProcSlot(0),
         state: State::Running,
-        handled: 0,
-        pending: 0,
+        traits: traits,
         pids: [Pid(0); LEVELS],
     }
 }

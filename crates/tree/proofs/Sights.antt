@@ -21,7 +21,7 @@ pid-level p k l m e q = e ∙ ap (pid-at p) q
 
 module _ (v : View) (up : List NsSlot) (levels : List ℕ) (n i : ℕ) (p : Process) (at : ReadAt v i p) (u : slot-in up ≡ v .up) (l : level-in levels ≡ v .level) where
   pub seen-read : seen-from (slot-in up) (level-in levels) n p ≡ seen v n i
-  unfolding seen below
+  unfolding seen taken below
   seen-read =
       ap₂ (λ (f g : ℕ → ℕ). seen-from f g n p) u l
       ∙ ap₂ (λ (b : Bool) (a : ℕ). b and climb (v .up) (v .level a) a n) (at .taken) (at .own)
@@ -45,7 +45,7 @@ module _ (v : View) (up : List NsSlot) (levels : List ℕ) (n i : ℕ) (p : Proc
 pub itself : (t : Table) (i : ℕ) → ReadAt (view t) i (process t i)
 unfolding taken
 itself t i =
-    record { own = refl; children = refl; parent = refl; state = refl; ended = refl; handled = refl; pending = refl; pid = λ l. refl; taken = refl }
+    record { own = refl; children = refl; parent = refl; state = refl; ended = refl; traits = refl; pid = λ l. refl; taken = refl }
 
 module _ (t : Table) (up : List NsSlot) (levels : List ℕ) (n i : ℕ) (r : Bool) where
   -- r is the result of `seen`

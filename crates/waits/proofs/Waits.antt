@@ -12,23 +12,27 @@ use mir.Syntax.{w32}
 use mir.Val.{Val, SFits, toZ, ofZ}
 use mir.ValLaws.{toZ-ofZ}
 use Rattle.callers.proofs.Fits.{facts-of}
-use Rattle.table.proofs.Chains.{by-bool, if-yes, if-no, and-true, and-goes, or-goes, told-yes, told-not, not-no, not-yes}
+use Rattle.outcomes.proofs.Verdicts.{judged-grants, judged-refuses, one-more}
+use Rattle.outcomes.specs.Verdicts.{verdict}
+use Rattle.outcomes.specs.declared.Verdict.the-variants.{Granted, Refused}
+use Rattle.outcomes.specs.declared.Verdict.{Verdict}
+use Rattle.table.proofs.Chains.{by-bool, if-yes, if-no, and-true, and-goes, or-goes, told-yes}
 use Rattle.table.proofs.FoldLoops.{Turned, better, fold-starts, fold-goes-on, fold-done, least-by-turns}
 use Rattle.table.proofs.Table as T
 use Rattle.rules.proofs.Laws.Facts.{Facts}
 use Rattle.rules.proofs.Laws.ReadAt.{read-at}
 use Rattle.rules.proofs.Laws.Steps.{runs-lives}
 use Rattle.rules.specs.Answers.{refused, granted, answers}
-use Rattle.rules.specs.Calls.{own-level, status, exit, first-ended, reap, wait}
+use Rattle.rules.specs.Calls.{own-level, status, exit-refusals, exit-gives, exit, first-ended, reap, wait-refusals, wait-gives, wait}
 use Rattle.rules.specs.Ends.{end}
 use Rattle.rules.specs.Freeing.{freed}
 use Rattle.table.specs.Fresh.{empty-process}
 use Rattle.table.specs.Limits.{process-slots}
-use Rattle.table.specs.Slots.{process, pid-at, is-ended, to-pid, put}
+use Rattle.table.specs.Slots.{process, pid-at, is-ended, put}
 use Rattle.rules.specs.Read.{view, pid-seen, taken, living, child-of}
 use Rattle.rules.specs.Sound.{sound}
 use Rattle.rules.specs.Step.{runs}
-use Rattle.table.specs.Tests.{_and_, _or_, any, least}
+use Rattle.table.specs.Tests.{_and_, _or_, if_then_else_, any, least}
 use Rattle.table.specs.declared.Answer.the-variants.{Reaped}
 use Rattle.table.specs.declared.End.{End}
 use Rattle.table.specs.declared.End.the-variants.{Exited}
@@ -37,23 +41,29 @@ use Rattle.table.specs.declared.Pid.{Pid}
 use Rattle.table.specs.declared.ProcSlot.{ProcSlot}
 use Rattle.table.specs.declared.Process.{Process}
 use Rattle.table.specs.declared.Refusal.the-variants.{Ebusy, Echild}
+use Rattle.table.specs.declared.Refusal.{Refusal}
 use Rattle.table.specs.declared.State.{State}
 use Rattle.table.specs.declared.State.the-variants.{Running, Stopped, Ended}
 use Rattle.table.specs.declared.Table.{Table}
+use Rattle.table.specs.Records.{to-pid}
 
 -- ---- exit, whose argument is z
 
-module _ (t : Table) (c : ℕ) (z : ℤ) (fits : SFits w32 z) (r : Outcome) where
-  pub exit-busy : c ≡ 0 → r ≡ refused t Ebusy → r ≡ exit t c z
+pub may-exit-is : (c : ℕ) (r : Verdict) → r ≡ (if eqb c 0 then Refused Ebusy else Granted) → r ≡ verdict (exit-refusals c)
+may-exit-is c r a = a
+
+-- v is the verdict of `may_exit`
+module _ (t : Table) (c : ℕ) (z : ℤ) (fits : SFits w32 z) (v : Verdict) (r : Outcome) (m : v ≡ verdict (exit-refusals c)) where
+  pub exit-refused : (e : Refusal) → v ≡ Refused e → r ≡ refused t e → r ≡ exit t c z
   unfolding exit
-  exit-busy h a = if-yes _ _ _ _ (eq-eqb c 0 h) a
+  exit-refused e h a = judged-refuses t (exit-refusals c) (exit-gives t c z) v m r e h a
 
   -- k is the status that is kept, u the table after the end, and w without what nobody holds
-  pub exit-ends : (k : ℕ) (u w : Table) (vs : List Val) → Is T.the-row t vs → (c ≡ 0 → ⊥) → k ≡ status (toZ w32 (ofZ w32 z)) → (Facts (view t) → So (living (view t) c) → u ≡ end t c (Exited k)) → w ≡ freed u → r ≡ answers w 0
+  pub exit-ends : (k : ℕ) (u w : Table) (vs : List Val) → Is T.the-row t vs → v ≡ Granted → k ≡ status (toZ w32 (ofZ w32 z)) → (Facts (view t) → So (living (view t) c) → u ≡ end t c (Exited k)) → w ≡ freed u → r ≡ answers w 0
       → So (sound t) → So (runs (view t) c) → r ≡ exit t c z
   unfolding exit
   exit-ends k u w vs is o q d f a s h =
-      if-no _ _ _ _ (ne-eqb c 0 o)
+      judged-grants t (exit-refusals c) (exit-gives t c z) v m r o
       (a
       ∙ ap (λ x. answers x 0)
       (f
@@ -124,13 +134,18 @@ module _ (t : Table) (c l : ℕ) where
 
 -- ---- wait itself
 
-module _ (t : Table) (c : ℕ) (r : Outcome) (b : Bool) (e : b ≡ any process-slots (child-of (view t) c)) where
-  pub wait-childless : not b ≡ true → r ≡ refused t Echild → r ≡ wait t c
+-- b is what `has_child` gives
+pub may-wait-is : (t : Table) (c : ℕ) (b : Bool) (r : Verdict) → b ≡ any process-slots (child-of (view t) c) → r ≡ (if not b then Refused Echild else Granted) → r ≡ verdict (wait-refusals (view t) c)
+may-wait-is t c b r e a = one-more Echild _ _ Granted _ r a (ap not e) refl
+
+-- v is the verdict of `may_wait`
+module _ (t : Table) (c : ℕ) (v : Verdict) (r : Outcome) (u : v ≡ verdict (wait-refusals (view t) c)) where
+  pub wait-refused : (x : Refusal) → v ≡ Refused x → r ≡ refused t x → r ≡ wait t c
   unfolding wait
-  wait-childless h a = if-yes _ _ _ _ (not-no _ (told-not b _ e h)) a
+  wait-refused x h a = judged-refuses t (wait-refusals (view t) c) (wait-gives t c) v u r x h a
 
   -- the slot i is what `first_ended` gives at the caller's own level l, and p the process read there
-  module _ (i l : ℕ) (p : Process) (h : not b ≡ false) (k : l ≡ own-level (view t) c) (q : i ≡ least (λ j. child-of (view t) c j and view t .ended j) (λ j. view t .pid j l) process-slots process-slots) (d : p ≡ getD (t .processes) i empty-process) where
+  module _ (i l : ℕ) (p : Process) (h : v ≡ Granted) (k : l ≡ own-level (view t) c) (q : i ≡ least (λ j. child-of (view t) c j and view t .ended j) (λ j. view t .pid j l) process-slots process-slots) (d : p ≡ getD (t .processes) i empty-process) where
     first : i ≡ first-ended (view t) c
     unfolding first-ended pid-seen
     first =
@@ -140,7 +155,7 @@ module _ (t : Table) (c : ℕ) (r : Outcome) (b : Bool) (e : b ≡ any process-s
     found : (s : State) → p .state ≡ s → wait t c ≡ reap t c i s
     unfolding wait
     found s m =
-        sym (if-no _ _ _ _ (not-yes _ (told-yes b _ e h)) refl)
+        sym (judged-grants t (wait-refusals (view t) c) (wait-gives t c) v u _ h refl)
         ∙ ap (λ j. reap t c j (view t .state j)) (sym first)
         ∙ ap (reap t c i) (sym (read-at t i p d .state) ∙ m)
 

@@ -4,8 +4,10 @@ use callers::NOBODY;
 use callers::own_level;
 use ending::end_process;
 use ending::free_unheld;
+use outcomes::Verdict;
 use outcomes::answers;
 use outcomes::granted;
+use outcomes::refuse_if;
 use outcomes::refused;
 use table::Answer;
 use table::End;
@@ -21,8 +23,9 @@ use table::empty_process;
 ghost use mathlib.Core.Bool.{So, not};
 ghost use mathlib.Core.Path.{_≡_};
 ghost use lib.Dec.{eqb, ltb};
+ghost use Rattle.outcomes.specs.Verdicts.{verdict};
 ghost use Rattle.rules.specs.Answers.{granted as granted-as};
-ghost use Rattle.rules.specs.Calls.{exit as exit-of, wait as wait-of};
+ghost use Rattle.rules.specs.Calls.{exit-refusals, exit as exit-of, wait-refusals, wait as wait-of};
 ghost use Rattle.rules.specs.Freeing.{freed};
 ghost use Rattle.table.specs.Fresh.{empty-process};
 ghost use Rattle.table.specs.Limits.{process-slots};
@@ -33,11 +36,18 @@ ghost use Rattle.rules.specs.Step.{runs};
 ghost use Rattle.table.specs.Tests.{_and_, _or_, any, least};
 
 // The root init does not end.
+fn may_exit(caller: ProcSlot) -> Verdict
+    ensures { λ r. ⌜ r ≡ verdict (exit-refusals (caller .0)) ⌝ }
+{
+    refuse_if(caller.0 == 0, Refusal::Ebusy, Verdict::Granted)
+}
+
 pub fn exit(t: Table, caller: ProcSlot, s: i32) -> Outcome
     ensures { λ r. ⌜ (So (sound t) → So (runs (view t) (caller .0)) → r ≡ exit-of t (caller .0) s) ⌝ }
 {
-    if caller.0 == 0 {
-        return refused(t, Refusal::Ebusy);
+    let verdict = may_exit(caller);
+    if let Verdict::Refused(why) = verdict {
+        return refused(t, why);
     }
     let u = end_process(t, caller, End::Exited(exit_status(s)));
     answers(free_unheld(u), 0)
@@ -112,11 +122,19 @@ fn reap(t: Table, slot: ProcSlot, pid: Pid, how: End) -> Outcome
     granted(free_unheld(u), Answer::Reaped(pid, how))
 }
 
+// Whoever has no child waits for none.
+fn may_wait(t: Table, caller: ProcSlot) -> Verdict
+    ensures { λ r. ⌜ r ≡ verdict (wait-refusals (view t) (caller .0)) ⌝ }
+{
+    refuse_if(!has_child(t, caller), Refusal::Echild, Verdict::Granted)
+}
+
 pub fn wait(t: Table, caller: ProcSlot) -> Outcome
     ensures { λ r. ⌜ r ≡ wait-of t (caller .0) ⌝ }
 {
-    if !has_child(t, caller) {
-        return refused(t, Refusal::Echild);
+    let verdict = may_wait(t, caller);
+    if let Verdict::Refused(why) = verdict {
+        return refused(t, why);
     }
     let level = own_level(t, caller);
     let slot = first_ended(t, caller, level);

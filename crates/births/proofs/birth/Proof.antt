@@ -48,6 +48,12 @@ loop-less c = search needs
 loop-again : tie.Need-loop-again Inv-loop μ-loop
 loop-again c = search walks
 
+process-requires : tie.Need-process-requires Inv-loop μ-loop
+process-requires c κs = search needs
+
+born-requires : tie.Need-born-requires Inv-loop μ-loop
+born-requires c κs = search needs
+
 newborn-requires : tie.Need-newborn-requires Inv-loop μ-loop
 newborn-requires c κs = search needs
 
@@ -56,9 +62,10 @@ with-process-requires c κs = search needs
 
 returns : tie.Need-returns Inv-loop μ-loop
 returns c =
-    let entry = c .before .before .before .before .before .before .before .before in
-    walk-done _ _ _ _ _ _ _ _ _ _ (c .before .before .before .loop .inv) (search needs)
-    (search (length-mapped, entry .good .0)) (c .before .newborn .ensures) (c .with-process .ensures)
+    let after = c .before .before .before .before .before .before in
+    let entry = after .before .before .before .before .before in
+    walk-done _ _ _ _ _ _ _ _ _ _ _ _ (after .loop .inv) (search needs) (search (length-mapped, entry .good .0))
+    (c .before .before .before .before .process .ensures) (c .before .before .born .ensures) (c .before .newborn .ensures) (c .with-process .ensures)
 
 pub birth-spec : {M : Type 1} → statement M
 birth-spec =
@@ -78,6 +85,8 @@ birth-spec =
     parent-of-requires
     loop-less
     loop-again
+    process-requires
+    born-requires
     newborn-requires
     with-process-requires
     returns)

@@ -1,11 +1,8 @@
--- `clone_new` makes the tests of the definition. In a sound table no level is past the deepest, so `<=` tests for the deepest.
+-- `clone_new` goes by the verdict, and gives birth in the namespace that it made.
 use borrow.Author.Needs.{needs}
-use Rattle.clones.proofs.Clones.{clone-new-elsewhere, clone-new-deep, clone-new-full, clone-new-crowded, clone-new-born}
+use Rattle.clones.proofs.Clones.{clone-new-refused, clone-new-born}
 use Rattle.clones.proofs.clone_new.Statement.{statement}
 use Rattle.clones.proofs.clone_new.Tie as tie
-
-is-elsewhere-requires : tie.Need-is-elsewhere-requires
-is-elsewhere-requires c κs = search needs
 
 own-level-requires : tie.Need-own-level-requires
 own-level-requires c κs = search needs
@@ -13,38 +10,31 @@ own-level-requires c κs = search needs
 free-slot-requires : tie.Need-free-slot-requires
 free-slot-requires c κs = search needs
 
+free-namespace-slot-requires : tie.Need-free-namespace-slot-requires
+free-namespace-slot-requires c κs = search needs
+
+may-make-requires : tie.Need-may-make-requires
+may-make-requires c κs = search needs
+
+enum-known-verdict : tie.Need-enum-known-verdict
+enum-known-verdict c = search needs
+
 refused-requires : tie.Need-refused-requires
 refused-requires c κs = search needs
 
 returns : tie.Need-returns
-returns c = λ s h. search clone-new-elsewhere
+returns c = λ s h. search clone-new-refused
 
-refused-requires-2 : tie.Need-refused-requires-2
-refused-requires-2 c κs = search needs
-
-returns-2 : tie.Need-returns-2
-returns-2 c = λ s h. search clone-new-deep
-
-refused-requires-3 : tie.Need-refused-requires-3
-refused-requires-3 c κs = search needs
-
-returns-3 : tie.Need-returns-3
-returns-3 c = λ s h. search clone-new-full
-
-free-namespace-slot-requires : tie.Need-free-namespace-slot-requires
-free-namespace-slot-requires c κs = search needs
-
-refused-requires-4 : tie.Need-refused-requires-4
-refused-requires-4 c κs = search needs
-
-returns-4 : tie.Need-returns-4
-returns-4 c = λ s h. search clone-new-crowded
+enum-told : tie.Need-enum-told
+enum-told c = search needs
 
 process-requires : tie.Need-process-requires
 process-requires c κs = search needs
 
 add-new-namespace : tie.Need-add-new-namespace
-add-new-namespace c = search needs
+add-new-namespace c =
+    let low = c .before .before .before .before .may-make .ensures .1 (search needs) in
+    search (needs, low)
 
 new-namespace-requires : tie.Need-new-namespace-requires
 new-namespace-requires c κs = search needs
@@ -55,34 +45,27 @@ birth-requires c κs = search needs
 born-requires : tie.Need-born-requires
 born-requires c κs = search needs
 
-returns-5 : tie.Need-returns-5
-returns-5 c =
+returns-2 : tie.Need-returns-2
+returns-2 c =
     λ s h.
-    let q = c .before .before .before .before .before in
-    let n = q .before .before in
-    let i = n .before .before .before .before .before in
-    let a = i .before .before .before .args in
-    clone-new-born (a .t) (a .caller .0) _ (i .before .before .is-elsewhere .ensures) _ _ (n .before .before .before .before .if1 .left) (i .before .own-level .ensures) _ (n .before .before .before .if2 .left) (i .free-slot .ensures) _ (n .before .if3 .left) (n .free-namespace-slot .ensures) _ _ _ (q .if4 .left) (c .before .before .before .before .process .ensures) (c .before .before .new-namespace .ensures) (c .before .birth .ensures) (c .born .ensures)
+    let m = c .before .before .before .before .before .before .before in
+    search (clone-new-born, m .may-make .ensures, m .before .before .before .before .before .own-level .ensures)
 
 pub clone-new-spec : {M : Type 1} → statement M
 clone-new-spec =
     tie.close
     (tie.spec
-    is-elsewhere-requires
     own-level-requires
     free-slot-requires
+    free-namespace-slot-requires
+    may-make-requires
+    enum-known-verdict
     refused-requires
     returns
-    refused-requires-2
-    returns-2
-    refused-requires-3
-    returns-3
-    free-namespace-slot-requires
-    refused-requires-4
-    returns-4
+    enum-told
     process-requires
     add-new-namespace
     new-namespace-requires
     birth-requires
     born-requires
-    returns-5)
+    returns-2)

@@ -73,6 +73,11 @@ table-is r v is = LL.owed O.the-type O′.the-laws r _ is .1 .0
 reply-is : (r : Outcome) (v : Val) → Is O.the-row r (v ∷ []) → Is R.the-row (r .reply) (mach-r (r .reply) ∷ [])
 reply-is r v is = LL.owed O.the-type O′.the-laws r _ is .0
 
+-- Where an outcome's table lies: past its reply. (The walk is told it, and the types of both: inferred, they cost most of its
+-- steps.)
+abbrev past-reply : ℕ
+past-reply = 8
+
 -- the contract that the proof cites
 abbrev Step : {M : Type 1} (𝓤 : URA M) (H : Heap 𝓤) (A : Atoms 𝓤) (mem : Memory → SProp 𝓤) (run : Routine → Fun 𝓤) → Contract 𝓤
 Step 𝓤 H A mem run = tripleOf 𝓤 H A step.signature (step.spec 𝓤 H A mem run)
@@ -125,8 +130,8 @@ module _ {M : Type 1} (𝓤 : URA M) (H : Heap 𝓤) (A : Atoms 𝓤) (W : Given
         -- [the table's cell; the open borrow; obs; auth; true; caller's and call's; _5; …; room for _4; …; _3; …; _2; …; _1; …; room for _0; …]
         land ! (from ! (stop !)) (init ! 8 refl (LL.lawful O.the-type O′.the-laws 𝓤 H A W .typed r _ is .0)) $
         rewrite ! 8 (λ (u : Val). ‵ (fat fullShare O′.mir l₄ 0 u)) (ap only (LL.tells O.the-type O′.the-laws r (v ∷ []) is)) refl $
-        assigns ! (of-opd ! (load ! (from ! (fld ! refl (stop !))) (look-in ! 8 (sub ! 1 refl (whole !))))) (from ! (hop ! (look ! 14 refl) (stop !))) (store-raw ! 0 refl (LL.lawful T.the-type T′.the-laws 𝓤 H A W .typed (r .table) _ (table-is r v is) .0)) $
-        assigns ! (of-opd ! (load ! (from ! (fld ! refl (stop !))) (look-in ! 8 (sub ! 0 refl (whole !))))) (from ! (stop !)) (init ! 16 refl (LL.lawful R.the-type R′.the-laws 𝓤 H A W .typed (r .reply) _ (reply-is r v is) .0)) $
+        assigns ! (of-opd ! (load ! (from ! (fld ! {τ = T′.mir} {d = past-reply} refl (stop !))) (look-in ! 8 {τ = T′.mir} (sub ! 1 {τ = T′.mir} {d = past-reply} refl (whole !))))) (from ! (hop ! (look ! 14 refl) (stop !))) (store-raw ! 0 refl (LL.lawful T.the-type T′.the-laws 𝓤 H A W .typed (r .table) _ (table-is r v is) .0)) $
+        assigns ! (of-opd ! (load ! (from ! (fld ! {τ = R′.mir} {d = 0} refl (stop !))) (look-in ! 8 {τ = R′.mir} (sub ! 0 {τ = R′.mir} {d = 0} refl (whole !))))) (from ! (stop !)) (init ! 16 refl (LL.lawful R.the-type R′.the-laws 𝓤 H A W .typed (r .reply) _ (reply-is r v is) .0)) $
         owned ! T.the-row (Is T.the-row) (LL.makes T.the-type T′.the-plain 𝓤 H A) (r .table) _ (table-is r v is) $ move ! (1 ∷ 0 ∷ []) $ closes ! tt T.the-row (r .table) (mach (r .table) ∷ []) b o $
         -- [obs; the borrow; the token; true; caller's and call's; _5; …; _4; …; _3; …; _2; …; _1; …; _0; …]
         returns ! (look ! 15 refl) $ forget ! 5 refl $ forget ! 7 refl $ forget ! 9 refl $ forget ! 11 refl $ forget ! 13 refl $ forget ! 15 refl $

@@ -1,17 +1,23 @@
--- `handle` makes the test of the definition, and puts the caller back with the sets changed.
+-- `handle` goes by the verdict, and puts the caller back with the sets changed.
 use borrow.Author.Needs.{needs}
-use Rattle.handlers.proofs.Signals.{handle-refuses, handle-asks, handle-asks-of, handle-does}
+use Rattle.handlers.proofs.Signals.{handle-refused, handle-asks, handle-asks-of, handle-does}
 use Rattle.handlers.proofs.handle.Statement.{statement}
 use Rattle.handlers.proofs.handle.Tie as tie
 
-cannot-handle-requires : tie.Need-cannot-handle-requires
-cannot-handle-requires c κs = search needs
+may-handle-requires : tie.Need-may-handle-requires
+may-handle-requires c κs = search needs
+
+enum-known-verdict : tie.Need-enum-known-verdict
+enum-known-verdict c = search needs
 
 refused-requires : tie.Need-refused-requires
 refused-requires c κs = search needs
 
 returns : tie.Need-returns
-returns c = search handle-refuses
+returns c = search handle-refused
+
+enum-told : tie.Need-enum-told
+enum-told c = search needs
 
 process-requires : tie.Need-process-requires
 process-requires c κs = search needs
@@ -35,9 +41,11 @@ pub handle-spec : {M : Type 1} → statement M
 handle-spec =
     tie.close
     (tie.spec
-    cannot-handle-requires
+    may-handle-requires
+    enum-known-verdict
     refused-requires
     returns
+    enum-told
     process-requires
     signal-of-requires
     handling-requires

@@ -19,6 +19,9 @@ returns c = search poll-finds-none
 without-signal-requires : tie.Need-without-signal-requires
 without-signal-requires c κs = search needs
 
+with-signals-requires : tie.Need-with-signals-requires
+with-signals-requires c κs = search needs
+
 with-process-requires : tie.Need-with-process-requires
 with-process-requires c κs = search needs
 
@@ -40,6 +43,7 @@ poll-spec =
     answers-requires
     returns
     without-signal-requires
+    with-signals-requires
     with-process-requires
     cast-answers
     answers-requires-2

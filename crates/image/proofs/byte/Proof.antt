@@ -1,14 +1,11 @@
--- `image::byte` meets its contract. Assumes nothing.
+-- The low 8 bits of a word.
 use borrow.Author.Needs.{needs}
 use Rattle.image.proofs.byte.Statement.{statement}
 use Rattle.image.proofs.byte.Tie as tie
 use Rattle.image.specs.Image.{byte-at}
 
-mul-result : tie.Need-mul-result
-mul-result c = search needs
-
-shared-slice-read-result : tie.Need-shared-slice-read-result
-shared-slice-read-result c = search needs
+word-requires : tie.Need-word-requires
+word-requires c κs = search needs
 
 cast-result : tie.Need-cast-result
 cast-result c = search needs
@@ -18,4 +15,4 @@ unfolding byte-at
 returns c = search needs
 
 pub byte-spec : {M : Type 1} → statement M
-byte-spec = tie.close (tie.spec mul-result shared-slice-read-result cast-result returns)
+byte-spec = tie.close (tie.spec word-requires cast-result returns)

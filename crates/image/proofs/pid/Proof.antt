@@ -4,18 +4,15 @@ use Rattle.image.proofs.pid.Statement.{statement}
 use Rattle.image.proofs.pid.Tie as tie
 use Rattle.image.specs.Image.{pid-at-word}
 
-mul-t3 : tie.Need-mul-t3
-mul-t3 c = search needs
+word-requires : tie.Need-word-requires
+word-requires c κs = search needs
 
-shared-slice-read-t5 : tie.Need-shared-slice-read-t5
-shared-slice-read-t5 c = search needs
-
-cast-t7 : tie.Need-cast-t7
-cast-t7 c = search needs
+cast-low : tie.Need-cast-low
+cast-low c = search needs
 
 returns : tie.Need-returns
 unfolding pid-at-word
-returns c = search needs
+returns c = cc
 
 pub pid-spec : {M : Type 1} → statement M
-pid-spec = tie.close (tie.spec mul-t3 shared-slice-read-t5 cast-t7 returns)
+pid-spec = tie.close (tie.spec word-requires cast-low returns)

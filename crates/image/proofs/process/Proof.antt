@@ -34,23 +34,17 @@ byte-requires-5 c κs = search needs
 state-requires : tie.Need-state-requires
 state-requires c κs = search needs
 
-add-t8 : tie.Need-add-t8
-add-t8 c = search needs
+add-word : tie.Need-add-word
+add-word c = search needs
 
-mul-t10 : tie.Need-mul-t10
-mul-t10 c = search needs
+word-requires : tie.Need-word-requires
+word-requires c κs = search needs
 
-shared-slice-read-t12 : tie.Need-shared-slice-read-t12
-shared-slice-read-t12 c = search needs
+add-word-2 : tie.Need-add-word-2
+add-word-2 c = search needs
 
-add-t13 : tie.Need-add-t13
-add-t13 c = search needs
-
-mul-t14 : tie.Need-mul-t14
-mul-t14 c = search needs
-
-shared-slice-read-t16 : tie.Need-shared-slice-read-t16
-shared-slice-read-t16 c = search needs
+word-requires-2 : tie.Need-word-requires-2
+word-requires-2 c κs = search needs
 
 add-pids : tie.Need-add-pids
 add-pids c = search needs
@@ -76,12 +70,10 @@ process-spec =
     add-byte-4
     byte-requires-5
     state-requires
-    add-t8
-    mul-t10
-    shared-slice-read-t12
-    add-t13
-    mul-t14
-    shared-slice-read-t16
+    add-word
+    word-requires
+    add-word-2
+    word-requires-2
     add-pids
     pids-requires
     returns)

@@ -1,42 +1,46 @@
--- `kill_others` delivers to the list of the others.
+-- `kill_others` goes by the verdict on those that it found.
 use borrow.Author.Needs.{needs}
-use Rattle.kills.proofs.Kills.{others-nobody, others-sends}
+use Rattle.kills.proofs.Kills.{asks-of, others-refused, others-come}
 use Rattle.kills.proofs.kill_others.Statement.{statement}
 use Rattle.kills.proofs.kill_others.Tie as tie
 
 others-requires : tie.Need-others-requires
 others-requires c κs = search needs
 
+may-kill-requires : tie.Need-may-kill-requires
+may-kill-requires c κs = search needs
+
+enum-known-verdict : tie.Need-enum-known-verdict
+enum-known-verdict c = search needs
+
 refused-requires : tie.Need-refused-requires
 refused-requires c κs = search needs
 
 returns : tie.Need-returns
-returns c = λ h. search others-nobody
+returns c = λ o h. search others-refused
 
-process-requires : tie.Need-process-requires
-process-requires c κs = search needs
+enum-told : tie.Need-enum-told
+enum-told c = search needs
 
-deliver-all-requires : tie.Need-deliver-all-requires
-deliver-all-requires c κs = (search needs, c .before .before .before .before .others .ensures .fits)
+signal-of-requires : tie.Need-signal-of-requires
+signal-of-requires c κs = c .before .before .may-kill .ensures .1 (search needs)
 
-free-unheld-requires : tie.Need-free-unheld-requires
-free-unheld-requires c κs = search needs
-
-answers-requires : tie.Need-answers-requires
-answers-requires c κs = search needs
+send-all-requires : tie.Need-send-all-requires
+send-all-requires c κs = (asks-of _ _ (c .signal-of .ensures) (c .before .before .before .may-kill .ensures .1 (search needs)), c .before .before .before .before .before .others .ensures .fits)
 
 returns-2 : tie.Need-returns-2
-returns-2 c = λ h. search others-sends
+returns-2 c = λ o. search others-come
 
 pub kill-others-spec : {M : Type 1} → statement M
 kill-others-spec =
     tie.close
     (tie.spec
     others-requires
+    may-kill-requires
+    enum-known-verdict
     refused-requires
     returns
-    process-requires
-    deliver-all-requires
-    free-unheld-requires
-    answers-requires
+    enum-told
+    signal-of-requires
+    send-all-requires
     returns-2)

@@ -8,27 +8,30 @@ use mathlib.Core.Path.{_≡_, refl, sym, _∙_, ap, subst}
 use borrow.Author.Tests.{eqb-true, leb-true, eq-eqb, ne-eqb, le-leb, lt-leb}
 use lib.Dec.{leb, eqb}
 use lib.ListN.{replicate}
-use Rattle.rules.proofs.Keeps.Changed.{pick, getD-replicate, view-changed, shaped-changed, process-shaped, view-put, shaped-put, changed-at, length-changed}
+use Rattle.rules.proofs.Keeps.Changed.{pick, getD-replicate, view-changed, shaped-changed, process-shaped, view-put, shaped-put, changed-at, length-changed, traits-shape}
 use Rattle.rules.proofs.Keeps.MemberEnds.{reaches}
 use Rattle.rules.proofs.Laws.Below.{last-step, below-taken, above-is, above-same, below-level, root-above, level-deepest}
-use Rattle.rules.proofs.Laws.Facts.{Facts, Stands, Seen, seen-taken, seen-below, Holder, root, member, for-children, child, Held, Taken, Lives, Below, Other, lives-taken, is-seen}
+use Rattle.rules.proofs.Laws.Facts.{Facts, Stands, Seen, seen-taken, seen-below, Holder, root, member, holder, child, Held, Holds, Taken, Lives, Below, Other, lives-taken, is-seen}
 use Rattle.rules.proofs.Laws.Find.{Lowest, lowest-is, find-cases}
+use Rattle.rules.proofs.Laws.Holds.{with-hold, born-holds}
 use Rattle.rules.proofs.Laws.Reach.{pigeon, reach-bounded, reach-zero, reach-step, reach-cases}
-use Rattle.rules.proofs.Laws.Signals.{no-signals}
 use Rattle.rules.proofs.Laws.Tests.{tests, left, right, any-elim, isnt-not, yes-or-no, no-so, isnt-so, zero-or, same-or, life-cases, alive-unborn, dead-unborn, not-iff, both}
 use Rattle.rules.proofs.Laws.Tree.{below-refl}
 use Rattle.rules.specs.Births.{birth, joined, new-pids, newborn}
-use Rattle.table.specs.Limits.{greatest-pid, process-slots, restart-pid, namespace-slots, levels}
+use Rattle.table.specs.Limits.{greatest-pid, process-slots, restart-pid, namespace-slots, levels, no-slot}
 use Rattle.rules.specs.Pids.{free-pid, next-pid, free-slot}
-use Rattle.table.specs.Slots.{init-of, is-alive, is-dead, is-ended, is-unborn, namespace, no-pid, pid-at, process, put, to-pid}
+use Rattle.table.specs.Slots.{init-of, is-alive, is-dead, is-ended, is-unborn, namespace, no-pid, pid-at, process, put, hold-at}
 use Rattle.rules.specs.Read.{View, find, pid-seen, unborn, above-at, alive, below, dead, init, living, namespace-taken, seen, taken, view}
 use Rattle.rules.specs.Sound.{reaches-root, zero-namespace, zero-process, shaped}
+use Rattle.rules.proofs.Laws.Traits.{born-ok, born-shaped}
 use Rattle.table.specs.Tests.{if_then_else_, lowest, _and_}
 use Rattle.table.specs.declared.Life.the-variants.{Alive}
 use Rattle.table.specs.declared.Namespace.{Namespace}
 use Rattle.table.specs.declared.Process.{Process}
 use Rattle.table.specs.declared.State.the-variants.{Running}
 use Rattle.table.specs.declared.Table.{Table}
+use Rattle.table.specs.Records.{to-pid, with-last, with-life}
+use Rattle.table.specs.Traits.{born-traits, ended-traits}
 
 -- ---- the number that a new process gets is free
 
@@ -116,12 +119,11 @@ abbrev pub with-born : View → ℕ → ℕ → ℕ → View
 with-born v c n k =
     record {
       own = λ i. if eqb i k then n else v .own i;
-      children = λ i. if eqb i k then n else v .children i;
+      hold = λ i j. if eqb i k then with-hold (λ j. no-slot) 0 n j else v .hold i j;
       parent = λ i. if eqb i k then c else v .parent i;
       state = λ i. if eqb i k then Running else v .state i;
       ended = λ i. if eqb i k then false else v .ended i;
-      handled = λ i. if eqb i k then 0 else v .handled i;
-      pending = λ i. if eqb i k then 0 else v .pending i;
+      traits = λ i. if eqb i k then born-traits (v .traits c) else v .traits i;
       pid = λ i l. if eqb i k then (if leb l (v .level n) then next-pid v (above-at v n l) else 0) else v .pid i l;
       up = v .up;
       level = v .level;
@@ -199,7 +201,7 @@ module _ (v : View) (f : Facts v) (c n k : ℕ) (c-lives : Lives v c) (here : St
   is-taken i t = rw (old i t) t
 
   seen-w : (m i : ℕ) → Seen w m i → ((i ≡ k) × Below v n m) ⊎ ((eqb i k ≡ false) × Seen v m i)
-  unfolding seen below
+  unfolding seen taken below
   seen-w m i h =
       ⊎-elim (λ x. inl (x, rw (eq-eqb i k x) at (right _ _ h)))
       (λ (o, t). inr (o, both _ _ t (rw o at (right _ _ h)))) (taken-w i (left _ _ h))
@@ -264,8 +266,11 @@ module _ (v : View) (f : Facts v) (c n k : ℕ) (c-lives : Lives v c) (here : St
       (λ (b : leb l (v .level n) ≡ false). rw b (eq-eqb 0 0 refl)) (yes-or-no (leb l (v .level n)))
 
   -- who holds an unborn one held it before
-  holder-w : (m i : ℕ) → (Below v n m → ⊥) → Taken w i → w .children i ≡ m → (eqb i k ≡ false) × Taken v i × (v .children i ≡ m)
-  holder-w m i b t x = ⊎-elim (λ z. absurd (b (subst (Below v n) (rw (eq-eqb i k z) at x) (below-refl v n)))) (λ (o, z). (o, z, rw o at x)) (taken-w i t)
+  not-new : (m j : ℕ) → Stands v m → (Below v n m → ⊥) → with-hold (λ j. no-slot) 0 n j ≡ m → ⊥
+  not-new m j s b x = ⊎-elim (λ z. b (subst (Below v n) (rw (eq-eqb j 0 z) at x) (below-refl v n))) (λ z. omega (arith, f .in-namespace m s, rw z at x)) (same-or j 0)
+
+  holder-w : (m i : ℕ) → Stands v m → (Below v n m → ⊥) → Taken w i → Holds w i m → (eqb i k ≡ false) × Taken v i × Holds v i m
+  holder-w m i s b t (j, l, x) = ⊎-elim (λ z. absurd (not-new m j s b (rw (eq-eqb i k z) at x))) (λ (o, z). (o, z, (j, l, rw o at x))) (taken-w i t)
 
   old-c : eqb c k ≡ false
   old-c = old c (lives-taken v c c-lives)
@@ -316,8 +321,8 @@ module _ (v : View) (f : Facts v) (c n k : ℕ) (c-lives : Lives v c) (here : St
             let (b, y) = unborn-w m u in
             ⊎-elim (λ z. b (subst (Below v n) (rw (eq-eqb i k z) at x) (below-refl v n))) (λ (o, z). f .unborn-empty m s y i z (rw o at x)) (taken-w i t);
         unborn-leaf = λ m s u. f .unborn-leaf m s (unborn-w m u .1);
-        unborn-own = λ m s u i t x. let (b, y) = unborn-w m u in let (o, z, e) = holder-w m i b t x in rw o (f .unborn-own m s y i z e);
-        unborn-one = λ m s u i j a b c d. let (e, y) = unborn-w m u in let (o, z, g) = holder-w m i e a b in let (p, x, h) = holder-w m j e c d in f .unborn-one m s y i j z g x h;
+        unborn-own = λ m s u i t x. let (b, y) = unborn-w m u in let (o, z, e) = holder-w m i s b t x in rw o (f .unborn-own m s y i z e);
+        unborn-one = λ m s u i j a b c d. let (e, y) = unborn-w m u in let (o, z, g) = holder-w m i s e a b in let (p, x, h) = holder-w m j s e c d in f .unborn-one m s y i j z g x h;
         last-pids = last-w;
         pid-range = λ i t l b. ⊎-elim (λ x. rw (eq-eqb i k x) (pids-k l)) (λ (o, x). rw o (f .pid-range i x l b)) (taken-w i t);
         differ = λ m s i j a b x.
@@ -342,8 +347,9 @@ module _ (v : View) (f : Facts v) (c n k : ℕ) (c-lives : Lives v c) (here : St
         parents = λ i t o. ((parent-lives i t o, parent-above i t o), reached i t);
         first-parents = first-w;
         children = λ i t h. ⊎-elim (λ x. rw (eq-eqb i k x) (here, below-refl v n)) (λ (o, x). rw o (f .children i x (lives-w i o h))) (taken-w i t);
-        signal-sets = λ i t. ⊎-elim (λ x. rw (eq-eqb i k x) no-signals) (λ (o, x). rw o (f .signal-sets i x)) (taken-w i t);
-        ended-bare = λ i t. ⊎-elim (λ x. rw (eq-eqb i k x) (λ h. absurd (false≢true h))) (λ (o, x). rw o (f .ended-bare i x)) (taken-w i t);
+        traits = λ i t. ⊎-elim (λ x. rw (eq-eqb i k x) (born-ok _ (f .traits c (lives-taken v c c-lives)))) (λ (o, x). rw o (f .traits i x)) (taken-w i t);
+        ended-holds = λ i t. ⊎-elim (λ x. rw (eq-eqb i k x) (λ h. absurd (false≢true h))) (λ (o, x). rw o (f .ended-holds i x)) (taken-w i t);
+        ended-traits = λ i t. ⊎-elim (λ x. rw (eq-eqb i k x) (λ h. absurd (false≢true h))) (λ (o, x). rw o (f .ended-traits i x)) (taken-w i t);
         ends-kept = λ i t. ⊎-elim (λ x. rw (eq-eqb i k x)) (λ (o, x). rw o (f .ends-kept i x)) (taken-w i t);
       }
     where
@@ -353,7 +359,7 @@ module _ (v : View) (f : Facts v) (c n k : ℕ) (c-lives : Lives v c) (here : St
       root-life : w .life 0 ≡ v .life 0
       root-life = ⊎-elim (λ (b, u, e). absurd (alive-unborn (v .life 0) (f .root-alive) u)) (λ e. e) (life-w 0)
 
-  pub born-held : ((m : ℕ) → Stands v m → So (unborn v m) → (m ≡ n → ⊥) → (i : ℕ) × Taken v i × (v .children i ≡ m)) → ((m : ℕ) → Stands v m → (m ≡ n) ⊎ Holder v m) → Held w
+  pub born-held : ((m : ℕ) → Stands v m → So (unborn v m) → (m ≡ n → ⊥) → (i : ℕ) × Taken v i × Holds v i m) → ((m : ℕ) → Stands v m → (m ≡ n) ⊎ Holder v m) → Held w
   unfolding namespace-taken
   born-held x y =
       record {
@@ -364,7 +370,7 @@ module _ (v : View) (f : Facts v) (c n k : ℕ) (c-lives : Lives v c) (here : St
       same : (m : ℕ) → Holder v m → Holder w m
       same m (root z) = root z
       same m (member i t e) = member i (is-taken i t) (rw (old i t) e)
-      same m (for-children i t e) = for-children i (is-taken i t) (rw (old i t) e)
+      same m (holder i t h) = holder i (is-taken i t) (rw (old i t) h)
       same m (child a s o e) = child a s o e
 
 -- ---- a birth, as a table
@@ -395,7 +401,7 @@ module _ (t : Table) (g : So (shaped t)) (f : Facts (view t)) (c n : ℕ) (here 
 
   x-shaped : So (process-shaped x)
   unfolding newborn new-pids
-  x-shaped = both _ _ (both _ _ (eq-eqb _ _ (length-changed (λ l p. if leb l (v .level n) then to-pid (next-pid v (above-at v n l)) else p) no-pid levels (replicate levels no-pid))) refl) refl
+  x-shaped = both _ _ (eq-eqb _ _ (length-changed (λ l p. if leb l (v .level n) then to-pid (next-pid v (above-at v n l)) else p) no-pid levels (replicate levels no-pid))) (born-shaped _ (traits-shape t g c))
 
   mid-shaped : So (shaped mid)
   mid-shaped = shaped-put t g k x low x-shaped
@@ -408,22 +414,21 @@ module _ (t : Table) (g : So (shaped t)) (f : Facts (view t)) (c n : ℕ) (here 
   kept-of r false y s h = refl
 
   abbrev new : (m : ℕ) → Namespace → Namespace
-  new m s = record { parent = s .parent; level = s .level; last = to-pid (next-pid v m); life = if is-unborn (s .life) then Alive (record { 0 = k }) else s .life }
+  new m s = with-life (with-last s (next-pid v m)) (if is-unborn (s .life) then Alive (record { 0 = k }) else s .life)
 
   -- what is read of the table of a birth
   pub birth-view : view (birth t c n) ≡ with-born v c n k
   unfolding birth joined newborn
   birth-view =
       view-changed mid (λ i p. p) (joined v k n) mid-shaped (λ i l. refl) (λ m l. rw (out m l))
-      ∙ ap (λ (u : View). record { own = u .own; children = u .children; parent = u .parent; state = u .state; ended = u .ended; handled = u .handled; pending = u .pending; pid = u .pid; up = λ m. joined v k n m (namespace t m) .parent .0; level = λ m. joined v k n m (namespace t m) .level; last = λ m. joined v k n m (namespace t m) .last .0; life = λ m. joined v k n m (namespace t m) .life }) (view-put t g k x low)
+      ∙ ap (λ (u : View). record { own = u .own; hold = u .hold; parent = u .parent; state = u .state; ended = u .ended; traits = u .traits; pid = u .pid; up = λ m. joined v k n m (namespace t m) .parent .0; level = λ m. joined v k n m (namespace t m) .level; last = λ m. joined v k n m (namespace t m) .last .0; life = λ m. joined v k n m (namespace t m) .life }) (view-put t g k x low)
       ∙ (λ j. record {
         own = λ i. pick (λ p. p .own .0) (eqb i k) x (process t i) j;
-        children = λ i. pick (λ p. p .children .0) (eqb i k) x (process t i) j;
+        hold = λ i a. (pick (λ p. hold-at p a) (eqb i k) x (process t i) ∙ ap (λ z. if eqb i k then z else v .hold i a) (born-holds v c n a)) j;
         parent = λ i. pick (λ p. p .parent .0) (eqb i k) x (process t i) j;
         state = λ i. pick (λ p. p .state) (eqb i k) x (process t i) j;
         ended = λ i. pick (λ p. is-ended (p .state)) (eqb i k) x (process t i) j;
-        handled = λ i. pick (λ p. p .handled) (eqb i k) x (process t i) j;
-        pending = λ i. pick (λ p. p .pending) (eqb i k) x (process t i) j;
+        traits = λ i. pick (λ p. p .traits) (eqb i k) x (process t i) j;
         pid = λ i l. (pick (λ p. pid-at p l) (eqb i k) x (process t i) ∙ ap (λ z. if eqb i k then z else v .pid i l) (pids-are l)) j;
         up = λ m. kept-of (λ s. s .parent .0) (below v n m) (new m (namespace t m)) (namespace t m) refl j;
         level = λ m. kept-of (λ s. s .level) (below v n m) (new m (namespace t m)) (namespace t m) refl j;

@@ -1,23 +1,25 @@
 -- A changed table, slot by slot.
-use Prim.Native.Nat.{ℕ, zero, suc, _<_, _≤_, _^_}
+use Prim.Native.Nat.{ℕ, zero, suc, _<_, _≤_}
 use native.Mathlib.Decide.{ℕ-discrete, decLt}
 use native.Mathlib.Omega.{arith}
 use mathlib.Core.Bool.{Bool, true, false, So}
 use mathlib.Core.List.{List}
 use mathlib.Core.Path.{_≡_, refl, sym, _∙_, ap, ap₂, subst, fun-ext}
 use borrow.Author.Tests.{eq-eqb, ne-eqb, eqb-true}
-use lib.Dec.{eqb, ltb}
+use lib.Dec.{eqb}
 use lib.ListN.{getD, set, replicate, length, length-set, List·getD-eq-default}
 use lib.Seq.{getD-set-same, getD-set-other}
 use Rattle.rules.proofs.Laws.Tests.{left, right, both, all-elim, all-intro}
-use Rattle.table.specs.Limits.{levels, namespace-slots, process-slots, signals}
-use Rattle.table.specs.Slots.{is-ended, namespace, no-namespace, no-process, pid-at, process, changed, put, put-namespace}
+use Rattle.table.specs.Limits.{levels, namespace-slots, process-slots}
+use Rattle.table.specs.Slots.{is-ended, namespace, no-namespace, no-process, pid-at, process, changed, put, put-namespace, hold-at}
 use Rattle.rules.specs.Read.{View, view}
 use Rattle.rules.specs.Sound.{shaped}
+use Rattle.rules.proofs.Laws.Traits.{none-shaped}
 use Rattle.table.specs.Tests.{_and_, changed-to, if_then_else_}
 use Rattle.table.specs.declared.Namespace.{Namespace}
 use Rattle.table.specs.declared.Process.{Process}
 use Rattle.table.specs.declared.Table.{Table}
+use Rattle.table.specs.Traits.{traits-shaped}
 
 module _ {A : Type 0} (f : ℕ → A → A) (d : A) where
   pub length-changed : (n : ℕ) (l : List A) → length (changed-to f d n l) ≡ length l
@@ -60,12 +62,11 @@ abbrev pub view-of : (ℕ → Process) → (ℕ → Namespace) → View
 view-of ps ss =
     record {
       own = λ i. ps i .own .0;
-      children = λ i. ps i .children .0;
+      hold = λ i k. hold-at (ps i) k;
       parent = λ i. ps i .parent .0;
       state = λ i. ps i .state;
       ended = λ i. is-ended (ps i .state);
-      handled = λ i. ps i .handled;
-      pending = λ i. ps i .pending;
+      traits = λ i. ps i .traits;
       pid = λ i l. pid-at (ps i) l;
       up = λ n. ss n .parent .0;
       level = λ n. ss n .level;
@@ -82,7 +83,7 @@ unfolding shaped
 namespace-count t h = eqb-true _ _ (right _ _ (left _ _ h))
 
 abbrev pub process-shaped : Process → Bool
-process-shaped p = eqb (length (p .pids)) levels and ltb (p .handled) (2 ^ signals) and ltb (p .pending) (2 ^ signals)
+process-shaped p = eqb (length (p .pids)) levels and traits-shaped (p .traits)
 
 module _ (t : Table) (f : ℕ → Process → Process) (g : ℕ → Namespace → Namespace) (h : So (shaped t)) where
   -- what is read of a changed table
@@ -136,6 +137,14 @@ module _ (t : Table) (h : So (shaped t)) (k : ℕ) where
   pub shape-at : k < process-slots → So (process-shaped (process t k))
   unfolding shaped
   shape-at l = all-elim _ _ (right _ _ h) k l
+
+  -- of any slot, also past the last
+  pub traits-shape : So (traits-shaped (process t k .traits))
+  traits-shape = go (decLt k process-slots)
+    where
+      go : Dec (k < process-slots) → So (traits-shaped (process t k .traits))
+      go (yes l) = right _ _ (shape-at l)
+      go (no o) = subst (λ (p : Process). So (traits-shaped (p .traits))) (sym (List·getD-eq-default (t .processes) no-process (omega (arith, process-count t h)))) none-shaped
 
   -- what is read alike of the stored and of the old is unchanged
   pub pick-same : {B : Type 0} (r : Process → B) (x : Process) → r x ≡ r (process t k) → (i : ℕ) → r (if eqb i k then x else process t i) ≡ r (process t i)

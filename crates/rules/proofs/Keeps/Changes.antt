@@ -1,30 +1,29 @@
 -- Each call as a run of changes, each of which says when it may be made.
-use Prim.Native.Nat.{ℕ, _<_, _≤_, _^_}
+use Prim.Native.Nat.{ℕ, _<_, _≤_}
 use native.Mathlib.Omega.{arith}
-use mathlib.Core.Bool.{Bool, true, false, not, So}
+use mathlib.Core.Bool.{Bool, true, false, So}
 use mathlib.Core.List.{List, _∷_, []}
 use mathlib.Core.Logic.{_⊎_, inr}
 use mathlib.Core.Path.{_≡_, refl, sym, _∙_, ap, subst}
 use borrow.Author.Tests.{eqb-false, le-leb, lt-ltb}
 use lib.Dec.{eqb}
-use lib.ListN.{length}
-use Rattle.rules.proofs.Keeps.Deliver.{Safe, Good, action-good, pend-ok}
+use Rattle.rules.proofs.Keeps.Deliver.{Safe, Good, action-good}
 use Rattle.rules.proofs.Keeps.End.{end-sane}
 use Rattle.rules.proofs.Keeps.Freed.{freed-keeps}
 use Rattle.rules.proofs.Keeps.Lights.{MayHold}
 use Rattle.rules.proofs.Keeps.NewNamespace.{namespace-facts}
 use Rattle.rules.proofs.Keeps.Premises as K
-use Rattle.rules.proofs.Keeps.Puts.{with-all, signalled-sane, set-children-sane, reaped-sane, new-namespace-view, new-namespace-shape, sets}
+use Rattle.rules.proofs.Keeps.Puts.{with-all, set-children-sane, reaped-sane, new-namespace-view, new-namespace-shape, its-traits, altered-sane}
 use Rattle.rules.proofs.Laws.Below.{level-deepest}
-use Rattle.rules.proofs.Laws.Facts.{Facts, Holder, Taken, Stands, Lives, Below, Seen, Other, SignalsOk, lives-taken, not-ended, seen-taken, seen-below, facts, held-in, Sane, sane}
+use Rattle.rules.proofs.Laws.Facts.{Facts, Holder, Taken, Stands, Lives, Below, Seen, Other, lives-taken, not-ended, seen-taken, seen-below, facts, held-in, Sane, sane, Holds, holds-children}
 use Rattle.rules.proofs.Laws.Find.{named-seen}
-use Rattle.rules.proofs.Laws.Signals.{with-signal-lt, without-signal-le, poll-ok, on-ok, off-ok}
+use Rattle.rules.proofs.Laws.Judged.{None, gives, made-is, refusals}
 use Rattle.rules.proofs.Laws.Steps.{made-or-refused, runs-lives, remainder}
 use Rattle.rules.proofs.Laws.Tests.{isnt-so, no-so, choose, both, isnt-not, or-false-left, or-false-right}
 use Rattle.rules.specs.Answers.{answers, granted, refused}
 use Rattle.rules.specs.Births.{birth}
-use Rattle.rules.specs.Calls.{clone, clone-new, elsewhere, exit, first-ended, getpid, getppid, handle, handle-off, handle-on, kill, named, names-group, natural, new-namespace, own-level, poll, reap, set-children, setns, status, targets, unshare, wait, within}
-use Rattle.rules.specs.Claims.{KeepsSound}
+use Rattle.rules.specs.Calls.{first-ended, getpid, getppid, handle-off, handle-on, named, natural, new-namespace, own-level, poll, reap, set-children, status, targets, taken-up}
+use Rattle.rules.specs.Claims.{KeepsSound, place}
 use Rattle.rules.specs.Delivery.{act, action-on, deliver, deliver-all, resumed, with-pending}
 use Rattle.rules.specs.Ends.{end}
 use Rattle.rules.specs.Freeing.{freed}
@@ -32,12 +31,12 @@ use Rattle.table.specs.Fresh.{empty-process}
 use Rattle.table.specs.Limits.{deepest, namespace-slots, process-slots, signals}
 use Rattle.rules.specs.Pids.{free-namespace-slot, free-slot}
 use Rattle.table.specs.Slots.{is-ended, process, put}
-use Rattle.rules.specs.Read.{View, dead, unborn, view}
-use Rattle.rules.specs.Records.{with-children, with-signals}
-use Rattle.table.specs.SignalSets.{has, lowest-signal, without-signal}
+use Rattle.rules.specs.Read.{View, dead, unborn, view, children}
+use Rattle.table.specs.SignalSets.{has, lowest-signal}
 use Rattle.rules.specs.Sound.{SoundTable, kept-end}
 use Rattle.rules.specs.Step.{make, runs}
-use Rattle.table.specs.Tests.{_or_, any, if_then_else_}
+use Rattle.rules.proofs.Laws.Traits.{Fine, pend-fine, on-fine, off-fine, poll-fine}
+use Rattle.table.specs.Tests.{_or_, if_then_else_}
 use Rattle.table.specs.declared.Action.the-variants.{Finish, Nothing, Pend, Resume, Stop}
 use Rattle.table.specs.declared.Action.{Action}
 use Rattle.table.specs.declared.Call.the-variants.{Clone, CloneNew, Unshare, Setns, Kill, Exit, Wait, Getpid, Getppid, Handle, Poll}
@@ -45,14 +44,17 @@ use Rattle.table.specs.declared.Call.{Call}
 use Rattle.table.specs.declared.End.the-variants.{Signaled, Exited}
 use Rattle.table.specs.declared.End.{End}
 use Rattle.table.specs.declared.Outcome.{Outcome}
+use Rattle.table.specs.declared.Refusal.the-variants.{Einval, Esrch, Ebusy, Enospc, Enomem, Eagain}
 use Rattle.table.specs.declared.State.the-variants.{Running, Stopped, Ended}
 use Rattle.table.specs.declared.State.{State}
 use Rattle.table.specs.declared.Table.{Table}
+use Rattle.table.specs.Records.{with-children, with-traits}
+use Rattle.table.specs.declared.Traits.{Traits}
 
 -- the changes that add no process
 pub data Change (t : Table) : Table → Type 0 where
   ends : (p : ℕ) (e : End) → Lives (view t) p → Other p → So (kept-end (Ended e)) → Change t (end t p e)
-  signals-of : (c : ℕ) → Lives (view t) c → (x : State) → is-ended x ≡ false → So (kept-end x) → (h q : ℕ) → SignalsOk h q → h < 2 ^ signals → q < 2 ^ signals → Change t (put t c (with-all (process t c) x h q (view t .children c)))
+  alters : (c : ℕ) → Lives (view t) c → (x : State) → is-ended x ≡ false → So (kept-end x) → (y : Traits) → Fine y → Change t (put t c (with-all (process t c) x y (children (view t) c)))
   turns : (c m : ℕ) → Lives (view t) c → MayHold (view t) c m → Change t (put t c (with-children (process t c) m))
   reaps : (d : ℕ) → So (view t .ended d) → Change t (put t d empty-process)
   makes-namespace : (c : ℕ) → Lives (view t) c → (view t .level (view t .own c) ≡ deepest → ⊥) → (free-namespace-slot (view t) ≡ namespace-slots → ⊥) → Change t (new-namespace t c)
@@ -71,7 +73,7 @@ namespace-sane t s c l a b =
 -- each change keeps the facts, so a run of them does
 pub change-sane : (t u : Table) → Sane t → Change t u → Sane u
 change-sane t u s (ends p e l o ok) = end-sane t s p e l o ok
-change-sane t u s (signals-of c l x o k h q ok a b) = signalled-sane t s c l x o h q k ok a b
+change-sane t u s (alters c l x o k y fine) = altered-sane t s c l x o y k fine
 change-sane t u s (turns c m l k) = set-children-sane t s c m l k
 change-sane t u s (reaps d o) = reaped-sane t s d o
 change-sane t u s (makes-namespace c l a b) = namespace-sane t s c l a b
@@ -93,14 +95,14 @@ pub record MayBear (v : View) (c n : ℕ) : Type 0 where
   pub not-dead : So (dead v n) → ⊥
   pub up-own : So (unborn v n) → v .own c ≡ v .up n
   pub room : free-slot v ≡ process-slots → ⊥
-  pub holder : (m : ℕ) → Stands v m → So (unborn v m) → (m ≡ n → ⊥) → (i : ℕ) × Taken v i × (v .children i ≡ m)
+  pub holder : (m : ℕ) → Stands v m → So (unborn v m) → (m ≡ n → ⊥) → (i : ℕ) × Taken v i × Holds v i m
   pub held-by : (m : ℕ) → Stands v m → (m ≡ n) ⊎ Holder v m
 
 -- what a call makes of a table
 pub data Made (t : Table) : Table → Type 0 where
   nothing-done : Made t t
   freed-after : (u : Table) → Run t u → Made t (freed u)
-  signalled : (c : ℕ) → Lives (view t) c → (h q : ℕ) → SignalsOk h q → h < 2 ^ signals → q < 2 ^ signals → Made t (put t c (with-signals (process t c) h q))
+  altered : (c : ℕ) → Lives (view t) c → (x : Traits) → Fine x → Made t (put t c (with-traits (process t c) x))
   born : (c n : ℕ) → MayBear (view t) c n → Made t (birth t c n)
   born-in-new : (c n : ℕ) → Change t (new-namespace t c) → free-namespace-slot (view t) < namespace-slots → MayBear (view (new-namespace t c)) c n → Made t (birth (new-namespace t c) c n)
 
@@ -114,27 +116,26 @@ birth-keeps t s c n m =
 pub made-sound : (t u : Table) → SoundTable t → Made t u → SoundTable u
 made-sound t u h nothing-done = h
 made-sound t u h (freed-after x r) = let s = run-sane t x (sane t h) r in freed-keeps x (s .shape-of) (s .facts)
-made-sound t u h (signalled c l a b ok la lb) = K.signalled-sound t c h l a b la lb ok
+made-sound t u h (altered c l x fine) = K.altered-sound t c h l x fine
 made-sound t u h (born c n m) = birth-keeps t (sane t h) c n m
 made-sound t u h (born-in-new c n x l m) = birth-keeps (new-namespace t c) (change-sane t (new-namespace t c) (sane t h) x) c n m
 
 -- ---- deliveries are runs
 
-resumed-run : (t u : Table) → Run t u → Sane u → (i : ℕ) → Lives (view u) i → (b : Bool) → has (view u .handled i) 18 ≡ b → Run t (put u i (resumed (process u i)))
+resumed-run : (t u : Table) → Run t u → Sane u → (i : ℕ) → Lives (view u) i → (b : Bool) → has (view u .traits i .handled) 18 ≡ b → Run t (put u i (resumed (process u i)))
 unfolding resumed with-pending
-resumed-run t u r s i l true e = let (a, b, f) = sets u s i l in rw (e, resumed) (more r (signals-of i l Running refl refl _ _ (pend-ok _ _ 18 f e) a (with-signal-lt signals _ 18 b (omega arith))))
-resumed-run t u r s i l false e = let (a, b, f) = sets u s i l in rw (e, resumed) (more r (signals-of i l Running refl refl _ _ f a b))
+resumed-run t u r s i l true e = rw (e, resumed) (more r (alters i l Running refl refl _ (pend-fine _ (its-traits u s i l) 18 (omega arith) e)))
+resumed-run t u r s i l false e = rw (e, resumed) (more r (alters i l Running refl refl _ (its-traits u s i l)))
 
 -- what a signal does to a process is a run
 pub act-run : (t u : Table) → Run t u → Sane u → (i k : ℕ) → k < signals → (e : Action) → Good (view u) i k e → Run t (act u i k e)
 unfolding act with-pending
 act-run t u r s i k l Nothing g = r
-act-run t u r s i k l Resume g = resumed-run t u r s i g (has (view u .handled i) 18) refl
-act-run t u r s i k l Stop g = let (a, b, f) = sets u s i g in more r (signals-of i g Stopped refl refl _ _ f a b)
+act-run t u r s i k l Resume g = resumed-run t u r s i g (has (view u .traits i .handled) 18) refl
+act-run t u r s i k l Stop g = more r (alters i g Stopped refl refl _ (its-traits u s i g))
 act-run t u r s i k l Finish g = more r (ends i (Signaled k) (g .0) (g .1) (both _ _ (le-leb 1 k (g .2)) (lt-ltb k signals l)))
 act-run t u r s i k l Pend g =
-    let (a, b, f) = sets u s i (g .0) in
-    more r (signals-of i (g .0) (view u .state i) (isnt-so (not-ended (view u) i (g .0))) (s .facts .ends-kept i (lives-taken (view u) i (g .0))) _ _ (pend-ok _ _ k f (g .1)) a (with-signal-lt signals _ k b l))
+    more r (alters i (g .0) (view u .state i) (isnt-so (not-ended (view u) i (g .0))) (s .facts .ends-kept i (lives-taken (view u) i (g .0))) _ (pend-fine _ (its-traits u s i (g .0)) k l (g .1)))
 
 pub act-sane : (t : Table) → Sane t → (i k : ℕ) → k < signals → (e : Action) → Good (view t) i k e → Sane (act t i k e)
 act-sane t s i k l e g = run-sane t (act t i k e) s (act-run t t start s i k l e g)
@@ -173,6 +174,9 @@ module _ (t : Table) (c : ℕ) (h : SoundTable t) (r : So (runs (view t) c)) whe
   here : Taken v c
   here = lives-taken v c lives
 
+  fine : Fine (v .traits c)
+  fine = its-traits t (sane t h) c lives
+
   reaped : (s : State) → v .state (first-ended v c) ≡ s → Made t (reap t c (first-ended v c) s .table)
   unfolding reap answers granted
   reaped Running e = nothing-done
@@ -181,14 +185,14 @@ module _ (t : Table) (c : ℕ) (h : SoundTable t) (r : So (runs (view t) c)) whe
 
   handled : (s : ℕ) → 1 ≤ s → s < signals → (s ≡ 9 → ⊥) → (s ≡ 19 → ⊥) → (b : Bool) → Made t (put t c (if b then handle-on (process t c) s else handle-off (process t c) s))
   unfolding handle-on handle-off
-  handled s x y n m true = let (a, b, k) = sets t (sane t h) c lives in signalled c lives _ _ (on-ok _ _ _ x n m k) (with-signal-lt signals _ s a y) b
-  handled s x y n m false = let (a, b, k) = sets t (sane t h) c lives in signalled c lives (without-signal (v .handled c) s) (without-signal (v .pending c) s) (off-ok _ _ _ k) (omega (arith, without-signal-le (v .handled c) s, a)) (omega (arith, without-signal-le (v .pending c) s, b))
+  handled s x y n m true = altered c lives _ (on-fine _ fine s x y n m)
+  handled s x y n m false = altered c lives _ (off-fine _ fine s)
 
   -- a clone that is not refused
-  pub may-bear : dead v (v .children c) ≡ false → eqb (free-slot v) process-slots ≡ false → MayBear v c (v .children c)
+  pub may-bear : dead v (children v c) ≡ false → eqb (free-slot v) process-slots ≡ false → MayBear v c (children v c)
   may-bear a b =
       let (s, d) = f .children c here lives in
-      record { lives = lives; namespace = s; below = d; not-dead = no-so a; up-own = λ u. f .unborn-own _ s u c here refl; room = eqb-false _ process-slots b; holder = λ m s u o. held-in t h .holder m s u; held-by = λ m s. inr (held-in t h .held-by m s) }
+      record { lives = lives; namespace = s; below = d; not-dead = no-so a; up-own = λ u. f .unborn-own _ s u c here (holds-children v c); room = eqb-false _ process-slots b; holder = λ m s u o. held-in t h .holder m s u; held-by = λ m s. inr (held-in t h .held-by m s) }
 
   pub may-bear-new : eqb (own-level v c) deepest ≡ false → eqb (free-slot v) process-slots or eqb (free-namespace-slot v) namespace-slots ≡ false
       → Change t (new-namespace t c) × (free-namespace-slot v < namespace-slots) × MayBear (view (new-namespace t c)) c (free-namespace-slot v)
@@ -201,48 +205,37 @@ module _ (t : Table) (c : ℕ) (h : SoundTable t) (r : So (runs (view t) c)) whe
         record { lives = q .lives; namespace = q .namespace; below = q .below; not-dead = q .not-dead; up-own = q .up-own; room = λ e. eqb-false _ process-slots (or-false-left _ _ b) (sym (q .slot) ∙ e); holder = q .holder; held-by = q .held-by },
       )
 
-  -- each call makes one of these of the table
-  pub call-made : (call : Call) → Made t (make t c call .table)
-  unfolding make clone clone-new unshare setns set-children kill exit wait getpid getppid handle poll answers granted refused
-  call-made Clone =
-      choose (Gives t) (dead v (v .children c)) (λ a. nothing-done) (λ a.
-      choose (Gives t) (eqb (free-slot v) process-slots) (λ b. nothing-done) (λ b. born c (v .children c) (may-bear a b)))
-  call-made CloneNew =
-      choose (Gives t) (elsewhere v c) (λ z. nothing-done) (λ z.
-      choose (Gives t) (eqb (own-level v c) deepest) (λ a. nothing-done) (λ a.
-      choose (Gives t) (eqb (free-slot v) process-slots or eqb (free-namespace-slot v) namespace-slots) (λ b. nothing-done) (λ b.
-      let (x, l, m) = may-bear-new a b in
-      born-in-new c (free-namespace-slot v) x l m)))
-  call-made Unshare =
-      choose (Gives t) (elsewhere v c) (λ a. nothing-done) (λ a.
-      choose (Gives t) (eqb (own-level v c) deepest) (λ b. nothing-done) (λ b.
-      choose (Gives t) (eqb (free-namespace-slot v) namespace-slots) (λ d. nothing-done) (λ d.
-      let deep = eqb-false (own-level v c) deepest b in
-      let room = eqb-false (free-namespace-slot v) namespace-slots d in
+  -- what each call gives, where it is not refused, is one of these
+  gives-made : (call : Call) → None (refusals v c call) → Gives t (gives t c call tt)
+  unfolding place set-children getpid getppid poll taken-up answers granted
+  gives-made Clone n = born c (children v c) (may-bear (n Enomem) (n Eagain))
+  gives-made CloneNew n = let (x, l, m) = may-bear-new (n Enospc) (n Eagain) in born-in-new c (free-namespace-slot v) x l m
+  gives-made Unshare n =
+      let deep = eqb-false (own-level v c) deepest (n Enospc) in
+      let room = eqb-false (free-namespace-slot v) namespace-slots (n Eagain) in
       let q = K.ready-next t c h r deep room in
-      freed-after _ (more (more start (makes-namespace c lives deep room)) (turns c (free-namespace-slot v) (q .lives) (record { here = q .namespace; below = q .below; alone = λ u. (q .up-own u, q .alone) }))))))
-  call-made (Setns n) =
-      choose (Gives t) (eqb (named v c n) process-slots or v .ended (named v c n)) (λ a. nothing-done) (λ a.
-      let s : Seen v (v .own c) (named v c n) = named-seen v c n (eqb-false _ process-slots (or-false-left _ _ a)) in
-      let m = f .members (named v c n) (seen-taken v (v .own c) _ s) in
-      freed-after _ (more start (turns c (v .own (named v c n)) lives (record { here = m .0 .0; below = seen-below v (v .own c) _ s; alone = λ u. absurd (m .1 u) }))))
-  call-made (Kill n s) =
-      choose (Gives t) (not (within 0 signals s)) (λ a. nothing-done) (λ a.
-      choose (Gives t) (names-group n) (λ b. nothing-done) (λ b.
-      choose (Gives t) (eqb (length (targets v c n)) 0) (λ d. nothing-done) (λ d.
-      freed-after _ (deliver-run t t start (sane t h) (v .own c) (natural s) (K.natural-low s (isnt-not _ a)) (targets v c n) (K.targets-safe v f c n)))))
-  call-made (Exit s) = choose (Gives t) (eqb c 0) (λ a. nothing-done) (λ a. freed-after _ (more start (ends c (Exited (status s)) lives (eqb-false c 0 a) (remainder s))))
-  call-made Wait = choose (Gives t) (not (any process-slots _)) (λ a. nothing-done) (λ a. reaped (v .state (first-ended v c)) refl)
-  call-made Getpid = nothing-done
-  call-made Getppid = nothing-done
-  call-made (Handle s on) =
-      choose (Gives t) (not (within 1 signals s) or eqb (natural s) 9 or eqb (natural s) 19) (λ a. nothing-done) (λ a.
+      freed-after _ (more (more start (makes-namespace c lives deep room)) (turns c (free-namespace-slot v) (q .lives) (record { here = q .namespace; below = q .below; alone = λ u. (q .up-own u, q .alone) })))
+  gives-made (Setns i) n =
+      let s : Seen v (v .own c) (named v c i) = named-seen v c i (eqb-false _ process-slots (or-false-left _ _ (n Esrch))) in
+      let m = f .members (named v c i) (seen-taken v (v .own c) _ s) in
+      freed-after _ (more start (turns c (v .own (named v c i)) lives (record { here = m .0 .0; below = seen-below v (v .own c) _ s; alone = λ u. absurd (m .1 u) })))
+  gives-made (Kill i s) n =
+      freed-after _ (deliver-run t t start (sane t h) (v .own c) (natural s) (K.natural-low s (isnt-not _ (n Einval))) (targets v c i) (K.targets-safe v f c i))
+  gives-made (Exit s) n = freed-after _ (more start (ends c (Exited (status s)) lives (eqb-false c 0 (n Ebusy)) (remainder s)))
+  gives-made Wait n = reaped (v .state (first-ended v c)) refl
+  gives-made Getpid n = nothing-done
+  gives-made Getppid n = nothing-done
+  gives-made (Handle s on) n =
+      let a = n Einval in
       let (x, y) = K.natural-within s (isnt-not _ (or-false-left _ _ (or-false-left _ _ a))) in
-      handled (natural s) x y (eqb-false _ 9 (or-false-right _ _ (or-false-left _ _ a))) (eqb-false _ 19 (or-false-right _ _ a)) on)
-  call-made Poll =
-      choose (Gives t) (eqb (lowest-signal (process t c .pending)) signals) (λ a. nothing-done) (λ a.
-      let (x, y, k) = sets t (sane t h) c lives in
-      signalled c lives (v .handled c) (without-signal (v .pending c) (lowest-signal (process t c .pending))) (poll-ok _ _ _ k) x (omega (arith, without-signal-le (v .pending c) (lowest-signal (process t c .pending)), y)))
+      handled (natural s) x y (eqb-false _ 9 (or-false-right _ _ (or-false-left _ _ a))) (eqb-false _ 19 (or-false-right _ _ a)) on
+  gives-made Poll n =
+      choose (Gives t) (eqb (lowest-signal (process t c .traits .pending)) signals) (λ a. nothing-done) (λ a. altered c lives _ (poll-fine _ fine _))
+
+  -- and so is what each call makes of the table
+  pub call-made : (call : Call) → Made t (make t c call .table)
+  unfolding refused
+  call-made call = made-is (Gives t) t c call (λ e. nothing-done) (λ n q. gives-made call n)
 
 -- the tables of setns and unshare before namespaces are freed
 pub setns-sane : (t : Table) → SoundTable t → (c i : ℕ) → Lives (view t) c → Seen (view t) (view t .own c) i → Sane (put t c (with-children (process t c) (view t .own i)))

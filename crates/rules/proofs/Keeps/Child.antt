@@ -12,13 +12,13 @@ use Rattle.rules.proofs.Keeps.Birth.{with-born, birth-view, k-taken}
 use Rattle.rules.proofs.Keeps.Changed.{changed-at, process-count, stored}
 use Rattle.rules.proofs.Keeps.Changes.{MayBear}
 use Rattle.rules.proofs.Keeps.Premises as K
-use Rattle.rules.proofs.Laws.Facts.{Below, Taken, facts, Sane}
+use Rattle.rules.proofs.Laws.Facts.{Below, Taken, Sane}
 use Rattle.rules.proofs.Laws.Tree.{below-refl}
 use Rattle.rules.specs.Births.{birth, newborn}
-use Rattle.rules.specs.Calls.{within}
 use Rattle.rules.specs.Claims.{Born, NextNumber}
 use Rattle.rules.specs.Pids.{free-slot}
 use Rattle.rules.specs.Read.{View, alive, below, init, pid-seen, unborn, view}
+use Rattle.rules.proofs.Laws.Traits.{born-signals}
 use Rattle.table.specs.Limits.{process-slots}
 use Rattle.table.specs.Slots.{no-process, process, put}
 use Rattle.table.specs.Tests.{if_then_else_}
@@ -89,7 +89,7 @@ module _ (t : Table) (s : Sane t) (c n : ℕ) (m : MayBear (view t) c n) where
         new = free;
         here = there;
         kin = (ap (λ (p : Process). p .parent .0) self, ap (λ (p : Process). p .own .0) self, ap (λ (p : Process). p .children .0) self);
-        bare = (ap (λ (p : Process). p .state) self, ap (λ (p : Process). p .handled) self, ap (λ (p : Process). p .pending) self);
+        bare = (ap (λ (p : Process). p .state) self, ap (λ (p : Process). p .traits .handled) self ∙ born-signals _ .0, ap (λ (p : Process). p .traits .pending) self ∙ born-signals _ .1);
         first = init-of-new;
         answer = e;
         others = λ i o. at i ∙ rw (ne-eqb i k o);

@@ -1,21 +1,19 @@
 -- What a signal does to a process may be done to it.
-use Prim.Native.Nat.{ℕ, _<_, _≤_}
-use native.Mathlib.Decide.{ℕ-discrete}
+use Prim.Native.Nat.{ℕ, _≤_}
 use native.Mathlib.Omega.{arith}
 use mathlib.Core.Bool.{not, So}
 use mathlib.Core.List.{List, _∷_, []}
 use mathlib.Core.Logic.{inl, inr}
-use mathlib.Core.Path.{_≡_, sym, _∙_, ap, subst, refl}
+use mathlib.Core.Path.{_≡_, sym, _∙_, ap, refl}
 use borrow.Author.Tests.{eq-eqb, eqb-false}
 use lib.Dec.{eqb}
-use Rattle.rules.proofs.Laws.Facts.{Facts, Lives, Other, SignalsOk}
+use Rattle.rules.proofs.Laws.Facts.{Facts, Lives, Other}
 use Rattle.rules.proofs.Laws.Lists.{In}
-use Rattle.rules.proofs.Laws.Signals.{has-with-other}
 use Rattle.rules.proofs.Laws.Tests.{no-so, choose, both, isnt-not, or-false-left, or-false-right}
 use Rattle.rules.specs.Delivery.{action-on, default-action}
-use Rattle.table.specs.Limits.{signals, sigkill, sigcont, sigstop}
+use Rattle.table.specs.Limits.{sigkill, sigcont, sigstop}
 use Rattle.rules.specs.Read.{View, init, is-init, living}
-use Rattle.table.specs.SignalSets.{has, with-signal}
+use Rattle.table.specs.SignalSets.{has}
 use Rattle.table.specs.Tests.{_and_, _or_}
 use Rattle.table.specs.declared.Action.the-variants.{Finish, Nothing, Pend, Resume, Stop}
 use Rattle.table.specs.declared.Action.{Action}
@@ -31,7 +29,7 @@ module _ (v : View) (i s : ℕ) where
   Good Resume = Lives v i
   Good Stop = Lives v i
   Good Finish = Lives v i × Other i × (1 ≤ s)
-  Good Pend = Lives v i × So (has (v .handled i) s)
+  Good Pend = Lives v i × So (has (v .traits i .handled) s)
 
   default-good : Lives v i → Other i → 1 ≤ s → Good (default-action s)
   unfolding default-action
@@ -47,15 +45,7 @@ module _ (v : View) (i s : ℕ) where
       choose Good (eqb s sigcont) (λ b. l) (λ b.
       choose Good (eqb s sigkill or eqb s sigstop)
       (λ c. choose Good (is-init v i and eqb (v .own i) from) (λ d. tt) (λ d. default-good l (λ z. no-so d (both _ _ (root-init v f i z) (eq-eqb _ from (ap (v .own) z ∙ f .root-own ∙ sym (safe z))))) h))
-      (λ c. choose Good (has (v .handled i) s) (λ d. (l, d)) (λ d. choose Good (is-init v i) (λ e. tt) (λ e. default-good l (λ z. no-so e (root-init v f i z)) h)))))
-
--- a handled signal may be pending
-pub pend-ok : (h q s : ℕ) → SignalsOk h q → So (has h s) → SignalsOk h (with-signal q s)
-pend-ok h q s k x = (k .0, λ b l y. go b l y (ℕ-discrete b s))
-  where
-    go : (b : ℕ) → b < signals → So (has (with-signal q s) b) → Dec (b ≡ s) → So (has h b)
-    go b l y (yes e) = subst (λ n. So (has h n)) (sym e) x
-    go b l y (no o) = k .1 b l (sym (has-with-other q s b o) ∙ y)
+      (λ c. choose Good (has (v .traits i .handled) s) (λ d. (l, d)) (λ d. choose Good (is-init v i) (λ e. tt) (λ e. default-good l (λ z. no-so e (root-init v f i z)) h)))))
 
 -- the root init is named only from the root
 abbrev pub Each : (ℕ → Type 0) → List ℕ → Type 0

@@ -20,7 +20,7 @@ use Rattle.rules.proofs.Laws.Tree.{below-refl}
 use Rattle.rules.specs.Claims.{struck}
 use Rattle.rules.specs.Delivery.{act, action-on, default-action, deliver, deliver-all, resumed, with-pending}
 use Rattle.rules.specs.Read.{View, is-init, living, taken, view}
-use Rattle.rules.specs.Records.{as-ended, with-parent, with-state}
+use Rattle.rules.proofs.Laws.Traits.{ended-signals}
 use Rattle.table.specs.Limits.{sigcont, sigkill, signals, sigstop}
 use Rattle.table.specs.SignalSets.{has}
 use Rattle.table.specs.Slots.{is-ended, pid-at, process}
@@ -31,6 +31,7 @@ use Rattle.table.specs.declared.End.the-variants.{Signaled}
 use Rattle.table.specs.declared.Process.{Process}
 use Rattle.table.specs.declared.State.the-variants.{Running, Stopped}
 use Rattle.table.specs.declared.Table.{Table}
+use Rattle.table.specs.Records.{with-state, with-parent, as-ended}
 
 -- ---- an init is ended by 9 from above alone
 
@@ -62,17 +63,17 @@ module _ (v : View) (i from s : ℕ) where
       choose ByNine (eqb s sigcont) (λ b. tt) (λ b.
       choose ByNine (eqb s sigkill or eqb s sigstop)
       (λ c. choose ByNine (is-init v i and eqb (v .own i) from) (λ d. tt) (λ d. default-nine (⊎-elim (λ e. inl (eqb-true s sigkill e)) (λ e. inr (eqb-true s sigstop e)) (cases _ _ c)) d))
-      (λ c. choose ByNine (has (v .handled i) s) (λ d. tt) (λ d. choose ByNine (is-init v i) (λ e. tt) default-never))))
+      (λ c. choose ByNine (has (v .traits i .handled) s) (λ d. tt) (λ d. choose ByNine (is-init v i) (λ e. tt) default-never))))
 
 -- ---- one delivery
 
 resumed-kin : (q : Process) → Kin (resumed q) q
 unfolding resumed with-pending
-resumed-kin q = choose (λ x. Kin x q) (has (q .handled) sigcont) (λ h. (refl, refl, refl, refl)) (λ h. (refl, refl, refl, refl))
+resumed-kin q = choose (λ x. Kin x q) (has (q .traits .handled) sigcont) (λ h. (refl, refl, refl, refl, ended-signals _ _ _)) (λ h. (refl, refl, refl, refl, refl))
 
 pend-kin : (u : Table) (j k : ℕ) → Lives (view u) j → Kin (with-pending (process u j) k) (process u j)
 unfolding with-pending
-pend-kin u j k l = (refl, refl, refl, isnt-so (not-ended (view u) j l))
+pend-kin u j k l = (refl, refl, refl, isnt-so (not-ended (view u) j l), ended-signals _ _ _)
 
 module _ (k from : ℕ) (P : ℕ → Type 0) (u : Table) (s : Sane u) (j : ℕ) (mean : P j) where
   -- what an action leaves
@@ -80,7 +81,7 @@ module _ (k from : ℕ) (P : ℕ → Type 0) (u : Table) (s : Sane u) (j : ℕ) 
   unfolding act with-pending
   act-trace Nothing g n = trace-refl k from P u s
   act-trace Resume g n = put-trace k from P u s j (resumed (process u j)) g (resumed-kin (process u j))
-  act-trace Stop g n = put-trace k from P u s j (with-state (process u j) Stopped) g (refl, refl, refl, refl)
+  act-trace Stop g n = put-trace k from P u s j (with-state (process u j) Stopped) g (refl, refl, refl, refl, refl)
   act-trace Pend g n = put-trace k from P u s j (with-pending (process u j) k) (g .0) (pend-kin u j k (g .0))
   act-trace Finish g n =
       ⊎-elim
@@ -93,7 +94,7 @@ module _ (k from : ℕ) (P : ℕ → Type 0) (u : Table) (s : Sane u) (j : ℕ) 
   unfolding act with-pending
   act-rest Nothing g n i o = inr refl
   act-rest Resume g n i o = inr (put-rest k from P u s j (resumed (process u j)) g (resumed-kin (process u j)) i o)
-  act-rest Stop g n i o = inr (put-rest k from P u s j (with-state (process u j) Stopped) g (refl, refl, refl, refl) i o)
+  act-rest Stop g n i o = inr (put-rest k from P u s j (with-state (process u j) Stopped) g (refl, refl, refl, refl, refl) i o)
   act-rest Pend g n i o = inr (put-rest k from P u s j (with-pending (process u j) k) (g .0) (pend-kin u j k (g .0)) i o)
   act-rest Finish g n i o =
       ⊎-elim
@@ -113,7 +114,7 @@ module _ (k from : ℕ) (P : ℕ → Type 0) (u : Table) (s : Sane u) (j : ℕ) 
 -- ---- whom the signal is sent to
 
 -- an action rests on four things that are read of the target
-action-of : (v u : View) (from i k : ℕ) → living u i ≡ living v i → (Lives u i → is-init u i ≡ is-init v i) → u .own i ≡ v .own i → u .handled i ≡ v .handled i → action-on u from i k ≡ action-on v from i k
+action-of : (v u : View) (from i k : ℕ) → living u i ≡ living v i → (Lives u i → is-init u i ≡ is-init v i) → u .own i ≡ v .own i → u .traits i .handled ≡ v .traits i .handled → action-on u from i k ≡ action-on v from i k
 unfolding action-on
 action-of v u from i k l z o h =
     ⊎-elim (λ (a : Lives u i). let e : is-init u i ≡ is-init v i = z a in rw (l, e, o, h))
@@ -125,7 +126,7 @@ with-kept w i p q e = e ∙ ap (with-parent q) (sym (ap (λ o. o .parent .0) e))
 
 resumed-parent : (q : Process) (p : ℕ) → resumed (with-parent q p) ≡ with-parent (resumed q) p
 unfolding resumed with-pending
-resumed-parent q p = sym (pick (λ x. with-parent x p) (has (q .handled) sigcont) (with-pending (with-state q Running) sigcont) (with-state q Running))
+resumed-parent q p = sym (pick (λ x. with-parent x p) (has (q .traits .handled) sigcont) (with-pending (with-state q Running) sigcont) (with-state q Running))
 
 module _ (k from : ℕ) (P : ℕ → Type 0) (t u : Table) (s : Sane t) (r : Sane u) (x : Trace k from P t u) (i : ℕ) (mean : P i) where
   abbrev q : Process
@@ -138,7 +139,7 @@ module _ (k from : ℕ) (P : ℕ → Type 0) (t u : Table) (s : Sane t) (r : San
   unfolding act struck with-pending
   act-hit Nothing g n e = inr e
   act-hit Resume g n e = inr (with-kept (act u i k Resume) i p (resumed q) (put-self k from P u r i (resumed (process u i)) g (resumed-kin (process u i)) ∙ ap resumed e ∙ resumed-parent q p))
-  act-hit Stop g n e = inr (with-kept (act u i k Stop) i p (with-state q Stopped) (put-self k from P u r i (with-state (process u i) Stopped) g (refl, refl, refl, refl) ∙ ap (λ (o : Process). with-state o Stopped) e))
+  act-hit Stop g n e = inr (with-kept (act u i k Stop) i p (with-state q Stopped) (put-self k from P u r i (with-state (process u i) Stopped) g (refl, refl, refl, refl, refl) ∙ ap (λ (o : Process). with-state o Stopped) e))
   act-hit Pend g n e = inr (with-kept (act u i k Pend) i p (with-pending q k) (put-self k from P u r i (with-pending (process u i) k) (g .0) (pend-kin u i k (g .0)) ∙ ap (λ (o : Process). with-pending o k) e))
   act-hit Finish g n e =
       ⊎-elim
@@ -154,7 +155,7 @@ module _ (k from : ℕ) (P : ℕ → Type 0) (t u : Table) (s : Sane t) (r : San
   unfolding deliver living taken
   deliver-hit safe (inl (m, z, h)) = inl (m, fell-too t u s r x (deliver u from i k) (deliver-trace k from P u r i mean safe .lives) m z, h)
   deliver-hit safe (inr e) =
-      let d = action-of (view t) (view u) from i k (ap (λ (o : Process). not (eqb (pid-at o 0) 0) and not (is-ended (o .state))) e) (was-init t u s r x i) (ap (λ (o : Process). o .own .0) e) (ap (λ (o : Process). o .handled) e) in
+      let d = action-of (view t) (view u) from i k (ap (λ (o : Process). not (eqb (pid-at o 0) 0) and not (is-ended (o .state))) e) (was-init t u s r x i) (ap (λ (o : Process). o .own .0) e) (ap (λ (o : Process). o .traits .handled) e) in
       subst (λ a. Rest t (act u i k (action-on (view u) from i k)) i (struck q k a)) d
       (act-hit (action-on (view u) from i k) (action-good (view u) i k from (r .facts) safe) (by-nine (view u) i from k) e)
 

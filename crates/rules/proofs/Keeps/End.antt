@@ -10,14 +10,15 @@ use Rattle.rules.proofs.Keeps.InitEnds.{gone, subtree-gone, subtree-fac
 use Rattle.rules.proofs.Keeps.MemberEnds.{member-gone, member-facts}
 use Rattle.rules.proofs.Laws.Below.{shallow-below, no-level}
 use Rattle.rules.proofs.Laws.Facts.{Facts, Lives, Other, lives-taken, seen-taken, facts, Sane, Taken}
-use Rattle.rules.proofs.Laws.Tests.{false-and, isnt-so, choose, left, both}
+use Rattle.rules.proofs.Laws.Holds.{ended-none, none-past, parent-holds}
+use Rattle.rules.proofs.Laws.Tests.{false-and, isnt-so, choose, left, both, right}
 use Rattle.rules.specs.Ends.{end, init-ends, namespace-dies, member-ends}
 use Rattle.table.specs.Fresh.{empty-process}
 use Rattle.table.specs.Limits.{levels, namespace-slots, no-slot, process-slots}
-use Rattle.table.specs.Slots.{is-ended, namespace, no-pid, pid-at, process, no-process, changed}
+use Rattle.table.specs.Slots.{is-ended, namespace, no-pid, pid-at, process, no-process, changed, hold-at}
 use Rattle.rules.specs.Read.{View, below, is-init, seen, view, child-of, init, taken}
-use Rattle.rules.specs.Records.{as-ended, with-life, with-parent}
 use Rattle.rules.specs.Sound.{kept-end, shaped}
+use Rattle.rules.proofs.Laws.Traits.{none-shaped, bare-stay, ended-shaped}
 use Rattle.table.specs.Tests.{_and_, if_then_else_}
 use Rattle.table.specs.declared.End.the-variants.{Signaled}
 use Rattle.table.specs.declared.End.{End}
@@ -26,6 +27,8 @@ use Rattle.table.specs.declared.Namespace.{Namespace}
 use Rattle.table.specs.declared.Process.{Process}
 use Rattle.table.specs.declared.State.the-variants.{Ended}
 use Rattle.table.specs.declared.Table.{Table}
+use Rattle.table.specs.Records.{with-parent, as-ended, with-life}
+use Rattle.table.specs.Traits.{ended-traits}
 
 module _ (e : End) (q : Process) where
   -- what no end changes
@@ -60,10 +63,10 @@ module _ (e : End) (q : Process) where
 
   shaped-cased : (a b c d : Bool) → So (process-shaped q) → So (process-shaped (if not a then q else (if b then empty-process else (if c then as-ended q e else (if d then q else as-ended q (Signaled 9))))))
   shaped-cased false b c d h = h
-  shaped-cased true true c d h = both _ _ (both _ _ refl refl) refl
-  shaped-cased true false true d h = both _ _ (both _ _ (left _ _ (left _ _ h)) refl) refl
+  shaped-cased true true c d h = both _ _ refl none-shaped
+  shaped-cased true false true d h = both _ _ (left _ _ h) (ended-shaped _ (right _ _ h))
   shaped-cased true false false true h = h
-  shaped-cased true false false false h = both _ _ (both _ _ (left _ _ (left _ _ h)) refl) refl
+  shaped-cased true false false false h = both _ _ (left _ _ h) (ended-shaped _ (right _ _ h))
 
 -- the view once the process at p has ended
 abbrev pub ended-view : View → ℕ → End → View
@@ -123,12 +126,11 @@ module _ (t : Table) (s : Sane t) (p : ℕ) (e : End) (here : Taken (view t) p) 
       view-changed t (member-ends v p e) (λ n s. s) g member-out (λ n l. refl)
       ∙ (λ j. record {
         own = λ i. none-of (λ x. x .own .0) (eqb i p) (child-of v p i) (process t i) refl refl j;
-        children = λ i. two (λ x. x .children .0) (eqb i p) (child-of v p i) (process t i) refl j;
+        hold = λ i k. (two (λ x. hold-at x k) (eqb i p) (child-of v p i) (process t i) (parent-holds (process t i) q k) ∙ ap (λ z. if eqb i p then z else v .hold i k) (ended-none (process t i) e k)) j;
         parent = λ i. three (λ x. x .parent .0) (eqb i p) (child-of v p i) (process t i) j;
         state = λ i. two (λ x. x .state) (eqb i p) (child-of v p i) (process t i) refl j;
         ended = λ i. two (λ x. is-ended (x .state)) (eqb i p) (child-of v p i) (process t i) refl j;
-        handled = λ i. two (λ x. x .handled) (eqb i p) (child-of v p i) (process t i) refl j;
-        pending = λ i. two (λ x. x .pending) (eqb i p) (child-of v p i) (process t i) refl j;
+        traits = λ i. two (λ x. x .traits) (eqb i p) (child-of v p i) (process t i) refl j;
         pid = λ i l. none-of (λ x. pid-at x l) (eqb i p) (child-of v p i) (process t i) refl refl j;
         up = v .up;
         level = v .level;
@@ -141,7 +143,7 @@ module _ (t : Table) (s : Sane t) (p : ℕ) (e : End) (here : Taken (view t) p) 
   member-shape = shaped-changed t (member-ends v p e) (λ n s. s) g (λ i x h. still (eqb i p) (child-of v p i) x h)
     where
       still : (a b : Bool) (x : Process) → So (process-shaped x) → So (process-shaped (if a then as-ended x e else (if b then with-parent x q else x)))
-      still true b x h = both _ _ (both _ _ (left _ _ (left _ _ h)) refl) refl
+      still true b x h = both _ _ (left _ _ h) (ended-shaped _ (right _ _ h))
       still false true x h = h
       still false false x h = h
 
@@ -177,9 +179,6 @@ module _ (t : Table) (s : Sane t) (p : ℕ) (e : End) (here : Taken (view t) p) 
       let low = f .in-namespace n (f .members p here .0 .0) in
       isnt-so (λ b. omega (arith, low, shallow-below v m n (no-level v f m (λ s. omega (arith, f .in-namespace m s))) b))
 
-  bare : (i : ℕ) → So (seen v n i) → So (v .ended i) → ((v .children i ≡ no-slot) × (v .handled i ≡ 0)) × (v .pending i ≡ 0)
-  bare i s d = f .ended-bare i (seen-taken v n i s) d
-
   -- what is read then
   pub subtree-view : view after-init ≡ subtree-gone v n p e
   unfolding init-ends namespace-dies gone
@@ -187,12 +186,11 @@ module _ (t : Table) (s : Sane t) (p : ℕ) (e : End) (here : Taken (view t) p) 
       view-changed t (init-ends v p e) (namespace-dies v n) g subtree-out (λ m l. rw (namespace-out m l))
       ∙ (λ j. record {
         own = λ i. plain e (process t i) (λ x. x .own .0) (seen v n i) (seen v n (v .parent i)) (eqb i p) (v .ended i) (λ x. refl) j;
-        children = λ i. cleared e (process t i) (λ x. x .children .0) no-slot (seen v n i) (seen v n (v .parent i)) (eqb i p) (v .ended i) (λ x. refl) (λ s d. bare i s d .0 .0) j;
+        hold = λ i k. cleared e (process t i) (λ x. hold-at x k) no-slot (seen v n i) (seen v n (v .parent i)) (eqb i p) (v .ended i) (λ x. ended-none (process t i) x k) (λ s d. none-past (process t i) k (f .ended-holds i (seen-taken v n i s) d k)) j;
         parent = λ i. plain e (process t i) (λ x. x .parent .0) (seen v n i) (seen v n (v .parent i)) (eqb i p) (v .ended i) (λ x. refl) j;
         state = λ i. stated e (process t i) (seen v n i) (seen v n (v .parent i)) (eqb i p) (v .ended i) j;
         ended = λ i. cleared e (process t i) (λ x. is-ended (x .state)) true (seen v n i) (seen v n (v .parent i)) (eqb i p) (v .ended i) (λ x. refl) (λ s d. d) j;
-        handled = λ i. cleared e (process t i) (λ x. x .handled) 0 (seen v n i) (seen v n (v .parent i)) (eqb i p) (v .ended i) (λ x. refl) (λ s d. bare i s d .0 .1) j;
-        pending = λ i. cleared e (process t i) (λ x. x .pending) 0 (seen v n i) (seen v n (v .parent i)) (eqb i p) (v .ended i) (λ x. refl) (λ s d. bare i s d .1) j;
+        traits = λ i. cleared e (process t i) (λ x. x .traits) (ended-traits (v .traits i)) (seen v n i) (seen v n (v .parent i)) (eqb i p) (v .ended i) (λ x. refl) (λ s d. sym (bare-stay _ (f .ended-traits i (seen-taken v n i s) d))) j;
         pid = λ i l. (plain e (process t i) (λ x. pid-at x l) (seen v n i) (seen v n (v .parent i)) (eqb i p) (v .ended i) (λ x. refl) ∙ ap (λ z. if seen v n i and seen v n (v .parent i) then z else v .pid i l) (ap (λ x. x .0) (getD-replicate no-pid levels l))) j;
         up = λ m. dying (λ s. s .parent .0) (below v m n) (namespace t m) refl j;
         level = λ m. dying (λ s. s .level) (below v m n) (namespace t m) refl j;

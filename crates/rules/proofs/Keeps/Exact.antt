@@ -1,7 +1,7 @@
 -- What the end of an init removes, ends and leaves.
 use Prim.Native.Nat.{ℕ, _<_}
 use native.Mathlib.Omega.{arith}
-use mathlib.Core.Bool.{false, So, false≢true}
+use mathlib.Core.Bool.{false, not, So, false≢true}
 use mathlib.Core.List.{_∷_, []}
 use mathlib.Core.Logic.{_↔_, ⊎-elim}
 use mathlib.Core.Path.{_≡_, refl, sym, _∙_, ap, subst}
@@ -17,7 +17,7 @@ use Rattle.rules.proofs.Laws.Facts.{seen-taken, Facts, Taken, Lives, Se
 use Rattle.rules.proofs.Laws.Steps.{step-made, runs-lives, remainder}
 use Rattle.rules.proofs.Laws.Tests.{yes-or-no, isnt-so, no-so, choose, left, right, both, and-not}
 use Rattle.rules.specs.Answers.{answers, granted}
-use Rattle.rules.specs.Calls.{exit, kill, named, pid-to, status, targets}
+use Rattle.rules.specs.Calls.{exit, kill, kill-gives, named, pid-to, status, targets, within}
 use Rattle.rules.specs.Claims.{EndsExactly, EndExact}
 use Rattle.rules.specs.Delivery.{act, action-on, default-action, deliver, deliver-all}
 use Rattle.rules.specs.Ends.{end, init-ends}
@@ -111,7 +111,8 @@ module _ (t : Table) (c i : ℕ) (h : SoundTable t) (r : So (runs (view t) c)) (
   unfolding make kill answers granted _and_ deliver-all k
   kill-made s l =
       let z : eqb k 0 ≡ false = ne-eqb k 0 (counted v f c here i seen-i) in
-      rw (le-leb 0 s (omega arith), lt-ltb s signals l, z, found, kill)
+      let a : not (within 0 signals (pos s)) ≡ false = ap not (both _ _ (le-leb 0 s (omega arith)) (lt-ltb s signals l)) in
+      rw (a, z, found, kill, kill-gives)
 
   -- a signal by number that ends its target
   pub finish-made : (s : ℕ) → s < signals → action-on v (v .own c) i s ≡ Finish → step t c (Kill (pos (pid-to v c i)) (pos s)) .table ≡ freed (end t i (Signaled s))

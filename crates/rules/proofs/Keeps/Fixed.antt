@@ -5,7 +5,7 @@ use mathlib.Core.Logic.{⊎-elim, _⊎_, inl, inr}
 use mathlib.Core.Path.{_≡_, refl, sym, _∙_, subst, ap}
 use borrow.Author.Tests.{eq-eqb, ne-eqb, eqb-true}
 use Rattle.rules.proofs.Keeps.Birth.{with-born, birth-view}
-use Rattle.rules.proofs.Keeps.Changes.{Change, ends, signals-of, turns, reaps, makes-namespace, change-sane, Run, start, more, run-sane, MayBear, Made, nothing-done, freed-after, signalled, born, born-in-new, call-made, made-sound}
+use Rattle.rules.proofs.Keeps.Changes.{Change, ends, alters, turns, reaps, makes-namespace, change-sane, Run, start, more, run-sane, MayBear, Made, nothing-done, freed-after, altered, born, born-in-new, call-made, made-sound}
 use Rattle.rules.proofs.Keeps.End.{end-view}
 use Rattle.rules.proofs.Keeps.Freed.{freed-view, restrict, kept-root}
 use Rattle.rules.proofs.Keeps.InitEnds.{gone, subtree-gone}
@@ -26,7 +26,7 @@ use Rattle.rules.specs.Freeing.{freed, kept}
 use Rattle.table.specs.Limits.{namespace-slots}
 use Rattle.rules.specs.Pids.{free-namespace-slot, free-slot}
 use Rattle.table.specs.Slots.{is-alive, is-dead, is-unborn, init-of}
-use Rattle.rules.specs.Read.{View, is-init, taken, view, namespace-taken, alive, dead, unborn, init, below, climb}
+use Rattle.rules.specs.Read.{View, is-init, taken, view, namespace-taken, alive, dead, unborn, init, below, climb, children}
 use Rattle.rules.specs.Sound.{SoundTable, kept-end}
 use Rattle.rules.specs.Step.{make}
 use Rattle.table.specs.Tests.{if_then_else_}
@@ -67,8 +67,8 @@ end-shrinks t s p e l o ok = subst (Shrinks (view t)) (sym (end-view t s p e (li
 pub change-shrinks : (t u : Table) → Sane t → Change t u → Shrinks (view t) (view u)
 unfolding taken
 change-shrinks t u s (ends p e l o ok) = end-shrinks t s p e l o ok
-change-shrinks t u s (signals-of c l x o k h q ok a b) = subst (Shrinks (view t)) (sym (lights-view t s c l x o h q (view t .children c))) (λ j y. (y, refl))
-change-shrinks t u s (turns c m l k) = subst (Shrinks (view t)) (sym (lights-view t s c l (view t .state c) (isnt-so (not-ended (view t) c l)) (view t .handled c) (view t .pending c) m)) (λ j y. (y, refl))
+change-shrinks t u s (alters c l x o k y fine) = subst (Shrinks (view t)) (sym (lights-view t s c l x o y (children (view t) c))) (λ j y. (y, refl))
+change-shrinks t u s (turns c m l k) = subst (Shrinks (view t)) (sym (lights-view t s c l (view t .state c) (isnt-so (not-ended (view t) c l)) (view t .traits c) m)) (λ j y. (y, refl))
 change-shrinks t u s (reaps d o) = subst (Shrinks (view t)) (sym (reaped-view t s d o)) (without-shrinks (view t) d)
 change-shrinks t u s (makes-namespace c l a b) = subst (Shrinks (view t)) (sym (new-namespace-view t (s .shape-of) c (K.free-namespace-is (view t) b .0))) (λ j y. (y, refl))
 
@@ -96,7 +96,7 @@ namespace-grows t s c l = subst (Grows (view t)) (sym (new-namespace-view t (s .
 pub made-fixed : (t u : Table) → SoundTable t → Made t u → (i : ℕ) → Taken (view t) i → Taken (view u) i → view u .own i ≡ view t .own i
 made-fixed t u h nothing-done i x y = refl
 made-fixed t u h (freed-after w r) i x y = shrinks-trans (view t) (view w) (view u) (run-shrinks t w (sane t h) r) (freed-shrinks w (run-sane t w (sane t h) r)) i y .1
-made-fixed t u h (signalled c l a b ok la lb) i x y = change-shrinks t u (sane t h) (signals-of c l (view t .state c) (isnt-so (not-ended (view t) c l)) (facts t h .ends-kept c (lives-taken (view t) c l)) a b ok la lb) i y .1
+made-fixed t u h (altered c l z fine) i x y = change-shrinks t u (sane t h) (alters c l (view t .state c) (isnt-so (not-ended (view t) c l)) (facts t h .ends-kept c (lives-taken (view t) c l)) z fine) i y .1
 made-fixed t u h (born c n m) i x y = birth-grows t (sane t h) c n m i x .1
 made-fixed t u h (born-in-new c n k low m) i x y =
     let (z, e) = namespace-grows t (sane t h) c low i x in
@@ -148,7 +148,7 @@ new-stays t s c room =
 change-stays : (t u : Table) → Sane t → Change t u → Stay (view t) (view u)
 unfolding namespace-taken
 change-stays t u s (ends p e l o ok) = end-stays t s p e l
-change-stays t u s (signals-of c l x o k h q ok a b) = λ m h. (h, (refl, refl, λ o. inl refl))
+change-stays t u s (alters c l x o k y fine) = λ m h. (h, (refl, refl, λ o. inl refl))
 change-stays t u s (turns c m l k) = λ m h. (h, (refl, refl, λ o. inl refl))
 change-stays t u s (reaps d o) = λ m h. (h, (refl, refl, λ o. inl refl))
 change-stays t u s (makes-namespace c l a b) = new-stays t s c b
@@ -190,7 +190,7 @@ freed-onward t s m h = subst (λ u. Onward (view t) u m) (sym e) (go (kept (view
 made-onward : (t u : Table) → SoundTable t → Made t u → (m : ℕ) → Stands (view t) m → Stands (view u) m → Onward (view t) (view u) m
 made-onward t u h nothing-done m a b = (refl, refl, λ o. inl refl)
 made-onward t u h (freed-after w r) m a b = onward-trans (view t) (view w) (view u) m (run-stays t w (sane t h) r m a .1) (freed-onward w (run-sane t w (sane t h) r) m b)
-made-onward t u h (signalled c l x y ok lx ly) m a b = (refl, refl, λ o. inl refl)
+made-onward t u h (altered c l x fine) m a b = (refl, refl, λ o. inl refl)
 made-onward t u h (born c n k) m a b = birth-stays t (sane t h) c n k m a .1
 made-onward t u h (born-in-new c n k low q) m a b =
     let s = sane t h in

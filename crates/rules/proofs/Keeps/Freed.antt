@@ -1,5 +1,5 @@
 -- Freeing namespaces restores soundness.
-use Prim.Native.Nat.{ℕ, zero, suc, _≤_}
+use Prim.Native.Nat.{ℕ, zero, suc, _<_, _≤_}
 use native.Mathlib.Omega.{arith}
 use mathlib.Core.Bool.{Bool, true, false, not, So, false≢true}
 use mathlib.Core.Logic.{_⊎_, inl, inr, ⊎-elim}
@@ -7,37 +7,38 @@ use mathlib.Core.Path.{_≡_, refl, sym, _∙_, ap, subst}
 use borrow.Author.Tests.{eq-eqb, eqb-true}
 use lib.Dec.{eqb, leb}
 use Rattle.rules.proofs.Keeps.Changed.{view-changed, shaped-changed}
-use Rattle.rules.proofs.Laws.Below.{below-trans, below-up, last-step, below-child, up-level, not-root, deep-namespace}
-use Rattle.rules.proofs.Laws.Facts.{Holder, root, member, for-children, child, Facts, Held, Taken, Stands, Lives, Below, Seen, Other, sound-from}
-use Rattle.rules.proofs.Laws.Tests.{alive-unborn, not-iff, or-iff, left, right, both, cases, or-left, any-elim, any-intro}
+use Rattle.rules.proofs.Laws.Below.{below-trans, below-up, last-step, below-hold, up-level, not-root, deep-namespace}
+use Rattle.rules.proofs.Laws.Facts.{Holder, root, member, holder, child, Facts, Held, Holds, Taken, Stands, Lives, Below, Seen, Other, sound-from}
+use Rattle.rules.proofs.Laws.Tests.{alive-unborn, not-iff, or-iff, left, right, both, cases, or-left, or-right, any-elim, any-intro}
 use Rattle.rules.proofs.Laws.Tree.{below-refl}
 use Rattle.rules.specs.Freeing.{kept, freed}
 use Rattle.table.specs.Fresh.{empty-namespace}
-use Rattle.table.specs.Limits.{greatest-pid}
+use Rattle.table.specs.Limits.{greatest-pid, hold-slots}
 use Rattle.table.specs.Slots.{init-of, is-alive, is-dead, is-unborn, namespace, no-namespace}
-use Rattle.rules.specs.Read.{View, alive, below, climb, living, namespace-taken, pid-seen, seen, taken, unborn, view}
+use Rattle.rules.specs.Read.{View, alive, below, climb, living, namespace-taken, pid-seen, seen, taken, unborn, view, children}
 use Rattle.rules.specs.Sound.{zero-namespace, zero-process, SoundTable, shaped}
 use Rattle.table.specs.Tests.{_and_, _or_, if_then_else_}
 use Rattle.table.specs.declared.Life.the-variants.{Unborn}
 use Rattle.table.specs.declared.Namespace.{Namespace}
 use Rattle.table.specs.declared.Table.{Table}
+use Rattle.table.specs.Traits.{ended-traits}
 
 -- ---- who is kept
 
+-- the process at i holds one in the subtree of n
+abbrev HoldsBelow : View → ℕ → ℕ → Type 0
+HoldsBelow v i n = (k : ℕ) × (k < hold-slots) × Below v (v .hold i k) n
+
 module _ (v : View) (p : Facts v) where
   -- what is kept: the root, and what somebody holds in the subtree
-  pub kept-cases : (n : ℕ) → So (kept v n) → (n ≡ 0) ⊎ ((i : ℕ) × Taken v i × (Below v (v .own i) n ⊎ Below v (v .children i) n))
+  pub kept-cases : (n : ℕ) → So (kept v n) → (n ≡ 0) ⊎ ((i : ℕ) × Taken v i × (Below v (v .own i) n ⊎ HoldsBelow v i n))
   unfolding kept
   kept-cases n h =
-      ⊎-elim (λ z. inl (eqb-true n 0 z)) (λ a. let (i, l, k) = any-elim _ _ a in inr (i, left _ _ k, cases _ _ (right _ _ k))) (cases _ _ h)
+      ⊎-elim (λ z. inl (eqb-true n 0 z)) (λ a. let (i, l, k) = any-elim _ _ a in inr (i, left _ _ k, ⊎-elim inl (λ b. inr (any-elim _ _ b)) (cases _ _ (right _ _ k)))) (cases _ _ h)
 
-  pub kept-by : (n i : ℕ) → Taken v i → Below v (v .own i) n ⊎ Below v (v .children i) n → So (kept v n)
+  pub kept-by : (n i : ℕ) → Taken v i → Below v (v .own i) n ⊎ HoldsBelow v i n → So (kept v n)
   unfolding kept
-  kept-by n i t b = or-iff _ _ .1 (λ z. any-intro _ _ i (p .in-range i t) (both _ _ t (or-either b)))
-    where
-      or-either : {a b : Bool} → So a ⊎ So b → So (a or b)
-      or-either (inl h) = or-left _ _ h
-      or-either (inr h) = or-iff _ _ .1 (λ z. h)
+  kept-by n i t b = or-iff _ _ .1 (λ z. any-intro _ _ i (p .in-range i t) (both _ _ t (⊎-elim (or-left _ _) (λ (k, l, h). or-right _ _ (any-intro _ _ k l h)) b)))
 
   pub kept-root : So (kept v 0)
   unfolding kept
@@ -46,13 +47,16 @@ module _ (v : View) (p : Facts v) where
   pub kept-own : (i : ℕ) → Taken v i → So (kept v (v .own i))
   kept-own i t = kept-by _ i t (inl (below-refl v _))
 
-  pub kept-children : (i : ℕ) → Taken v i → So (kept v (v .children i))
-  kept-children i t = kept-by _ i t (inr (below-refl v _))
+  pub kept-hold : (i : ℕ) → Taken v i → (k : ℕ) → k < hold-slots → So (kept v (v .hold i k))
+  kept-hold i t k l = kept-by _ i t (inr (k, l, below-refl v _))
+
+  pub kept-children : (i : ℕ) → Taken v i → So (kept v (children v i))
+  kept-children i t = kept-hold i t 0 (omega arith)
 
   pub kept-up : (n : ℕ) → Stands v n → Other n → So (kept v n) → So (kept v (v .up n))
   kept-up n s o h =
       ⊎-elim (λ z. absurd (o z))
-      (λ (i, t, b). kept-by _ i t (⊎-elim (λ x. inl (below-trans v p _ n _ x step)) (λ x. inr (below-trans v p _ n _ x step)) b))
+      (λ (i, t, b). kept-by _ i t (⊎-elim (λ x. inl (below-trans v p _ n _ x step)) (λ (k, l, x). inr (k, l, below-trans v p _ n _ x step)) b))
       (kept-cases n h)
     where
       step : Below v n (v .up n)
@@ -64,12 +68,11 @@ abbrev pub restrict : (ℕ → Bool) → View → View
 restrict k v =
     record {
       own = v .own;
-      children = v .children;
+      hold = v .hold;
       parent = v .parent;
       state = v .state;
       ended = v .ended;
-      handled = v .handled;
-      pending = v .pending;
+      traits = v .traits;
       pid = v .pid;
       up = λ n. if k n then v .up n else 0;
       level = λ n. if k n then v .level n else 0;
@@ -171,8 +174,9 @@ module _ (v : View) (p : Facts v) where
         parents = λ i t o. let ((a, b), r) = p .parents i t o in ((a, below-at _ _ (kept-own v p i t) ∙ b), r);
         first-parents = λ i t o e. let k = kept-own v p i t in p .first-parents i t o (sym (same-pid _ i k) ∙ e) ∙ sym (up-at _ k);
         children = λ i t a. let (s, b) = p .children i t a in let k = kept-children v p i t in (stays _ k s, below-at _ _ k ∙ b);
-        signal-sets = p .signal-sets;
-        ended-bare = p .ended-bare;
+        traits = p .traits;
+        ended-holds = p .ended-holds;
+        ended-traits = p .ended-traits;
         ends-kept = p .ends-kept;
       }
     where
@@ -186,10 +190,10 @@ module _ (v : View) (p : Facts v) where
       was-unborn : (n : ℕ) → So (kept v n) → So (unborn w n) → So (unborn v n)
       was-unborn n k u = sym (ap is-unborn (life-at n k)) ∙ u
 
-  -- a child of n at or above a, where a process has a for own or children's, stays
-  child-stays : (n m i a : ℕ) → Taken v i → (a ≡ v .own i) ⊎ (a ≡ v .children i) → Stands v m → Other m → v .up m ≡ n → Below v a m → Holder w n
+  -- a child of n at or above a, where a process has a for own or holds it, stays
+  child-stays : (n m i a : ℕ) → Taken v i → (v .own i ≡ a) ⊎ Holds v i a → Stands v m → Other m → v .up m ≡ n → Below v a m → Holder w n
   child-stays n m i a t c s o e b =
-      let k : So (kept v m) = kept-by v p m i t (⊎-elim (λ q. inl (subst (λ x. Below v x m) q b)) (λ q. inr (subst (λ x. Below v x m) q b)) c) in
+      let k : So (kept v m) = kept-by v p m i t (⊎-elim (λ q. inl (subst (λ x. Below v x m) (sym q) b)) (λ (j, l, q). inr (j, l, subst (λ x. Below v x m) (sym q) b)) c) in
       child m (stays m k s) o (up-at m k ∙ e)
 
   pub freed-held : Held w
@@ -202,14 +206,14 @@ module _ (v : View) (p : Facts v) where
             ⊎-elim (λ z. absurd (alive-unborn (v .life n) (subst (λ m. So (alive v m)) (sym z) (p .root-alive)) born))
             (λ (i, x, b). ⊎-elim
             (λ c. ⊎-elim (λ q. absurd (p .unborn-empty n t born i x q)) (λ (m, y, o, e, d). absurd (p .unborn-leaf n t born m y o e)) (last-step v p _ n (p .members i x .0 .0) c))
-            (λ c. ⊎-elim (λ q. (i, x, q)) (λ (m, y, o, e, d). absurd (p .unborn-leaf n t born m y o e)) (last-step v p _ n (below-child v p i n x t c) c)) b)
+            (λ (j, l, c). ⊎-elim (λ q. (i, x, (j, l, q))) (λ (m, y, o, e, d). absurd (p .unborn-leaf n t born m y o e)) (last-step v p _ n (below-hold v p i n j x t l c) c)) b)
             (kept-cases v p n k);
         held-by = λ n s.
             let (k, t) = stayed n s in
             ⊎-elim root
             (λ (i, x, b). ⊎-elim
             (λ c. ⊎-elim (member i x) (λ (m, y, o, e, d). child-stays n m i _ x (inl refl) y o e d) (last-step v p _ n (p .members i x .0 .0) c))
-            (λ c. ⊎-elim (for-children i x) (λ (m, y, o, e, d). child-stays n m i _ x (inr refl) y o e d) (last-step v p _ n (below-child v p i n x t c) c)) b)
+            (λ (j, l, c). ⊎-elim (λ q. holder i x (j, l, q)) (λ (m, y, o, e, d). child-stays n m i _ x (inr (j, l, refl)) y o e d) (last-step v p _ n (below-hold v p i n j x t l c) c)) b)
             (kept-cases v p n k);
       }
 
@@ -222,12 +226,11 @@ freed-view t h =
     view-changed t (λ i p. p) (λ n s. if kept (view t) n then s else empty-namespace) h (λ i l. refl) (λ n l. same (kept (view t) n))
     ∙ (λ i. record {
       own = view t .own;
-      children = view t .children;
+      hold = view t .hold;
       parent = view t .parent;
       state = view t .state;
       ended = view t .ended;
-      handled = view t .handled;
-      pending = view t .pending;
+      traits = view t .traits;
       pid = view t .pid;
       up = λ n. read (λ s. s .parent .0) (kept (view t) n) (namespace t n) i;
       level = λ n. read (λ s. s .level) (kept (view t) n) (namespace t n) i;

@@ -8,7 +8,7 @@ use mathlib.Core.Path.{_≡_, refl, sym, _∙_, ap, subst}
 use borrow.Author.Tests.{eq-eqb, le-leb}
 use lib.Dec.{eqb, leb}
 use Rattle.rules.proofs.Keeps.Birth.{with-born, birth-view, free-is, is-free, next-fresh, low, again}
-use Rattle.rules.proofs.Keeps.Changes.{signals-of, change-sane, run-sane, MayBear, Made, nothing-done, freed-after, signalled, born, born-in-new, call-made}
+use Rattle.rules.proofs.Keeps.Changes.{alters, change-sane, run-sane, MayBear, Made, nothing-done, freed-after, altered, born, born-in-new, call-made}
 use Rattle.rules.proofs.Keeps.Fixed.{change-shrinks, run-shrinks, freed-shrinks}
 use Rattle.rules.proofs.Keeps.NewNamespace as N
 use Rattle.rules.proofs.Keeps.NewNamespace.{with-namespace}
@@ -150,7 +150,7 @@ new-numbered t s c n g room m i o x b h =
 made-numbered : (t u : Table) → SoundTable t → Made t u → Numbered (view t) (view u)
 made-numbered t u h nothing-done i o x = absurd (o x)
 made-numbered t u h (freed-after y r) i o x = absurd (o (run-shrinks t y (sane t h) r i (freed-shrinks y (run-sane t y (sane t h) r) i x .0) .0))
-made-numbered t u h (signalled c l a b ok la lb) i o x = absurd (o (change-shrinks t u (sane t h) (signals-of c l (view t .state c) (isnt-so (not-ended (view t) c l)) (facts t h .ends-kept c (lives-taken (view t) c l)) a b ok la lb) i x .0))
+made-numbered t u h (altered c l z fine) i o x = absurd (o (change-shrinks t u (sane t h) (alters c l (view t .state c) (isnt-so (not-ended (view t) c l)) (facts t h .ends-kept c (lives-taken (view t) c l)) z fine) i x .0))
 made-numbered t u h (born c n m) i o x = birth-numbered t (sane t h) c n m i o x
 made-numbered t u h (born-in-new c n k room m) i o x = new-numbered t (sane t h) c n (change-sane t (new-namespace t c) (sane t h) k) room m i o x
 

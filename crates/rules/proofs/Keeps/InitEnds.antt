@@ -1,5 +1,5 @@
 -- The end of an init keeps the facts: its subtree goes down.
-use Prim.Native.Nat.{ℕ, zero, suc}
+use Prim.Native.Nat.{ℕ, zero, suc, _<_}
 use native.Mathlib.Omega.{arith}
 use mathlib.Core.Bool.{Bool, true, false, So, false≢true}
 use mathlib.Core.Logic.{_⊎_, inl, inr, ⊎-elim}
@@ -7,19 +7,22 @@ use mathlib.Core.Path.{_≡_, refl, sym, _∙_, ap, subst}
 use borrow.Author.Tests.{eqb-true}
 use lib.Dec.{eqb}
 use Rattle.rules.proofs.Laws.Below.{below-trans, below-up, shallow-below, no-level}
-use Rattle.rules.proofs.Laws.Facts.{Facts, Taken, Stands, Lives, Below, Seen, Other, SignalsOk, lives-taken, is-seen, seen-taken, seen-below}
+use Rattle.rules.proofs.Laws.Facts.{Facts, Holds, Taken, Stands, Lives, Below, Seen, Other, lives-taken, is-seen, seen-taken, seen-below, is-zero}
+use Rattle.rules.proofs.Laws.Holds.{blank-holds}
 use Rattle.rules.proofs.Laws.Reach.{reach-zero, reach-step, reach-cases}
-use Rattle.rules.proofs.Laws.Signals.{no-signals}
-use Rattle.rules.proofs.Laws.Tests.{yes-or-no, no-so, isnt-so, false-and, zero-or, left, right, both, all-intro}
-use Rattle.table.specs.Limits.{levels, no-slot, process-slots}
-use Rattle.table.specs.Slots.{init-of, is-alive, is-ended}
+use Rattle.rules.proofs.Laws.Tests.{yes-or-no, no-so, isnt-so, false-and, zero-or, left, right, both}
+use Rattle.table.specs.Fresh.{empty-process}
+use Rattle.table.specs.Limits.{no-slot, process-slots, hold-slots}
+use Rattle.table.specs.Slots.{init-of, is-alive, is-ended, hold-at}
 use Rattle.rules.specs.Read.{View, alive, below, dead, init, is-init, living, namespace-taken, pid-seen, seen, taken, unborn}
 use Rattle.rules.specs.Sound.{kept-end, reaches-root, zero-namespace, zero-process}
+use Rattle.rules.proofs.Laws.Traits.{none-are-blank, ended-are-bare, ended-ok}
 use Rattle.table.specs.Tests.{_and_, if_then_else_}
 use Rattle.table.specs.declared.End.the-variants.{Signaled}
 use Rattle.table.specs.declared.End.{End}
 use Rattle.table.specs.declared.Life.the-variants.{Dead}
 use Rattle.table.specs.declared.State.the-variants.{Running, Ended}
+use Rattle.table.specs.Traits.{no-traits, ended-traits, bare-traits, traits-ok}
 
 -- removed with the subtree of n: in it, by a parent in it
 unfoldable pub gone : View → ℕ → ℕ → Bool
@@ -30,12 +33,11 @@ abbrev pub subtree-gone : View → ℕ → ℕ → End → View
 subtree-gone v n p e =
     record {
       own = λ i. if gone v n i then 0 else v .own i;
-      children = λ i. if gone v n i then 0 else (if seen v n i then no-slot else v .children i);
+      hold = λ i k. if gone v n i then hold-at empty-process k else (if seen v n i then no-slot else v .hold i k);
       parent = λ i. if gone v n i then 0 else v .parent i;
       state = λ i. if gone v n i then Running else (if seen v n i then (if eqb i p then Ended e else (if v .ended i then v .state i else Ended (Signaled 9))) else v .state i);
       ended = λ i. if gone v n i then false else (if seen v n i then true else v .ended i);
-      handled = λ i. if gone v n i then 0 else (if seen v n i then 0 else v .handled i);
-      pending = λ i. if gone v n i then 0 else (if seen v n i then 0 else v .pending i);
+      traits = λ i. if gone v n i then no-traits else (if seen v n i then ended-traits (v .traits i) else v .traits i);
       pid = λ i l. if gone v n i then 0 else v .pid i l;
       up = v .up;
       level = v .level;
@@ -131,11 +133,11 @@ module _ (v : View) (f : Facts v) (p : ℕ) (e : End) (lives : Lives v p) (its-i
   is-dead-w m (inr d) = ⊎-elim (λ b. rw b) (λ b. rw b d) (yes-or-no (below v m n))
 
   was-seen : (m i : ℕ) → Seen w m i → Seen v m i
-  unfolding seen below
+  unfolding seen taken below
   was-seen m i h = let (g, t) = stays i (left _ _ h) in both _ _ t (rw g at (right _ _ h))
 
-  kept-signals : (i : ℕ) → Taken v i → SignalsOk (if seen v n i then 0 else v .handled i) (if seen v n i then 0 else v .pending i)
-  kept-signals i t = ⊎-elim (λ s. rw s no-signals) (λ o. rw o (f .signal-sets i t)) (yes-or-no (seen v n i))
+  traits-w : (i : ℕ) → Taken v i → So (traits-ok (if seen v n i then ended-traits (v .traits i) else v .traits i))
+  traits-w i t = ⊎-elim (λ s. rw s (ended-ok _ (f .traits i t))) (λ o. rw o (f .traits i t)) (yes-or-no (seen v n i))
 
   ended-kept : (i : ℕ) → Taken v i → (a b c : Bool) → So (kept-end (if a then (if b then Ended e else (if c then v .state i else Ended (Signaled 9))) else v .state i))
   ended-kept i t true true c = ok
@@ -147,7 +149,7 @@ module _ (v : View) (f : Facts v) (p : ℕ) (e : End) (lives : Lives v p) (its-i
   unfolding zero-process
   empty-w i o =
       ⊎-elim
-      (λ (g : So (gone v n i)). rw g (both _ _ (both _ _ (both _ _ (both _ _ (both _ _ (both _ _ refl refl) refl) refl) refl) refl) (all-intro levels (λ k. eqb 0 0) (λ l h. refl))))
+      (λ (g : So (gone v n i)). is-zero w i (record { own = rw g; holds = λ k l. rw g (blank-holds _ k l); parent = rw g; running = rw g refl; traits = rw g none-are-blank; pids = λ l k. rw g }))
       (λ (g : gone v n i ≡ false). let x : Taken v i → ⊥ = (λ t. o (is-taken i g t)) in let s : seen v n i ≡ false = isnt-so (λ s. x (seen-taken v n i s)) in rw (g, s) (f .empty-process i x))
       (yes-or-no (gone v n i))
 
@@ -157,16 +159,19 @@ module _ (v : View) (f : Facts v) (p : ℕ) (e : End) (lives : Lives v p) (its-i
       let b : below v m n ≡ false = isnt-so (λ b. o (subst (Stands v) (sym (shallow-below v m n (no-level v f m o) b)) here)) in
       rw b (f .empty-namespace m o)
 
-  child-w : (m i : ℕ) → Stands v m → gone v n i ≡ false → w .children i ≡ m → v .children i ≡ m
-  child-w m i s g x =
-      ⊎-elim (λ (k : So (seen v n i)). absurd (omega (arith, f .in-namespace m s, sym (rw (g, k) at x)))) (λ (o : seen v n i ≡ false). rw (g, o) at x) (yes-or-no (seen v n i))
+  holder-w : (m i : ℕ) → Stands v m → gone v n i ≡ false → Holds w i m → Holds v i m
+  holder-w m i s g (k, l, x) =
+      ⊎-elim (λ (z : So (seen v n i)). absurd (omega (arith, f .in-namespace m s, sym (rw (g, z) at x)))) (λ (o : seen v n i ≡ false). (k, l, rw (g, o) at x)) (yes-or-no (seen v n i))
 
   ended-w : (i : ℕ) → Taken v i → Below v (v .own i) n ⊎ So (v .ended i) → So (if seen v n i then true else v .ended i)
   ended-w i t (inl b) = rw (is-seen v n i t b)
   ended-w i t (inr d) = ⊎-elim (λ s. rw s) (λ o. rw o d) (yes-or-no (seen v n i))
 
-  bare-w : (i : ℕ) → Taken v i → So (if seen v n i then true else v .ended i) → (((if seen v n i then no-slot else v .children i) ≡ no-slot) × ((if seen v n i then 0 else v .handled i) ≡ 0)) × ((if seen v n i then 0 else v .pending i) ≡ 0)
-  bare-w i t = ⊎-elim (λ s. rw s (λ h. ((refl, refl), refl))) (λ o. rw o (f .ended-bare i t)) (yes-or-no (seen v n i))
+  holds-w : (i : ℕ) → Taken v i → So (if seen v n i then true else v .ended i) → (k : ℕ) → k < hold-slots → (if seen v n i then no-slot else v .hold i k) ≡ no-slot
+  holds-w i t = ⊎-elim (λ s. rw s (λ h k l. refl)) (λ o. rw o (f .ended-holds i t)) (yes-or-no (seen v n i))
+
+  bare-w : (i : ℕ) → Taken v i → So (if seen v n i then true else v .ended i) → So (bare-traits (if seen v n i then ended-traits (v .traits i) else v .traits i))
+  bare-w i t = ⊎-elim (λ s. rw s (λ h. ended-are-bare _)) (λ o. rw o (f .ended-traits i t)) (yes-or-no (seen v n i))
 
   ended-as : (a b c : Bool) (i : ℕ) (d : Bool) → v .ended i ≡ d → (if a then false else (if b then true else v .ended i)) ≡ is-ended (if a then Running else (if b then (if c then Ended e else (if d then v .state i else Ended (Signaled 9))) else v .state i))
   ended-as true b c i d h = refl
@@ -203,8 +208,8 @@ module _ (v : View) (f : Facts v) (p : ℕ) (e : End) (lives : Lives v p) (its-i
         unborn-last = λ m s u. f .unborn-last m s (unborn-w m u .1);
         unborn-empty = λ m s u i t x. let (g, k) = stays i t in f .unborn-empty m s (unborn-w m u .1) i k (sym (own-at i g) ∙ x);
         unborn-leaf = λ m s u. f .unborn-leaf m s (unborn-w m u .1);
-        unborn-own = λ m s u i t x. let (g, k) = stays i t in own-at i g ∙ f .unborn-own m s (unborn-w m u .1) i k (child-w m i s g x);
-        unborn-one = λ m s u i j a b c d. let (g, k) = stays i a in let (h, l) = stays j c in f .unborn-one m s (unborn-w m u .1) i j k (child-w m i s g b) l (child-w m j s h d);
+        unborn-own = λ m s u i t x. let (g, k) = stays i t in own-at i g ∙ f .unborn-own m s (unborn-w m u .1) i k (holder-w m i s g x);
+        unborn-one = λ m s u i j a b c d. let (g, k) = stays i a in let (h, l) = stays j c in f .unborn-one m s (unborn-w m u .1) i j k (holder-w m i s g b) l (holder-w m j s h d);
         last-pids = f .last-pids;
         pid-range = λ i t l b. let (g, k) = stays i t in rw g (f .pid-range i k l b);
         differ = λ m s i j a b x. let g = stays i (seen-taken w m i a) .0 in let h = stays j (seen-taken w m j b) .0 in f .differ m s i j (was-seen m i a) (was-seen m j b) (sym (pid-at i _ g) ∙ x ∙ pid-at j _ h);
@@ -221,8 +226,9 @@ module _ (v : View) (f : Facts v) (p : ℕ) (e : End) (lives : Lives v p) (its-i
             ((subst (Lives w) (sym (parent-at i g)) (w-lives _ a u), rw (g, outside (v .parent i) u) b), reached process-slots i k g r);
         first-parents = λ i t o x. let (g, k) = stays i t in let c = outside (v .parent i) (parent-out i g k o) in rw (g, c) (f .first-parents i k o (rw g at x));
         children = λ i t h. let (a, o) = lives-w i h in let c = outside i o in rw (c, o) (f .children i (stays i t .1) a);
-        signal-sets = λ i t. let (g, k) = stays i t in rw g (kept-signals i k);
-        ended-bare = λ i t. let (g, k) = stays i t in rw g (bare-w i k);
+        traits = λ i t. let (g, k) = stays i t in rw g (traits-w i k);
+        ended-holds = λ i t. let (g, k) = stays i t in rw g (holds-w i k);
+        ended-traits = λ i t. let (g, k) = stays i t in rw g (bare-w i k);
         ends-kept = λ i t. let (g, k) = stays i t in rw g (ended-kept i k (seen v n i) (eqb i p) (v .ended i));
       }
     where

@@ -14,7 +14,7 @@ use Rattle.rules.proofs.Laws.Tests.{yes-or-no, same-or, no-so, isnt-so}
 use Rattle.rules.proofs.Laws.Tree.{below-refl}
 use Rattle.rules.specs.Ends.{end, init-ends}
 use Rattle.rules.specs.Read.{View, init, is-init, living, seen, taken, view}
-use Rattle.rules.specs.Records.{as-ended, with-parent}
+use Rattle.rules.proofs.Laws.Traits.{ended-again}
 use Rattle.table.specs.Fresh.{empty-process}
 use Rattle.table.specs.Slots.{is-ended, pid-at, process}
 use Rattle.table.specs.Tests.{_and_, if_then_else_}
@@ -22,6 +22,8 @@ use Rattle.table.specs.declared.End.the-variants.{Signaled}
 use Rattle.table.specs.declared.End.{End}
 use Rattle.table.specs.declared.Process.{Process}
 use Rattle.table.specs.declared.Table.{Table}
+use Rattle.table.specs.Records.{with-parent, as-ended}
+use Rattle.table.specs.Traits.{ended-traits}
 
 module _ (k from : ℕ) (P : ℕ → Type 0) (u : Table) (s : Sane u) (j : ℕ) (l : Lives (view u) j) (yes-init : So (is-init (view u) j)) (nine : k ≡ 9) where
   abbrev v : View
@@ -119,7 +121,7 @@ module _ (k from : ℕ) (P : ℕ → Type 0) (u : Table) (s : Sane u) (j : ℕ) 
   unfolding taken
   init-trace meant above =
       record {
-        kin = λ i h. (field (λ p. p .own) (λ q e. refl) i h, field (λ p. p .pids) (λ q e. refl) i h);
+        kin = λ i h. (field (λ p. p .own) (λ q e. refl) i h, field (λ p. p .pids) (λ q e. refl) i h, field (λ p. ended-traits (p .traits)) (λ q e. ended-again (q .traits)) i h);
         lives = λ i a. sym (lives-same i (lives-outside i a)) ∙ a;
         ups = end-tree u s j (Signaled k) here .0;
         levels = end-tree u s j (Signaled k) here .1;

@@ -8,7 +8,6 @@ use mathlib.Core.Path.{_≡_, refl, sym, _∙_, ap, subst}
 use borrow.Author.Tests.{eq-eqb, eqb-true}
 use lib.Dec.{eqb}
 use lib.IntN.{ℤ, pos, negsuc}
-use lib.ListN.{length}
 use Rattle.rules.proofs.Keeps.Changes.{deliver-all-sane}
 use Rattle.rules.proofs.Keeps.Deliver.{Each, Safe, each-of}
 use Rattle.rules.proofs.Keeps.Exact.{kill-acts}
@@ -19,20 +18,20 @@ use Rattle.rules.proofs.Keeps.Premises as K
 use Rattle.rules.proofs.Keeps.Deliveries.{all-trace, all-rest, all-hit}
 use Rattle.rules.proofs.Keeps.Trace.{Fell, InFell, Rest, Trace, trace-refl, shrinks, heir-cases, heir-new, heir-old}
 use Rattle.rules.proofs.Laws.Below.{below-trans}
-use Rattle.rules.proofs.Laws.Facts.{Facts, Taken, Lives, Below, Seen, Other, lives-taken, not-ended, seen-taken, seen-below, is-seen, facts, Sane, sane}
+use Rattle.rules.proofs.Laws.Facts.{Facts, Taken, Lives, Below, Seen, Other, lives-taken, not-ended, seen-taken, seen-below, is-seen, facts, Sane, sane, zero-of}
 use Rattle.rules.proofs.Laws.Lists.{In, Distinct, some-of-in, in-some-of, sorted-distinct, only-distinct, ascending-sorted}
 use Rattle.rules.proofs.Laws.Slots.{child-seen, living-own-alive, init-living, init-own, own-taken}
+use Rattle.rules.proofs.Laws.Judged.{made-is}
 use Rattle.rules.proofs.Laws.Steps.{runs-lives, outcome-of}
-use Rattle.rules.proofs.Laws.Tests.{choose, isnt-not, yes-or-no, no-so, left, right, both, not-iff, tests}
+use Rattle.rules.proofs.Laws.Tests.{isnt-not, yes-or-no, no-so, left, right, both, not-iff}
 use Rattle.rules.specs.Answers.{answers, granted, is-refused, refused}
-use Rattle.rules.specs.Calls.{kill, natural, names-group, others, pid-to, targets, named, within}
-use Rattle.rules.specs.Claims.{Falls, SignalDone, SignalExact, SignalFinds, felled, heir, meant, numbered, struck}
+use Rattle.rules.specs.Calls.{natural, others, pid-to, targets, named}
+use Rattle.rules.specs.Claims.{place, Falls, SignalDone, SignalExact, SignalFinds, felled, heir, meant, numbered, struck}
 use Rattle.rules.specs.Delivery.{action-on, deliver-all}
 use Rattle.rules.specs.Freeing.{freed}
 use Rattle.rules.specs.Read.{View, all-seen, init, is-init, living, seen, taken, view}
-use Rattle.rules.specs.Records.{as-ended, with-parent}
-use Rattle.rules.specs.Sound.{SoundTable, zero-process}
-use Rattle.rules.specs.Step.{make, runs, step}
+use Rattle.rules.specs.Sound.{SoundTable}
+use Rattle.rules.specs.Step.{runs, step}
 use Rattle.table.specs.Limits.{process-slots, signals}
 use Rattle.table.specs.Slots.{is-ended, pid-at, process}
 use Rattle.table.specs.Tests.{_and_, if_then_else_}
@@ -42,9 +41,10 @@ use Rattle.table.specs.declared.Call.the-variants.{Kill}
 use Rattle.table.specs.declared.End.the-variants.{Signaled}
 use Rattle.table.specs.declared.Outcome.{Outcome}
 use Rattle.table.specs.declared.Process.{Process}
-use Rattle.table.specs.declared.Refusal.the-variants.{NotRunning, Einval, Enosys, Esrch}
+use Rattle.table.specs.declared.Refusal.the-variants.{NotRunning, Einval}
 use Rattle.table.specs.declared.Refusal.{Refusal}
 use Rattle.table.specs.declared.Table.{Table}
+use Rattle.table.specs.Records.{with-parent, as-ended}
 
 -- a kill finds each once
 targets-distinct : (v : View) → Facts v → (c : ℕ) → Taken v c → (n : ℤ) → Distinct (targets v c n)
@@ -59,8 +59,7 @@ targets-distinct v f c here (negsuc n) =
 
 -- an empty slot names the root init
 empty-parent : (u : Table) → Facts (view u) → (i : ℕ) → (Taken (view u) i → ⊥) → view u .parent i ≡ 0
-unfolding zero-process
-empty-parent u f i o = (simp tests at (f .empty-process i o)) .0 .0 .0 .0 .1
+empty-parent u f i o = zero-of (view u) i (f .empty-process i o) .parent
 
 module _ (t : Table) (c : ℕ) (h : SoundTable t) (r : So (runs (view t) c)) (n s : ℤ) (low : natural s < signals) where
   abbrev v : View
@@ -222,13 +221,10 @@ module _ (t : Table) (c : ℕ) (h : SoundTable t) (r : So (runs (view t) c)) (n 
 
 -- each kill that is granted
 pub signal-exact : SignalExact
-unfolding SignalExact make kill answers granted refused is-refused
+unfolding SignalExact place answers granted refused is-refused
 signal-exact t c n s h =
     outcome-of Done t c (Kill n s) h (refuse NotRunning) (λ r.
-    choose Done (not (within 0 signals s)) (λ a. refuse Einval) (λ a.
-    choose Done (names-group n) (λ b. refuse Enosys) (λ b.
-    choose Done (eqb (length (targets (view t) c n)) 0) (λ d. refuse Esrch) (λ d q.
-    signal-done t c h r n s (K.natural-low s (isnt-not _ a))))))
+    made-is Done t c (Kill n s) refuse (λ a w q. signal-done t c h r n s (K.natural-low s (isnt-not _ (a Einval)))))
   where
     Done : Outcome → Type 0
     Done o = o .reply .answer ≡ Number 0 → SignalDone t (o .table) c n s
@@ -267,15 +263,13 @@ module _ (t u : Table) (c : ℕ) (n s : ℤ) (f : Facts (view t)) (g : Facts (vi
 
 -- a kill changes no record of a process that the caller does not see
 spares : (t : Table) (c i : ℕ) (n s : ℤ) → SoundTable t → (Seen (view t) (view t .own c) i → ⊥) → process (step t c (Kill n s) .table) i ≡ process t i
-unfolding make kill answers granted refused
+unfolding place answers granted refused
 spares t c i n s h o =
     outcome-of Kept t c (Kill n s) h refl (λ r.
-    choose Kept (not (within 0 signals s)) (λ a. refl) (λ a.
-    choose Kept (names-group n) (λ b. refl) (λ b.
-    choose Kept (eqb (length (targets (view t) c n)) 0) (λ d. refl) (λ d.
-    let low = K.natural-low s (isnt-not _ a) in
+    made-is Kept t c (Kill n s) (λ e. refl) (λ a w.
+    let low = K.natural-low s (isnt-not _ (a Einval)) in
     let x = deliver-all-sane t (sane t h) (view t .own c) (natural s) low (targets (view t) c n) (K.targets-safe (view t) (facts t h) c n) in
-    unseen-same t _ c n s (facts t h) (facts _ (freed-keeps _ (x .shape-of) (x .facts))) (signal-done t c h r n s low) i o))))
+    unseen-same t _ c n s (facts t h) (facts _ (freed-keeps _ (x .shape-of) (x .facts))) (signal-done t c h r n s low) i o))
   where
     Kept : Outcome → Type 0
     Kept u = process (u .table) i ≡ process t i

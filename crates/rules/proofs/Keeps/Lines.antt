@@ -1,11 +1,11 @@
 -- Each negative number is given exactly when its line of the table says so and no earlier line does.
-use Prim.Native.Nat.{ℕ, _<_, zero, suc}
-use native.Mathlib.Decide.{decLt}
+use Prim.Native.Nat.{ℕ, _<_, _≤_, zero, suc}
+use native.Mathlib.Decide.{decLt, ℕ-discrete}
 use native.Mathlib.Omega.{arith}
 use mathlib.Core.Bool.{Bool, true, false, not, So, false≢true}
 use mathlib.Core.List.{List, [], _∷_}
 use mathlib.Core.Logic.{_↔_, ⊎-elim}
-use mathlib.Core.Path.{_≡_, refl, sym, _∙_, ap, ap₂, subst}
+use mathlib.Core.Path.{_≡_, refl, sym, _∙_, ap, subst}
 use borrow.Author.Tests.{eqb-true, eq-eqb, ne-eqb, lt-ltb}
 use lib.Dec.{eqb, ltb}
 use lib.IntN.{ℤ, pos, negsuc}
@@ -13,95 +13,25 @@ use lib.ListN.{length}
 use Rattle.rules.proofs.Keeps.Finds.{targets-meant, meant-named}
 use Rattle.rules.proofs.Laws.Facts.{Facts, Taken, seen-taken, lives-taken, facts}
 use Rattle.rules.proofs.Laws.Find.{Lowest, lowest-is, named-seen, find-cases}
+use Rattle.rules.proofs.Laws.Judged.{First, ascends, first-as, first-line, gives, gives-granted, judged-first, listed, made, one-place, refusals}
 use Rattle.rules.proofs.Laws.Steps.{runs-lives}
-use Rattle.rules.proofs.Laws.Tests.{isnt-so, no-so, left, right, both, isnt-not, not-iff, or-iff, cases, or-left, or-right, any-elim, any-intro, all-elim, all-intro, choose}
-use Rattle.rules.specs.Answers.{refused, granted, answers}
-use Rattle.rules.specs.Calls.{clone, clone-new, elsewhere, exit, first-ended, getpid, getppid, handle, kill, named, names-group, own-level, poll, reap, setns, targets, unshare, wait, within, processes-full, namespaces-full}
-use Rattle.rules.specs.Claims.{AnswersListed, given-if, line, lines, making-lines, not-running, place, numbered, meant}
-use Rattle.table.specs.Limits.{deepest, namespace-slots, process-slots, signals}
+use Rattle.rules.proofs.Laws.Tests.{isnt-so, no-so, left, right, both, isnt-not, not-iff, or-iff, cases, or-left, or-right, any-elim, any-intro, all-elim, all-intro}
+use Rattle.rules.specs.Answers.{refused}
+use Rattle.rules.specs.Calls.{named, targets, processes-full, namespaces-full}
+use Rattle.rules.specs.Claims.{AnswersListed, given-if, line, lines, not-running, place, numbered, meant}
+use Rattle.table.specs.Limits.{namespace-slots, process-slots}
 use Rattle.rules.specs.Pids.{free-namespace-slot, free-slot}
-use Rattle.table.specs.Slots.{is-running, process}
-use Rattle.rules.specs.Read.{View, child-of, dead, namespace-taken, taken, view}
-use Rattle.table.specs.SignalSets.{lowest-signal}
+use Rattle.table.specs.Slots.{is-running}
+use Rattle.rules.specs.Read.{View, namespace-taken, taken, view}
 use Rattle.rules.specs.Sound.{SoundTable, sound, shaped}
 use Rattle.rules.specs.Step.{make, runs, step}
 use Rattle.table.specs.Tests.{_and_, _or_, all, any, if_then_else_, lowest, some-of}
-use Rattle.table.specs.declared.Answer.{Answer}
-use Rattle.table.specs.declared.Answer.the-variants.{Refused, Number, Reaped}
 use Rattle.table.specs.declared.Call.the-variants.{Clone, CloneNew, Unshare, Setns, Kill, Exit, Wait, Getpid, Getppid, Handle, Poll}
 use Rattle.table.specs.declared.Call.{Call}
 use Rattle.table.specs.declared.Outcome.{Outcome}
-use Rattle.table.specs.declared.Refusal.the-variants.{Unsound, NotRunning, Einval, Enosys, Esrch, Ebusy, Echild, Enospc, Enomem, Eagain}
+use Rattle.table.specs.declared.Refusal.the-variants.{Unsound, NotRunning}
 use Rattle.table.specs.declared.Refusal.{Refusal}
-use Rattle.table.specs.declared.State.the-variants.{Running, Stopped, Ended}
-use Rattle.table.specs.declared.State.{State}
 use Rattle.table.specs.declared.Table.{Table}
-
--- ---- the order
-
--- the line at a place
-refusal-at : ℕ → Refusal
-refusal-at k =
-    if eqb k 0 then Unsound else (if eqb k 1 then NotRunning else (if eqb k 2 then Einval else (if eqb k 3 then Enosys else (if eqb k 4 then Esrch
-    else (if eqb k 5 then Ebusy else (if eqb k 6 then Echild else (if eqb k 7 then Enospc else (if eqb k 8 then Enomem else Eagain))))))))
-
-at-place : (e : Refusal) → (refusal-at (place e) ≡ e) × (place e < 10)
-unfolding place refusal-at
-at-place Unsound = (refl, omega arith)
-at-place NotRunning = (refl, omega arith)
-at-place Einval = (refl, omega arith)
-at-place Enosys = (refl, omega arith)
-at-place Esrch = (refl, omega arith)
-at-place Ebusy = (refl, omega arith)
-at-place Echild = (refl, omega arith)
-at-place Enospc = (refl, omega arith)
-at-place Enomem = (refl, omega arith)
-at-place Eagain = (refl, omega arith)
-
--- the place of an answer's line, or 10 for an answer that is none
-unfoldable place-of : Answer → ℕ
-place-of (Refused e) = place e
-place-of (Number k) = 10
-place-of (Reaped k e) = 10
-
--- the place of the first line of which f holds
-unfoldable first : (Refusal → Bool) → ℕ
-first f = lowest (λ k. f (refusal-at k)) 10 0
-
-refused-same : (d e : Refusal) → Refused d ≡ Refused e → d ≡ e
-refused-same d e q = ap of q
-  where
-    of : Answer → Refusal
-    of (Refused x) = x
-    of (Number k) = d
-    of (Reaped k x) = d
-
--- if an answer has the first place, each line's number is given exactly in its place
-module _ (f : Refusal → Bool) (a : Answer) (same : place-of a ≡ first f) where
-  r : Lowest (λ k. f (refusal-at k)) 10 0 (place-of a)
-  unfolding first
-  r = rw same (lowest-is (λ k. f (refusal-at k)) 10 0)
-
-  holds : (e : Refusal) → place-of a ≡ place e → So (f e)
-  holds e q = let (x, l) = at-place e in subst (λ d. So (f d)) x (subst (λ k. So (f (refusal-at k))) q (r .holds (omega arith)))
-
-  none : (d : Refusal) → place d < place-of a → So (f d) → ⊥
-  none d l h = let x = at-place d .0 in no-so (r .none-before (place d) (omega arith) l) (subst (λ y. So (f y)) (sym x) h)
-
-  there : (e : Refusal) → a ≡ Refused e → So (f e) × ((d : Refusal) → place d < place e → So (f d) → ⊥)
-  unfolding place-of
-  there e q = let p : place-of a ≡ place e = ap place-of q in (holds e p, λ d l. none d (omega arith))
-
-back : (f : Refusal → Bool) (a : Answer) → place-of a ≡ first f → (e : Refusal) → So (f e) → ((d : Refusal) → place d < place e → So (f d) → ⊥) → a ≡ Refused e
-unfolding place-of
-back f (Number k) same e h n = absurd (none f (Number k) same e (at-place e .1) h)
-back f (Reaped k x) same e h n = absurd (none f (Reaped k x) same e (at-place e .1) h)
-back f (Refused d) same e h n = go (decLt (place d) (place e)) (decLt (place e) (place d))
-  where
-    go : Dec (place d < place e) → Dec (place e < place d) → Refused d ≡ Refused e
-    go (yes l) y = absurd (n d l (holds f (Refused d) same d refl))
-    go (no x) (yes l) = absurd (none f (Refused d) same e l h)
-    go (no x) (no y) = let q : place d ≡ place e = omega arith in ap Refused (sym (at-place d .0) ∙ ap refusal-at q ∙ at-place e .0)
 
 -- ---- the tests of a call are those of the lines
 
@@ -174,32 +104,6 @@ caller t h c = go (taken (view t) c) (is-running (view t .state c)) refl
 
 -- ---- each call
 
--- a line says so, or does not
-hit : (a : Bool) (k m : ℕ) → So a → _≡_ {A = ℕ} k (elim a as (λ z. ℕ) [ true ↦ k | false ↦ m ])
-hit true k m h = refl
-hit false k m h = absurd (false≢true h)
-
-past : (a : Bool) (k m x : ℕ) → a ≡ false → x ≡ m → _≡_ {A = ℕ} x (elim a as (λ z. ℕ) [ true ↦ k | false ↦ m ])
-past true k m x e h = absurd (false≢true (sym e))
-past false k m x e h = h
-
-abbrev given : Outcome → ℕ
-given o = place-of (o .reply .answer)
-
-reap-none : (t : Table) (c i : ℕ) (s : State) → given (reap t c i s) ≡ 10
-unfolding reap answers granted place-of
-reap-none t c i Running = refl
-reap-none t c i Stopped = refl
-reap-none t c i (Ended e) = refl
-
--- lines after the first two, which don't hold
-abbrev after-two : (Refusal → Bool) → Refusal → Bool
-after-two f = given-if Unsound false (given-if NotRunning false f)
-
--- the lines from -22 on
-abbrev later : View → ℕ → Call → Refusal → Bool
-later v c call = after-two (lines v c call)
-
 module _ (t : Table) (c : ℕ) (h : SoundTable t) (r : So (runs (view t) c)) where
   abbrev v : View
   v = view t
@@ -218,81 +122,67 @@ module _ (t : Table) (c : ℕ) (h : SoundTable t) (r : So (runs (view t) c)) whe
   unfolding free-namespace-slot
   namespaces = full namespace-slots (namespace-taken v)
 
-  abbrev both-full : Bool
-  both-full = all process-slots (taken v) or all namespace-slots (namespace-taken v)
+  -- its list says what its lines say
+  says : (call : Call) (d : Refusal) → listed (refusals v c call) d ≡ lines v c call d
+  unfolding lines
+  says Clone d = rw processes
+  says CloneNew d = rw (processes, namespaces)
+  says Unshare d = rw namespaces
+  says (Setns n) d = rw (named-numbered v f c here n)
+  says (Kill n s) d = rw (found-meant v f c here n)
+  says (Exit s) d = refl
+  says Wait d = refl
+  says Getpid d = refl
+  says Getppid d = refl
+  says (Handle s on) d = refl
+  says Poll d = refl
 
-  -- a call that makes a namespace, and gives o where nothing refuses it; x is its test of the room, y the line's
-  making-first : (x y : Bool) (o : Outcome) → x ≡ y → given o ≡ 10 → given (if elsewhere v c then refused t Einval else (if eqb (own-level v c) deepest then refused t Enospc else (if x then refused t Eagain else o))) ≡ first (after-two (making-lines v c y))
-  unfolding refused place-of place first lowest refusal-at
-  making-first x y o e g =
-      choose Is (elsewhere v c) (λ a. hit (elsewhere v c) 2 _ a) (λ a.
-      choose Is (eqb (own-level v c) deepest) (λ b. past (elsewhere v c) 2 _ _ a (hit (eqb (own-level v c) deepest) 7 _ b)) (λ b.
-      choose Is x
-      (λ d. past (elsewhere v c) 2 _ _ a (past (eqb (own-level v c) deepest) 7 _ _ b (hit y 9 _ (sym e ∙ d))))
-      (λ d. past (elsewhere v c) 2 _ _ a (past (eqb (own-level v c) deepest) 7 _ _ b (past y 9 _ _ (sym e ∙ d) g)))))
+-- It is in the order of the lines, and says nothing of the first two, nor do its lines.
+in-order : (v : View) (c : ℕ) (call : Call) → So (ascends (place NotRunning) (refusals v c call)) × (lines v c call Unsound ≡ false) × (lines v c call NotRunning ≡ false)
+unfolding place _and_ lines
+in-order v c Clone = (refl, refl, refl)
+in-order v c CloneNew = (refl, refl, refl)
+in-order v c Unshare = (refl, refl, refl)
+in-order v c (Setns n) = (refl, refl, refl)
+in-order v c (Kill n s) = (refl, refl, refl)
+in-order v c (Exit s) = (refl, refl, refl)
+in-order v c Wait = (refl, refl, refl)
+in-order v c Getpid = (refl, refl, refl)
+in-order v c Getppid = (refl, refl, refl)
+in-order v c (Handle s on) = (refl, refl, refl)
+in-order v c Poll = (refl, refl, refl)
+
+module _ (t : Table) (c : ℕ) (call : Call) where
+  make-first : SoundTable t → So (runs (view t) c) → First (lines (view t) c call) (make t c call)
+  make-first h r =
+      let rs = refusals (view t) c call in
+      first-as (listed rs) (lines (view t) c call) (make t c call) (says t c h r call)
+      (subst (First (listed rs)) (sym (made t c call)) (judged-first t (place NotRunning) rs (gives t c call) (in-order (view t) c call .0) (gives-granted t c call)))
+
+  late : (d : Refusal) → place d ≤ place NotRunning → lines (view t) c call d ≡ false
+  unfolding place
+  late d l = go (ℕ-discrete (place d) (place Unsound))
     where
-      Is : Outcome → Type 0
-      Is o = given o ≡ first (after-two (making-lines v c y))
+      go : Dec (place d ≡ place Unsound) → lines (view t) c call d ≡ false
+      go (yes q) = ap (lines (view t) c call) (one-place d Unsound q) ∙ in-order (view t) c call .1
+      go (no q) = ap (lines (view t) c call) (one-place d NotRunning (omega arith)) ∙ in-order (view t) c call .2
 
-  abbrev Is : Call → Outcome → Type 0
-  Is call o = given o ≡ first (later v c call)
+  late-too : (d : Refusal) → place d ≤ place Unsound → given-if NotRunning (not-running (view t) c) (lines (view t) c call) d ≡ false
+  unfolding place
+  late-too d l = rw (ne-eqb (place d) 1 (λ q. omega arith)) (late d (omega arith))
 
-  make-first : (call : Call) → given (make t c call) ≡ first (later v c call)
-  unfolding make clone clone-new unshare setns kill exit wait getpid getppid handle poll answers granted refused place-of place first lowest refusal-at lines
-  make-first Clone =
-      choose (Is Clone) (dead v (v .children c)) (λ a. hit (dead v (v .children c)) 8 _ a) (λ a.
-      choose (Is Clone) (processes-full v)
-      (λ b. past (dead v (v .children c)) 8 _ _ a (hit (all process-slots (taken v)) 9 _ (sym processes ∙ b)))
-      (λ b. past (dead v (v .children c)) 8 _ _ a (past (all process-slots (taken v)) 9 _ _ (sym processes ∙ b) refl)))
-  make-first CloneNew = making-first (processes-full v or namespaces-full v) both-full _ (ap₂ _or_ processes namespaces) refl
-  make-first Unshare = making-first (namespaces-full v) (all namespace-slots (namespace-taken v)) _ namespaces refl
-  make-first (Setns n) =
-      let e = named-numbered v f c here n in
-      choose (Is (Setns n)) (eqb (named v c n) process-slots or v .ended (named v c n)) (λ a. hit (lines v c (Setns n) Esrch) 4 _ (sym e ∙ a)) (λ a. past (lines v c (Setns n) Esrch) 4 _ _ (sym e ∙ a) refl)
-  make-first (Kill n s) =
-      let e = found-meant v f c here n in
-      choose (Is (Kill n s)) (not (within 0 signals s)) (λ a. hit (not (within 0 signals s)) 2 _ a) (λ a.
-      choose (Is (Kill n s)) (names-group n) (λ b. past (not (within 0 signals s)) 2 _ _ a (hit (names-group n) 3 _ b)) (λ b.
-      choose (Is (Kill n s)) (eqb (length (targets v c n)) 0)
-      (λ d. past (not (within 0 signals s)) 2 _ _ a (past (names-group n) 3 _ _ b (hit (lines v c (Kill n s) Esrch) 4 _ (sym e ∙ d))))
-      (λ d. past (not (within 0 signals s)) 2 _ _ a (past (names-group n) 3 _ _ b (past (lines v c (Kill n s) Esrch) 4 _ _ (sym e ∙ d) refl)))))
-  make-first (Exit s) = choose (Is (Exit s)) (eqb c 0) (λ a. hit (eqb c 0) 5 _ a) (λ a. past (eqb c 0) 5 _ _ a refl)
-  make-first Wait =
-      choose (Is Wait) (not (any process-slots (child-of v c))) (λ a. hit (lines v c Wait Echild) 6 _ a) (λ a. past (lines v c Wait Echild) 6 _ _ a
-      (reap-none t c (first-ended v c) (v .state (first-ended v c))))
-  make-first Getpid = refl
-  make-first Getppid = refl
-  make-first (Handle s on) = choose (Is (Handle s on)) (lines v c (Handle s on) Einval) (λ a. hit (lines v c (Handle s on) Einval) 2 _ a) (λ a. past (lines v c (Handle s on) Einval) 2 _ _ a refl)
-  make-first Poll = choose (λ o. given o ≡ 10) (eqb (lowest-signal (process t c .pending)) signals) (λ a. refl) (λ a. refl)
+  other-way : (b : Bool) (x y : Outcome) → (if not b then x else y) ≡ (if b then y else x)
+  other-way true x y = refl
+  other-way false x y = refl
 
--- the first two lines are passed over
-skip : (a b : Bool) (k : ℕ) → a ≡ false → b ≡ false → (elim a as (λ z. ℕ) [ true ↦ 0 | false ↦ elim b as (λ z. ℕ) [ true ↦ 1 | false ↦ k ] ]) ≡ k
-skip true b k x y = absurd (false≢true (sym x))
-skip false true k x y = absurd (false≢true (sym y))
-skip false false k x y = refl
-
-at-zero : (a : Bool) (k : ℕ) → So a → _≡_ {A = ℕ} 0 (elim a as (λ z. ℕ) [ true ↦ 0 | false ↦ k ])
-at-zero true k h = refl
-at-zero false k h = absurd (false≢true h)
-
-at-one : (a b : Bool) (k : ℕ) → a ≡ false → So b → _≡_ {A = ℕ} 1 (elim a as (λ z. ℕ) [ true ↦ 0 | false ↦ elim b as (λ z. ℕ) [ true ↦ 1 | false ↦ k ] ])
-at-one true b k x y = absurd (false≢true (sym x))
-at-one false true k x y = refl
-at-one false false k x y = absurd (false≢true y)
-
-step-first : (t : Table) (c : ℕ) (call : Call) → So (shaped t) → given (step t c call) ≡ first (line t c call)
-unfolding step first lowest refusal-at line refused place-of place
-step-first t c call g =
-    choose (λ o. given o ≡ first (line t c call)) (sound t)
-    (λ e.
-    let h : SoundTable t = record { shape = g; rules = e } in
-    choose (λ o. given o ≡ first (line t c call)) (runs (view t) c)
-    (λ r. make-first t c h r call ∙ sym (skip (not (sound t)) (not-running (view t) c) _ (ap not e) (caller t h c ∙ ap not r)))
-    (λ r. (at-one (not (sound t)) (not-running (view t) c) _ (ap not e) (caller t h c ∙ ap not r))))
-    (λ e. (at-zero (not (sound t)) _ (ap not e)))
+  step-first : So (shaped t) → First (line t c call) (step t c call)
+  unfolding step line
+  step-first g =
+      subst (First _) (other-way (sound t) _ _) (first-line t Unsound _ _ late-too (not (sound t)) (λ e.
+      let h : SoundTable t = record { shape = g; rules = isnt-not _ e } in
+      subst (λ b. First (given-if NotRunning b (lines (view t) c call)) (if runs (view t) c then make t c call else refused t NotRunning)) (sym (caller t h c))
+      (subst (First _) (other-way (runs (view t) c) _ _) (first-line t NotRunning (lines (view t) c call) (make t c call) late (not (runs (view t) c)) (λ q. make-first h (isnt-not _ q))))))
 
 pub answers-listed : AnswersListed
 unfolding AnswersListed
-answers-listed t c call e g =
-    let q = step-first t c call g in
-    (there (line t c call) (step t c call .reply .answer) q e, λ h. back (line t c call) (step t c call .reply .answer) q e (h .0) (h .1))
+answers-listed t c call e g = step-first t c call g e

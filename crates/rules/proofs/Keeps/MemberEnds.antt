@@ -9,30 +9,30 @@ use borrow.Author.Tests.{eq-eqb, ne-eqb}
 use lib.Dec.{eqb}
 use Rattle.rules.proofs.Keeps.Changed.{pick}
 use Rattle.rules.proofs.Laws.Below.{below-trans, up-not-below}
-use Rattle.rules.proofs.Laws.Facts.{Facts, Taken, Stands, Lives, Below, Other, lives-taken, not-ended, root-namespace, is-seen}
+use Rattle.rules.proofs.Laws.Facts.{Facts, Holds, Taken, Stands, Lives, Below, Other, lives-taken, not-ended, root-namespace, is-seen}
 use Rattle.rules.proofs.Laws.Reach.{reach-bounded, reach-zero, reach-step, reach-cases, no-self}
-use Rattle.rules.proofs.Laws.Signals.{no-signals}
 use Rattle.rules.proofs.Laws.Tests.{and-not, false-and, zero-or, life-cases, left, right, both}
 use Rattle.rules.proofs.Laws.Tree.{below-refl}
 use Rattle.table.specs.Limits.{no-slot, process-slots}
 use Rattle.table.specs.Slots.{is-ended}
 use Rattle.rules.specs.Read.{View, alive, below, child-of, init, is-init, living, namespace-taken, pid-seen, seen, taken}
 use Rattle.rules.specs.Sound.{kept-end, reaches-root, zero-namespace, zero-process}
+use Rattle.rules.proofs.Laws.Traits.{ended-are-bare, ended-ok}
 use Rattle.table.specs.Tests.{if_then_else_}
 use Rattle.table.specs.declared.End.{End}
 use Rattle.table.specs.declared.State.the-variants.{Ended}
+use Rattle.table.specs.Traits.{ended-traits}
 
 -- the view with p ended, and its children given to the process at q
 abbrev pub member-gone : View → ℕ → ℕ → End → View
 member-gone v p q e =
     record {
       own = v .own;
-      children = λ i. if eqb i p then no-slot else v .children i;
+      hold = λ i k. if eqb i p then no-slot else v .hold i k;
       parent = λ i. if eqb i p then v .parent i else (if child-of v p i then q else v .parent i);
       state = λ i. if eqb i p then Ended e else v .state i;
       ended = λ i. if eqb i p then true else v .ended i;
-      handled = λ i. if eqb i p then 0 else v .handled i;
-      pending = λ i. if eqb i p then 0 else v .pending i;
+      traits = λ i. if eqb i p then ended-traits (v .traits i) else v .traits i;
       pid = v .pid;
       up = v .up;
       level = v .level;
@@ -188,8 +188,8 @@ module _ (v : View) (f : Facts v) (p : ℕ) (e : End) (lives : Lives v p) (no-in
         unborn-last = f .unborn-last;
         unborn-empty = f .unborn-empty;
         unborn-leaf = f .unborn-leaf;
-        unborn-own = λ m s u i t x. f .unborn-own m s u i t (was-child m s i x);
-        unborn-one = λ m s u i j a b c d. f .unborn-one m s u i j a (was-child m s i b) c (was-child m s j d);
+        unborn-own = λ m s u i t x. f .unborn-own m s u i t (held-before m s i x);
+        unborn-one = λ m s u i j a b c d. f .unborn-one m s u i j a (held-before m s i b) c (held-before m s j d);
         last-pids = f .last-pids;
         pid-range = f .pid-range;
         differ = f .differ;
@@ -197,14 +197,15 @@ module _ (v : View) (f : Facts v) (p : ℕ) (e : End) (lives : Lives v p) (no-in
         members = λ i t. ((f .members i t .0 .0, λ d. ⊎-elim (λ x. rw (eq-eqb i p x)) (λ o. rw (ne-eqb i p o) (f .members i t .0 .1 d)) (is i)), f .members i t .1);
         parents = λ i t o. ((parent-lives i t o, subst (Below v (v .own i)) (sym (parent-own i t)) (f .parents i t o .0 .1)), reached i t);
         first-parents = λ i t o x. parent-own i t ∙ f .first-parents i t o x;
-        children = λ i t h. let (a, o) = lives-w i h in subst (λ m. Stands v m × Below v m (v .own i)) (sym (same-child i o)) (f .children i t a);
-        signal-sets = λ i t. ⊎-elim (λ x. rw (eq-eqb i p x) no-signals) (λ o. rw (ne-eqb i p o) (f .signal-sets i t)) (is i);
-        ended-bare = λ i t. ⊎-elim (λ x. rw (eq-eqb i p x) (λ h. ((refl, refl), refl))) (λ o. rw (ne-eqb i p o) (f .ended-bare i t)) (is i);
+        children = λ i t h. let (a, o) = lives-w i h in subst (λ m. Stands v m × Below v m (v .own i)) (sym (same-hold i 0 o)) (f .children i t a);
+        traits = λ i t. ⊎-elim (λ x. rw (eq-eqb i p x) (ended-ok _ (f .traits i t))) (λ o. rw (ne-eqb i p o) (f .traits i t)) (is i);
+        ended-holds = λ i t. ⊎-elim (λ x. rw (eq-eqb i p x) (λ h k l. refl)) (λ o. rw (ne-eqb i p o) (f .ended-holds i t)) (is i);
+        ended-traits = λ i t. ⊎-elim (λ x. rw (eq-eqb i p x) (λ h. ended-are-bare _)) (λ o. rw (ne-eqb i p o) (f .ended-traits i t)) (is i);
         ends-kept = λ i t. ⊎-elim (λ x. rw (eq-eqb i p x) ok) (λ o. rw (ne-eqb i p o) (f .ends-kept i t)) (is i);
       }
     where
-      same-child : (i : ℕ) → (i ≡ p → ⊥) → w .children i ≡ v .children i
-      same-child i o = rw (ne-eqb i p o)
+      same-hold : (i k : ℕ) → (i ≡ p → ⊥) → w .hold i k ≡ v .hold i k
+      same-hold i k o = rw (ne-eqb i p o)
 
-      was-child : (m : ℕ) → Stands v m → (i : ℕ) → w .children i ≡ m → v .children i ≡ m
-      was-child m s i x = ⊎-elim (λ y. absurd (omega (arith, f .in-namespace m s, sym (rw (eq-eqb i p y) at x)))) (λ o. sym (same-child i o) ∙ x) (is i)
+      held-before : (m : ℕ) → Stands v m → (i : ℕ) → Holds w i m → Holds v i m
+      held-before m s i (k, l, x) = ⊎-elim (λ y. absurd (omega (arith, f .in-namespace m s, sym (rw (eq-eqb i p y) at x)))) (λ o. (k, l, sym (same-hold i k o) ∙ x)) (is i)

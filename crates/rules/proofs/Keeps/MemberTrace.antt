@@ -16,7 +16,7 @@ use Rattle.rules.proofs.Laws.Tests.{yes-or-no, same-or, no-so, isnt-so,
 use Rattle.rules.specs.Claims.{heir}
 use Rattle.rules.specs.Ends.{end, member-ends}
 use Rattle.rules.specs.Read.{View, child-of, init, is-init, living, taken, view}
-use Rattle.rules.specs.Records.{as-ended, with-parent}
+use Rattle.rules.proofs.Laws.Traits.{ended-again}
 use Rattle.table.specs.Limits.{process-slots}
 use Rattle.table.specs.Slots.{is-ended, pid-at, process}
 use Rattle.table.specs.Tests.{_and_}
@@ -24,6 +24,8 @@ use Rattle.table.specs.declared.End.the-variants.{Signaled}
 use Rattle.table.specs.declared.End.{End}
 use Rattle.table.specs.declared.Process.{Process}
 use Rattle.table.specs.declared.Table.{Table}
+use Rattle.table.specs.Records.{with-parent, as-ended}
+use Rattle.table.specs.Traits.{ended-traits}
 
 module _ (k from : ℕ) (P : ℕ → Type 0) (u : Table) (s : Sane u) (j : ℕ) (l : Lives (view u) j) (other : Other j) (no : is-init (view u) j ≡ false) where
   abbrev v : View
@@ -130,7 +132,7 @@ module _ (k from : ℕ) (P : ℕ → Type 0) (u : Table) (s : Sane u) (j : ℕ) 
   pub member-trace : Trace k from P u w
   member-trace =
       record {
-        kin = λ i h. (field (λ p. p .own) (λ q e. refl) (λ q p. refl) i, field (λ p. p .pids) (λ q e. refl) (λ q p. refl) i);
+        kin = λ i h. (field (λ p. p .own) (λ q e. refl) (λ q p. refl) i, field (λ p. p .pids) (λ q e. refl) (λ q p. refl) i, field (λ p. ended-traits (p .traits)) (λ q e. ended-again (q .traits)) (λ q p. refl) i);
         lives = lives-back;
         ups = end-tree u s j (Signaled k) here .0;
         levels = end-tree u s j (Signaled k) here .1;

@@ -7,7 +7,7 @@ use mathlib.Core.Path.{_≡_, refl, sym, _∙_, ap, subst}
 use borrow.Author.Tests.{eq-eqb, ne-eqb}
 use lib.Dec.{eqb}
 use Rattle.rules.proofs.Laws.Below.{below-taken, deep-namespace, not-root, up-level, below-up}
-use Rattle.rules.proofs.Laws.Facts.{Holder, root, member, for-children, child, Facts, Held, Taken, Stands, Lives, Below, Seen, Other, child-namespace, seen-taken, seen-below, root-namespace}
+use Rattle.rules.proofs.Laws.Facts.{Holder, root, member, holder, child, Facts, Held, Holds, Taken, Stands, Lives, Below, Seen, Other, hold-namespace, seen-taken, seen-below, root-namespace}
 use Rattle.rules.proofs.Laws.Tests.{same-or, left, right, both}
 use Rattle.rules.proofs.Laws.Tree.{below-refl}
 use Rattle.table.specs.Limits.{deepest, namespace-slots}
@@ -16,18 +16,18 @@ use Rattle.rules.specs.Read.{View, below, climb, dead, living, namespace
 use Rattle.rules.specs.Sound.{zero-namespace, zero-process}
 use Rattle.table.specs.Tests.{if_then_else_}
 use Rattle.table.specs.declared.Life.the-variants.{Unborn}
+use Rattle.table.specs.Traits.{ended-traits}
 
 -- the view with an unborn namespace at j below a
 abbrev pub with-namespace : View → ℕ → ℕ → View
 with-namespace v a j =
     record {
       own = v .own;
-      children = v .children;
+      hold = v .hold;
       parent = v .parent;
       state = v .state;
       ended = v .ended;
-      handled = v .handled;
-      pending = v .pending;
+      traits = v .traits;
       pid = v .pid;
       up = λ m. if eqb m j then a else v .up m;
       level = λ m. if eqb m j then suc (v .level a) else v .level m;
@@ -43,9 +43,9 @@ pub record Ready (v : View) (c n k : ℕ) : Type 0 where
   pub below : Below v n (v .own c)
   pub not-dead : So (dead v n) → ⊥
   pub up-own : So (unborn v n) → v .own c ≡ v .up n
-  pub alone : (i : ℕ) → Taken v i → v .children i ≡ n → i ≡ c
+  pub alone : (i : ℕ) → Taken v i → Holds v i n → i ≡ c
   pub slot : free-slot v ≡ k
-  pub holder : (m : ℕ) → Stands v m → So (unborn v m) → (m ≡ n → ⊥) → (i : ℕ) × Taken v i × (v .children i ≡ m)
+  pub holder : (m : ℕ) → Stands v m → So (unborn v m) → (m ≡ n → ⊥) → (i : ℕ) × Taken v i × Holds v i m
   pub held-by : (m : ℕ) → Stands v m → (m ≡ n) ⊎ Holder v m
 
 module _ (v : View) (f : Facts v) (a j : ℕ) (a-namespace : Stands v a) (low : v .level a < deepest) (not-dead : So (dead v a) → ⊥) (not-unborn : So (unborn v a) → ⊥) (j-low : j < namespace-slots) (j-free : Stands v j → ⊥) where
@@ -90,8 +90,8 @@ module _ (v : View) (f : Facts v) (a j : ℕ) (a-namespace : Stands v a) (low : 
   pub none-seen : (m i : ℕ) → m ≡ j → Seen w m i → ⊥
   none-seen m i x h = not-j m (below-taken v f _ m (own-namespace i (seen-taken v m i (was-seen m i h))) (seen-below v m i (was-seen m i h))) x
 
-  none-held : (m i : ℕ) → m ≡ j → Taken v i → v .children i ≡ m → ⊥
-  none-held m i x t e = let y : v .children i < namespace-slots = omega arith in not-j _ (child-namespace v f i t y) (e ∙ x)
+  none-held : (m i : ℕ) → m ≡ j → Taken v i → Holds v i m → ⊥
+  none-held m i x t h = not-j m (hold-namespace v f i m t h (omega arith)) x
 
   empty-namespace-w : (m : ℕ) → (Stands w m → ⊥) → So (zero-namespace w m)
   unfolding zero-namespace
@@ -144,8 +144,9 @@ module _ (v : View) (f : Facts v) (a j : ℕ) (a-namespace : Stands v a) (low : 
         parents = λ i t o. let ((x, y), z) = f .parents i t o in ((x, below-old _ _ (own-namespace i t) ∙ y), z);
         first-parents = λ i t o e. let q = old _ (own-namespace i t) in rw q (f .first-parents i t o (sym (same-pid _ i q) ∙ e));
         children = λ i t h. let (x, y) = f .children i t h in (is-namespace _ x, below-old _ _ x ∙ y);
-        signal-sets = f .signal-sets;
-        ended-bare = f .ended-bare;
+        traits = f .traits;
+        ended-holds = f .ended-holds;
+        ended-traits = f .ended-traits;
         ends-kept = f .ends-kept;
       }
     where
@@ -181,5 +182,5 @@ module _ (v : View) (f : Facts v) (a j : ℕ) (a-namespace : Stands v a) (low : 
       same : (m : ℕ) → Holder v m → Holder w m
       same m (root z) = root z
       same m (member i t x) = member i t x
-      same m (for-children i t x) = for-children i t x
+      same m (holder i t h) = holder i t h
       same m (child n s o x) = child n (is-namespace n s) o (rw (old n s) x)

@@ -5,7 +5,7 @@ use mathlib.Core.Logic.{⊎-elim}
 use mathlib.Core.Path.{_≡_, refl, sym, _∙_, subst}
 use borrow.Author.Tests.{eq-eqb, ne-eqb}
 use Rattle.rules.proofs.Keeps.Birth.{with-born, birth-view}
-use Rattle.rules.proofs.Keeps.Changes.{Change, ends, signals-of, turns, reaps, makes-namespace, change-sane, Run, start, more, run-sane, MayBear, Made, nothing-done, freed-after, signalled, born, born-in-new, call-made}
+use Rattle.rules.proofs.Keeps.Changes.{Change, ends, alters, turns, reaps, makes-namespace, change-sane, Run, start, more, run-sane, MayBear, Made, nothing-done, freed-after, altered, born, born-in-new, call-made}
 use Rattle.rules.proofs.Keeps.End.{end-view}
 use Rattle.rules.proofs.Keeps.Fixed.{namespace-fixed}
 use Rattle.rules.proofs.Keeps.Freed.{freed-view}
@@ -23,7 +23,7 @@ use Rattle.rules.specs.Ends.{end}
 use Rattle.rules.specs.Freeing.{freed}
 use Rattle.table.specs.Limits.{namespace-slots}
 use Rattle.rules.specs.Pids.{free-namespace-slot, free-slot}
-use Rattle.rules.specs.Read.{View, is-init, taken, view}
+use Rattle.rules.specs.Read.{View, is-init, taken, view, children}
 use Rattle.rules.specs.Sound.{SoundTable, kept-end}
 use Rattle.table.specs.declared.End.{End}
 use Rattle.table.specs.declared.State.the-variants.{Ended}
@@ -61,8 +61,8 @@ end-leaves t s p e l o ok = subst (Leave (view t)) (sym (end-view t s p e (lives
 change-leaves : (t u : Table) → Sane t → Change t u → Leave (view t) (view u)
 unfolding taken
 change-leaves t u s (ends p e l o ok) = end-leaves t s p e l o ok
-change-leaves t u s (signals-of c l x o k h q ok a b) = subst (Leave (view t)) (sym (lights-view t s c l x o h q (view t .children c))) (λ j y. (y, λ l. refl))
-change-leaves t u s (turns c m l k) = subst (Leave (view t)) (sym (lights-view t s c l (view t .state c) (isnt-so (not-ended (view t) c l)) (view t .handled c) (view t .pending c) m)) (λ j y. (y, λ l. refl))
+change-leaves t u s (alters c l x o k y fine) = subst (Leave (view t)) (sym (lights-view t s c l x o y (children (view t) c))) (λ j y. (y, λ l. refl))
+change-leaves t u s (turns c m l k) = subst (Leave (view t)) (sym (lights-view t s c l (view t .state c) (isnt-so (not-ended (view t) c l)) (view t .traits c) m)) (λ j y. (y, λ l. refl))
 change-leaves t u s (reaps d o) = subst (Leave (view t)) (sym (reaped-view t s d o)) (without-leaves (view t) d)
 change-leaves t u s (makes-namespace c l a b) = subst (Leave (view t)) (sym (new-namespace-view t (s .shape-of) c (K.free-namespace-is (view t) b .0))) (λ j y. (y, λ l. refl))
 
@@ -92,7 +92,7 @@ namespace-adds t s c l = subst (Add (view t)) (sym (new-namespace-view t (s .sha
 made-numbers : (t u : Table) → SoundTable t → Made t u → (i : ℕ) → Taken (view t) i → Taken (view u) i → Numbers (view t) (view u) i
 made-numbers t u h nothing-done i x y = λ l. refl
 made-numbers t u h (freed-after w r) i x y = leave-trans (view t) (view w) (view u) (run-leaves t w (sane t h) r) (freed-leaves w (run-sane t w (sane t h) r)) i y .1
-made-numbers t u h (signalled c l a b ok la lb) i x y = change-leaves t u (sane t h) (signals-of c l (view t .state c) (isnt-so (not-ended (view t) c l)) (facts t h .ends-kept c (lives-taken (view t) c l)) a b ok la lb) i y .1
+made-numbers t u h (altered c l z fine) i x y = change-leaves t u (sane t h) (alters c l (view t .state c) (isnt-so (not-ended (view t) c l)) (facts t h .ends-kept c (lives-taken (view t) c l)) z fine) i y .1
 made-numbers t u h (born c n m) i x y = birth-adds t (sane t h) c n m i x .1
 made-numbers t u h (born-in-new c n k low m) i x y =
     let (z, e) = namespace-adds t (sane t h) c low i x in

@@ -1,5 +1,5 @@
 -- What a call needs of a sound table: free slots, whom a number names, when a child may be born.
-use Prim.Native.Nat.{ℕ, _<_, _≤_, _^_}
+use Prim.Native.Nat.{ℕ, _<_, _≤_}
 use native.Mathlib.Omega.{arith}
 use mathlib.Core.Bool.{not, So, false≢true}
 use mathlib.Core.Logic.{_⊎_}
@@ -10,9 +10,9 @@ use Rattle.rules.proofs.Keeps.Birth.{born-facts, born-held, birth-view,
 use Rattle.rules.proofs.Keeps.Deliver.{Safe, each-of}
 use Rattle.rules.proofs.Keeps.Lights.{lights-held, holds-still}
 use Rattle.rules.proofs.Keeps.NewNamespace.{Ready, ready, with-namespace}
-use Rattle.rules.proofs.Keeps.Puts.{signalled-sane, new-namespace-view, lights-view}
+use Rattle.rules.proofs.Keeps.Puts.{new-namespace-view, lights-view, altered-sane}
 use Rattle.rules.proofs.Laws.Below.{shallow-below, level-deepest}
-use Rattle.rules.proofs.Laws.Facts.{Holder, Facts, Held, Taken, Stands, Lives, Below, Seen, SignalsOk, lives-taken, not-ended, seen-below, facts, held-in, sound-from, sane}
+use Rattle.rules.proofs.Laws.Facts.{Holder, Facts, Held, Taken, Stands, Lives, Below, Seen, lives-taken, not-ended, seen-below, facts, held-in, sound-from, sane, Holds}
 use Rattle.rules.proofs.Laws.Find.{lowest-is, targets-seen}
 use Rattle.rules.proofs.Laws.Steps.{runs-lives}
 use Rattle.rules.proofs.Laws.Tests.{no-so, isnt-so, left, right}
@@ -21,12 +21,14 @@ use Rattle.rules.specs.Calls.{natural, new-namespace, targets, within}
 use Rattle.table.specs.Limits.{deepest, namespace-slots, process-slots, signals}
 use Rattle.rules.specs.Pids.{free-namespace-slot, free-slot}
 use Rattle.table.specs.Slots.{process, put}
-use Rattle.rules.specs.Read.{View, dead, namespace-taken, taken, unborn, view}
-use Rattle.rules.specs.Records.{with-signals}
+use Rattle.rules.specs.Read.{View, dead, namespace-taken, taken, unborn, view, children}
 use Rattle.rules.specs.Sound.{SoundTable, shaped}
 use Rattle.rules.specs.Step.{runs}
+use Rattle.rules.proofs.Laws.Traits.{Fine}
 use Rattle.table.specs.Tests.{lowest}
 use Rattle.table.specs.declared.Table.{Table}
+use Rattle.table.specs.declared.Traits.{Traits}
+use Rattle.table.specs.Records.{with-traits}
 
 -- ---- free slots
 
@@ -54,7 +56,7 @@ natural-low (negsuc k) h = absurd (false≢true h)
 
 -- a birth where it may be makes a sound table
 pub birth-sound : (t : Table) (g : So (shaped t)) (f : Facts (view t)) (c n : ℕ) → Lives (view t) c → Stands (view t) n → Below (view t) n (view t .own c) → (So (dead (view t) n) → ⊥) → free-slot (view t) < process-slots → (Taken (view t) (free-slot (view t)) → ⊥) → (So (unborn (view t) n) → view t .own c ≡ view t .up n)
-    → ((m : ℕ) → Stands (view t) m → So (unborn (view t) m) → (m ≡ n → ⊥) → (i : ℕ) × Taken (view t) i × (view t .children i ≡ m)) → ((m : ℕ) → Stands (view t) m → (m ≡ n) ⊎ Holder (view t) m) → SoundTable (birth t c n)
+    → ((m : ℕ) → Stands (view t) m → So (unborn (view t) m) → (m ≡ n → ⊥) → (i : ℕ) × Taken (view t) i × Holds (view t) i m) → ((m : ℕ) → Stands (view t) m → (m ≡ n) ⊎ Holder (view t) m) → SoundTable (birth t c n)
 birth-sound t g f c n l s b d low free u x y =
     let e = birth-view t g f c n s low in
     sound-from (birth t c n) (birth-shape t g f c n s low) (subst Facts (sym e) (born-facts (view t) f c n _ l s b d low free u)) (subst Held (sym e) (born-held (view t) f c n _ l s b d low free u x y))
@@ -63,12 +65,12 @@ pub natural-within : (s : ℤ) → So (within 1 signals s) → (1 ≤ natural s)
 natural-within (pos k) h = (leb-true 1 k (left _ _ h), omega (arith, ltb-true k signals (right _ _ h)))
 natural-within (negsuc k) h = absurd (false≢true h)
 
-pub signalled-sound : (t : Table) (c : ℕ) (h : SoundTable t) → Lives (view t) c → (a b : ℕ) → a < 2 ^ signals → b < 2 ^ signals → SignalsOk a b → SoundTable (put t c (with-signals (process t c) a b))
-signalled-sound t c h lives a b la lb ok =
+pub altered-sound : (t : Table) (c : ℕ) (h : SoundTable t) → Lives (view t) c → (x : Traits) → Fine x → SoundTable (put t c (with-traits (process t c) x))
+altered-sound t c h lives x fine =
     let o = isnt-so (not-ended (view t) c lives) in
     let k = facts t h .ends-kept c (lives-taken (view t) c lives) in
-    let s = signalled-sane t (sane t h) c lives (view t .state c) o a b k ok la lb in
-    sound-from _ (s .shape-of) (s .facts) (subst Held (sym (lights-view t (sane t h) c lives (view t .state c) o a b (view t .children c))) (lights-held (view t) (facts t h) c (view t .state c) a b (view t .children c) lives o k ok (holds-still (view t) (facts t h) c lives) refl (held-in t h)))
+    let s = altered-sane t (sane t h) c lives (view t .state c) o x k fine in
+    sound-from _ (s .shape-of) (s .facts) (subst Held (sym (lights-view t (sane t h) c lives (view t .state c) o x (children (view t) c))) (lights-held (view t) (facts t h) c (view t .state c) x (children (view t) c) lives o k (fine .ok) (holds-still (view t) (facts t h) c lives) refl (held-in t h)))
 
 module _ (t : Table) (c : ℕ) (h : SoundTable t) (r : So (runs (view t) c)) where
   abbrev v : View

@@ -13,16 +13,17 @@ use Rattle.rules.proofs.Laws.Facts.{Taken, Lives, lives-taken, not-ende
 use Rattle.rules.proofs.Laws.Slots.{init-living}
 use Rattle.rules.proofs.Laws.Tests.{isnt-so}
 use Rattle.rules.specs.Read.{living, namespace-taken, taken, view}
-use Rattle.rules.specs.Records.{with-parent}
 use Rattle.table.specs.Limits.{process-slots}
 use Rattle.table.specs.Slots.{is-ended, no-pid, no-process, pid-at, process, put}
 use Rattle.table.specs.Tests.{_and_, if_then_else_}
 use Rattle.table.specs.declared.Process.{Process}
 use Rattle.table.specs.declared.Table.{Table}
+use Rattle.table.specs.Records.{with-parent}
+use Rattle.table.specs.Traits.{ended-traits}
 
--- x is the record q of a living process, but for its signals and for running or stopping
+-- x is the record q of a living process, but for what an end clears and for running or stopping
 abbrev pub Kin : Process → Process → Type 0
-Kin x q = (x .own ≡ q .own) × (x .parent ≡ q .parent) × (x .pids ≡ q .pids) × (is-ended (x .state) ≡ false)
+Kin x q = (x .own ≡ q .own) × (x .parent ≡ q .parent) × (x .pids ≡ q .pids) × (is-ended (x .state) ≡ false) × (ended-traits (x .traits) ≡ ended-traits (q .traits))
 
 module _ (k from : ℕ) (P : ℕ → Type 0) (u : Table) (s : Sane u) (j : ℕ) (x : Process) (l : Lives (view u) j) (kin : Kin x (process u j)) where
   abbrev w : Table
@@ -67,7 +68,7 @@ module _ (k from : ℕ) (P : ℕ → Type 0) (u : Table) (s : Sane u) (j : ℕ) 
   unfolding namespace-taken
   put-trace =
       record {
-        kin = λ i h. (field (λ p. p .own) (kin .0) i, field (λ p. p .pids) (kin .2) i);
+        kin = λ i h. (field (λ p. p .own) (kin .0) i, field (λ p. p .pids) (kin .2) i, field (λ p. ended-traits (p .traits)) (kin .4) i);
         lives = λ i a. sym (living-same i) ∙ a;
         ups = refl;
         levels = refl;

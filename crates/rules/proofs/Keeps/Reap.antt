@@ -6,27 +6,30 @@ use mathlib.Core.Path.{_≡_, refl, sym, _∙_, subst, ap}
 use borrow.Author.Tests.{eq-eqb, ne-eqb}
 use lib.Dec.{eqb}
 use Rattle.rules.proofs.Keeps.Changed.{pick}
-use Rattle.rules.proofs.Laws.Facts.{Facts, Taken, Lives, Below, Seen, Other, lives-taken, not-ended}
+use Rattle.rules.proofs.Laws.Facts.{Facts, Taken, Lives, Below, Seen, Other, lives-taken, not-ended, is-zero}
+use Rattle.rules.proofs.Laws.Holds.{blank-holds}
 use Rattle.rules.proofs.Laws.Reach.{reach-zero, reach-step, reach-cases}
-use Rattle.rules.proofs.Laws.Tests.{zero-or, same-or, left, right, both, all-intro}
-use Rattle.table.specs.Limits.{levels, process-slots}
-use Rattle.table.specs.Slots.{is-ended}
+use Rattle.rules.proofs.Laws.Tests.{zero-or, same-or, left, right, both}
+use Rattle.table.specs.Fresh.{empty-process}
+use Rattle.table.specs.Limits.{process-slots}
+use Rattle.table.specs.Slots.{is-ended, hold-at}
 use Rattle.rules.specs.Read.{View, below, living, namespace-taken, pid-seen, seen, taken}
 use Rattle.rules.specs.Sound.{reaches-root, zero-namespace, zero-process}
+use Rattle.rules.proofs.Laws.Traits.{none-are-blank}
 use Rattle.table.specs.Tests.{if_then_else_}
 use Rattle.table.specs.declared.State.the-variants.{Running}
+use Rattle.table.specs.Traits.{no-traits, ended-traits}
 
 -- the view with the slot d emptied
 abbrev pub without : View → ℕ → View
 without v d =
     record {
       own = λ i. if eqb i d then 0 else v .own i;
-      children = λ i. if eqb i d then 0 else v .children i;
+      hold = λ i k. if eqb i d then hold-at empty-process k else v .hold i k;
       parent = λ i. if eqb i d then 0 else v .parent i;
       state = λ i. if eqb i d then Running else v .state i;
       ended = λ i. if eqb i d then false else v .ended i;
-      handled = λ i. if eqb i d then 0 else v .handled i;
-      pending = λ i. if eqb i d then 0 else v .pending i;
+      traits = λ i. if eqb i d then no-traits else v .traits i;
       pid = λ i l. if eqb i d then 0 else v .pid i l;
       up = v .up;
       level = v .level;
@@ -66,7 +69,7 @@ module _ (v : View) (f : Facts v) (d : ℕ) (over : So (v .ended d)) where
       (reach-cases (v .parent) k i h))
 
   was-seen : (m i : ℕ) → Seen w m i → (eqb i d ≡ false) × Seen v m i
-  unfolding seen below
+  unfolding seen taken below
   was-seen m i h = let (y, t) = stays i (left _ _ h) in (y, both _ _ t (rw y at (right _ _ h)))
 
   same-pid : (m i : ℕ) → eqb i d ≡ false → pid-seen w m i ≡ pid-seen v m i
@@ -77,7 +80,7 @@ module _ (v : View) (f : Facts v) (d : ℕ) (over : So (v .ended d)) where
   unfolding zero-process taken
   empty-w i o =
       ⊎-elim
-      (λ x. rw (eq-eqb i d x) (both _ _ (both _ _ (both _ _ (both _ _ (both _ _ (both _ _ refl refl) refl) refl) refl) refl) (all-intro levels (λ k. eqb 0 0) (λ l h. refl))))
+      (λ x. is-zero w i (record { own = rw (eq-eqb i d x); holds = λ k l. rw (eq-eqb i d x) (blank-holds _ k l); parent = rw (eq-eqb i d x); running = rw (eq-eqb i d x) refl; traits = rw (eq-eqb i d x) none-are-blank; pids = λ l k. rw (eq-eqb i d x) }))
       (λ y. rw y (f .empty-process i (λ t. o (rw y t)))) (same-or i d)
 
   above-w : (i : ℕ) → Taken w i → Other i → Below w (w .own i) (w .own (w .parent i))
@@ -118,8 +121,9 @@ module _ (v : View) (f : Facts v) (d : ℕ) (over : So (v .ended d)) where
         parents = λ i t o. let (y, k) = stays i t in let ((a, b), r) = f .parents i k o in ((rw y (w-lives _ a), above-w i t o), reached process-slots i k y r);
         first-parents = λ i t o e. let (y, k) = stays i t in rw (y, parent-stays i k o) (f .first-parents i k o (sym (same-pid _ i y) ∙ (rw y at e)));
         children = λ i t h. let (y, k) = stays i t in rw y (f .children i k (lives-w i h));
-        signal-sets = λ i t. let (y, k) = stays i t in rw y (f .signal-sets i k);
-        ended-bare = λ i t. let (y, k) = stays i t in rw y (f .ended-bare i k);
+        traits = λ i t. let (y, k) = stays i t in rw y (f .traits i k);
+        ended-holds = λ i t. let (y, k) = stays i t in rw y (f .ended-holds i k);
+        ended-traits = λ i t. let (y, k) = stays i t in rw y (f .ended-traits i k);
         ends-kept = λ i t. let (y, k) = stays i t in rw y (f .ends-kept i k);
       }
     where

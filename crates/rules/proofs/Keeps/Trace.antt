@@ -13,7 +13,6 @@ use Rattle.rules.proofs.Laws.Slots.{alive-taken, alive-not-dead, living
 use Rattle.rules.proofs.Laws.Tests.{yes-or-no, no-so, isnt-so, left, right, both, not-iff}
 use Rattle.rules.specs.Claims.{heir}
 use Rattle.rules.specs.Read.{View, alive, below, climb, init, is-init, living, taken, view}
-use Rattle.rules.specs.Records.{as-ended, with-parent}
 use Rattle.table.specs.Slots.{init-of, is-alive, is-ended, is-unborn, no-pid, process}
 use Rattle.table.specs.Tests.{_and_, if_then_else_}
 use Rattle.table.specs.declared.End.the-variants.{Signaled}
@@ -21,6 +20,10 @@ use Rattle.table.specs.declared.NsSlot.{NsSlot}
 use Rattle.table.specs.declared.Pid.{Pid}
 use Rattle.table.specs.declared.Process.{Process}
 use Rattle.table.specs.declared.Table.{Table}
+use Rattle.table.specs.declared.State.the-variants.{Ended}
+use Rattle.table.specs.Records.{with-parent, as-ended}
+use Rattle.table.specs.Traits.{ended-traits}
+use Rattle.table.specs.Limits.{no-slot}
 
 -- the record of one that has ended, by signal k if not before
 abbrev pub over : ℕ → Process → Process
@@ -36,7 +39,7 @@ Head k from P v n = (j : ℕ) × P j × (k ≡ 9) × Lives v j × So (is-init v 
 
 -- what signal k, sent from a namespace to processes in P, leaves
 pub record Trace (k from : ℕ) (P : ℕ → Type 0) (t u : Table) : Type 0 where
-  pub kin : (i : ℕ) → Taken (view u) i → (process u i .own ≡ process t i .own) × (process u i .pids ≡ process t i .pids)
+  pub kin : (i : ℕ) → Taken (view u) i → (process u i .own ≡ process t i .own) × (process u i .pids ≡ process t i .pids) × (ended-traits (process u i .traits) ≡ ended-traits (process t i .traits))
   pub lives : (i : ℕ) → Lives (view u) i → Lives (view t) i
   pub ups : view u .up ≡ view t .up
   pub levels : view u .level ≡ view t .level
@@ -83,7 +86,7 @@ module _ {k from : ℕ} {P : ℕ → Type 0} (t u : Table) (s : Sane t) (r : San
 
   pub shrinks : Shrinks v (view u)
   unfolding taken
-  shrinks i h = let (a, b) = x .kin i h in (subst (λ (ps : List Pid). So (not (eqb (getD ps 0 no-pid .0) 0))) b h, ap (λ (n : NsSlot). n .0) a)
+  shrinks i h = let (a, b, z) = x .kin i h in (subst (λ (ps : List Pid). So (not (eqb (getD ps 0 no-pid .0) 0))) b h, ap (λ (n : NsSlot). n .0) a)
 
   pub below-before : (a b : ℕ) → below (view u) a b ≡ below v a b
   unfolding below
@@ -192,10 +195,10 @@ module _ {k from : ℕ} {P : ℕ → Type 0} (t u w : Table) (s : Sane t) (r : S
     where
       alive-mid : Lives (view u) i → process w i ≡ with-parent (over k (process t i)) (view w .parent i)
       alive-mid l =
-          let (a, b) = x .kin i (taken-mid i h) in
+          let (a, b, z) = x .kin i (taken-mid i h) in
           let c : is-ended (process u i .state) ≡ false = isnt-so (not-ended (view u) i l) in
           let d : is-ended (process t i .state) ≡ false = isnt-so (not-ended (view t) i (x .lives i l)) in
-          y .ended i h o ∙ rw (c, d) (ap₂ (λ own pids. with-parent (as-ended (record { own = own; children = process t i .children; parent = process t i .parent; state = process t i .state; handled = process t i .handled; pending = process t i .pending; pids = pids }) (Signaled k)) (view w .parent i)) a b)
+          y .ended i h o ∙ rw (c, d) (λ j. record { own = a j; children = record { 0 = no-slot }; parent = record { 0 = view w .parent i }; state = Ended (Signaled k); traits = z j; pids = b j })
 
   both-removed : (i : ℕ) → Taken (view t) i → (Taken (view w) i → ⊥) → (m : ℕ) × Fell t w m × Seen (view t) m i × Seen (view t) m (view t .parent i)
   both-removed i h o =
@@ -217,7 +220,7 @@ module _ {k from : ℕ} {P : ℕ → Type 0} (t u w : Table) (s : Sane t) (r : S
   pub trace-trans : Trace k from P t w
   trace-trans =
       record {
-        kin = λ i h. let (a, b) = y .kin i h in let (c, d) = x .kin i (taken-mid i h) in (a ∙ c, b ∙ d);
+        kin = λ i h. let (a, b, e) = y .kin i h in let (c, d, g) = x .kin i (taken-mid i h) in (a ∙ c, b ∙ d, e ∙ g);
         lives = λ i l. x .lives i (y .lives i l);
         ups = y .ups ∙ x .ups;
         levels = y .levels ∙ x .levels;
@@ -256,7 +259,7 @@ over-same k t i h o = ⊎-elim (λ l. absurd (o l)) (λ (e : So (is-ended (proce
 pub trace-refl : (k from : ℕ) (P : ℕ → Type 0) (t : Table) → Sane t → Trace k from P t t
 trace-refl k from P t s =
     record {
-      kin = λ i h. (refl, refl);
+      kin = λ i h. (refl, refl, refl);
       lives = λ i l. l;
       ups = refl;
       levels = refl;

@@ -1,5 +1,5 @@
 -- "Below" at every point of a call.
-use Prim.Native.Nat.{ℕ, zero, suc, _≤_, _-_}
+use Prim.Native.Nat.{ℕ, zero, suc, _<_, _≤_, _-_}
 use native.Mathlib.Decide.{ℕ-discrete}
 use native.Mathlib.Omega.{arith}
 use mathlib.Core.Bool.{So}
@@ -7,12 +7,12 @@ use mathlib.Core.Logic.{_⊎_, inl, inr, ⊎-elim}
 use mathlib.Core.Path.{_≡_, refl, sym, ap, subst}
 use borrow.Author.Tests.{eq-eqb, ne-eqb, eqb-true}
 use lib.Dec.{eqb}
-use Rattle.rules.proofs.Laws.Facts.{Facts, Taken, Lives, Stands, Below, Other, lives-or-ended}
+use Rattle.rules.proofs.Laws.Facts.{Facts, Taken, Lives, Stands, Below, Other, hold-cases}
 use Rattle.rules.proofs.Laws.Tests.{or-true}
 use Rattle.rules.proofs.Laws.Tree as Tree
 use Rattle.rules.proofs.Laws.Tree.{Stepwise, climb-step, climb-cases}
-use Rattle.table.specs.Limits.{deepest, no-slot}
-use Rattle.rules.specs.Read.{View, above-at, below, climb, namespace-taken, up-by}
+use Rattle.table.specs.Limits.{deepest, hold-slots}
+use Rattle.rules.specs.Read.{View, above-at, below, climb, namespace-taken, up-by, children}
 use Rattle.table.specs.Tests.{_or_}
 
 -- one with a level is a namespace, and not the root
@@ -65,12 +65,12 @@ module _ (v : View) (p : Facts v) where
       go zero e = e
       go (suc k) e = absurd (o (deep-namespace v n k e))
 
-  -- what lies below, by what a process holds for its children, is a namespace
-  pub below-child : (i n : ℕ) → Taken v i → Stands v n → Below v (v .children i) n → Stands v (v .children i)
-  below-child i n t s h =
-      ⊎-elim (λ a. p .children i t a .0)
-      (λ e. let q : v .children i ≡ no-slot = p .ended-bare i t e .0 .0 in absurd (omega (arith, p .in-namespace n s, shallow-below v _ n (no-level (v .children i) (λ k. omega (arith, p .in-namespace (v .children i) k))) h)))
-      (lives-or-ended v i t)
+  -- what lies below, of what a process holds, is a namespace
+  pub below-hold : (i n k : ℕ) → Taken v i → Stands v n → k < hold-slots → Below v (v .hold i k) n → Stands v (v .hold i k)
+  below-hold i n k t s l h =
+      ⊎-elim (λ a. a)
+      (λ q. absurd (omega (arith, q, p .in-namespace n s, shallow-below v _ n (no-level (v .hold i k) (λ k. omega (arith, q, p .in-namespace _ k))) h)))
+      (hold-cases v p i t k l)
 
   -- what lies below has the same level or a greater one
   pub below-level : (a n : ℕ) → Below v a n → v .level n ≤ v .level a
@@ -142,9 +142,9 @@ module _ (v : View) (p : Facts v) where
       go (no o) = p .tree n s o .1
 
   -- nothing lies below the deepest level: the children of a living process there are born into its own namespace
-  pub deepest-home : (i : ℕ) → Taken v i → Lives v i → v .level (v .own i) ≡ deepest → v .children i ≡ v .own i
+  pub deepest-home : (i : ℕ) → Taken v i → Lives v i → v .level (v .own i) ≡ deepest → children v i ≡ v .own i
   deepest-home i t l e =
       let (s, b) = p .children i t l in
       ⊎-elim (λ q. q)
       (λ (m, x, o, u, z). absurd (omega (arith, p .tree m x o .0 .1, ap (v .level) u, level-deepest m x)))
-      (last-step (v .children i) (v .own i) s b)
+      (last-step (children v i) (v .own i) s b)

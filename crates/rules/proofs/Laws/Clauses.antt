@@ -23,8 +23,7 @@ pub record Sound (v : View) : Type 0 where
   pub parents : So (S.parents v)
   pub first-parents : So (S.first-parents v)
   pub children-namespaces : So (S.children-namespaces v)
-  pub handled-signals : So (S.handled-signals v)
-  pub pending-signals : So (S.pending-signals v)
+  pub process-traits : So (S.process-traits v)
   pub ended-bare : So (S.ended-bare v)
   pub ends-kept : So (S.ends-kept v)
   pub namespaces-held : So (S.namespaces-held v)
@@ -33,9 +32,9 @@ pub record Sound (v : View) : Type 0 where
 pub sound-is : (v : View) → So (sound-view v) → Sound v
 unfolding sound-view
 sound-is v h =
-    let (((((((((((((((((((((root-process, have-parents), root-namespace), inits), empty-slots), namespace-tree), below-dead), unborn-namespaces), last-pids), pid-range), pids-differ), first-pids), dead-members), unborn-members), parents), first-parents), children-namespaces), handled-signals), pending-signals), ended-bare), ends-kept), namespaces-held) = simp tests at h in
-    record { root-process = root-process; have-parents = have-parents; root-namespace = root-namespace; inits = inits; empty-slots = empty-slots; namespace-tree = namespace-tree; below-dead = below-dead; unborn-namespaces = unborn-namespaces; last-pids = last-pids; pid-range = pid-range; pids-differ = pids-differ; first-pids = first-pids; dead-members = dead-members; unborn-members = unborn-members; parents = parents; first-parents = first-parents; children-namespaces = children-namespaces; handled-signals = handled-signals; pending-signals = pending-signals; ended-bare = ended-bare; ends-kept = ends-kept; namespaces-held = namespaces-held }
+    let ((((((((((((((((((((root-process, have-parents), root-namespace), inits), empty-slots), namespace-tree), below-dead), unborn-namespaces), last-pids), pid-range), pids-differ), first-pids), dead-members), unborn-members), parents), first-parents), children-namespaces), process-traits), ended-bare), ends-kept), namespaces-held) = simp tests at h in
+    record { root-process = root-process; have-parents = have-parents; root-namespace = root-namespace; inits = inits; empty-slots = empty-slots; namespace-tree = namespace-tree; below-dead = below-dead; unborn-namespaces = unborn-namespaces; last-pids = last-pids; pid-range = pid-range; pids-differ = pids-differ; first-pids = first-pids; dead-members = dead-members; unborn-members = unborn-members; parents = parents; first-parents = first-parents; children-namespaces = children-namespaces; process-traits = process-traits; ended-bare = ended-bare; ends-kept = ends-kept; namespaces-held = namespaces-held }
 
 pub is-sound : (v : View) → Sound v → So (sound-view v)
 unfolding sound-view
-is-sound v s = simp tests (((((((((((((((((((((s .root-process, s .have-parents), s .root-namespace), s .inits), s .empty-slots), s .namespace-tree), s .below-dead), s .unborn-namespaces), s .last-pids), s .pid-range), s .pids-differ), s .first-pids), s .dead-members), s .unborn-members), s .parents), s .first-parents), s .children-namespaces), s .handled-signals), s .pending-signals), s .ended-bare), s .ends-kept), s .namespaces-held)
+is-sound v s = simp tests ((((((((((((((((((((s .root-process, s .have-parents), s .root-namespace), s .inits), s .empty-slots), s .namespace-tree), s .below-dead), s .unborn-namespaces), s .last-pids), s .pid-range), s .pids-differ), s .first-pids), s .dead-members), s .unborn-members), s .parents), s .first-parents), s .children-namespaces), s .process-traits), s .ended-bare), s .ends-kept), s .namespaces-held)

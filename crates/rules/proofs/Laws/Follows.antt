@@ -4,12 +4,12 @@ use native.Mathlib.Omega.{arith}
 use mathlib.Core.Bool.{So, Bool}
 use mathlib.Core.Path.{_≡_, refl, sym, _∙_, ap, subst}
 use Rattle.rules.proofs.Laws.Clauses.{is-sound}
-use Rattle.rules.proofs.Laws.Facts.{Stands, Taken, Other, Past, in-range, in-namespace, is-seen, past-of}
+use Rattle.rules.proofs.Laws.Facts.{Stands, Taken, Other, Past, in-range, is-seen, past-of, in-namespace}
 use Rattle.rules.proofs.Laws.Tests.{dead-otherwise, tests}
 use Rattle.rules.proofs.Laws.Tree.{below-refl}
-use Rattle.table.specs.Limits.{namespace-slots, no-slot}
+use Rattle.table.specs.Limits.{namespace-slots, no-slot, hold-slots}
 use Rattle.rules.specs.Read.{View, living, pid-seen, dead, unborn, alive, init, below, view}
-use Rattle.rules.specs.Sound.{root-process, have-parents, inits, below-dead, holds, unborn-namespace, unborn-namespaces, first-pids, dead-members, unborn-members, parents, first-parents, ended-bare, sound, root-namespace, empty-slots, namespace-tree, last-pids, pid-range, pids-differ, children-namespaces, handled-signals, pending-signals, ends-kept, namespaces-held, shaped}
+use Rattle.rules.specs.Sound.{root-process, have-parents, inits, below-dead, holds, unborn-namespace, unborn-namespaces, first-pids, dead-members, unborn-members, parents, first-parents, ended-bare, sound, root-namespace, empty-slots, namespace-tree, last-pids, pid-range, pids-differ, children-namespaces, ends-kept, namespaces-held, shaped, process-traits}
 use Rattle.table.specs.Tests.{one, _and_}
 use Rattle.table.specs.declared.Table.{Table}
 
@@ -33,8 +33,8 @@ module _ (v : View) (r : Past v) (u : So (unborn-namespaces v)) (d : So (dead-me
         let q = (simp tests at u) n l s b in
         let (i, m, x) = q .0 .1 in
         let o : v .own i ≡ v .up n = q .1 i m (x .0) in
-        let k : v .children i ≡ no-slot = (simp tests at e) i m (x .0 .0) (ended i (x .0 .0) (subst (λ y. So (dead v y)) (sym o) z)) .0 .0 in
-        omega (arith, k, x .0 .1)
+        let k : (j : ℕ) → j < hold-slots → v .hold i j ≡ no-slot = (simp tests at e) i m (x .0 .0) (ended i (x .0 .0) (subst (λ y. So (dead v y)) (sym o) z)) .0 in
+        omega (arith, k (x .0 .1 .0) (x .0 .1 .1), x .0 .1 .2)
 
     not-alive : (n : ℕ) → n < namespace-slots → Stands v n → Other n → So (dead v (v .up n)) → So (alive v n) → ⊥
     unfolding inits first-pids parents first-parents have-parents root-process living pid-seen
@@ -55,35 +55,34 @@ module _ (v : View) (r : Past v) (u : So (unborn-namespaces v)) (d : So (dead-me
 -- the sentences but these two
 abbrev pub the-others : View → Bool
 the-others v =
-    root-process v and have-parents v and root-namespace v and inits v and empty-slots v and namespace-tree v and unborn-namespaces v and last-pids v and pid-range v and pids-differ v and first-pids v and dead-members v and parents v and first-parents v and children-namespaces v and handled-signals v and pending-signals v and ended-bare v and ends-kept v and namespaces-held v
+    root-process v and have-parents v and root-namespace v and inits v and empty-slots v and namespace-tree v and unborn-namespaces v and last-pids v and pid-range v and pids-differ v and first-pids v and dead-members v and parents v and first-parents v and children-namespaces v and process-traits v and ended-bare v and ends-kept v and namespaces-held v
 
 -- A table of the declared type that meets the others is sound.
 pub others-suffice : (t : Table) → So (shaped t) → So (the-others (view t)) → So (sound t)
 others-suffice t g h =
-    let (((((((((((((((((((x0, x1), x2), x3), x4), x5), x6), x7), x8), x9), x10), x11), x12), x13), x14), x15), x16), x17), x18), x19) = simp tests at h in
+    let ((((((((((((((((((has-root-process, has-have-parents), has-root-namespace), has-inits), has-empty-slots), has-namespace-tree), has-unborn-namespaces), has-last-pids), has-pid-range), has-pids-differ), has-first-pids), has-dead-members), has-parents), has-first-parents), has-children-namespaces), has-process-traits), has-ended-bare), has-ends-kept), has-namespaces-held) = simp tests at h in
     let r = past-of t g in
     is-sound (view t)
     (record {
-      root-process = x0;
-      have-parents = x1;
-      root-namespace = x2;
-      inits = x3;
-      empty-slots = x4;
-      namespace-tree = x5;
-      below-dead = below-dead-follows (view t) r x6 x11 x0 x1 x3 x10 x12 x13 x17;
-      unborn-namespaces = x6;
-      last-pids = x7;
-      pid-range = x8;
-      pids-differ = x9;
-      first-pids = x10;
-      dead-members = x11;
-      unborn-members = unborn-members-follow (view t) r x6 x11;
-      parents = x12;
-      first-parents = x13;
-      children-namespaces = x14;
-      handled-signals = x15;
-      pending-signals = x16;
-      ended-bare = x17;
-      ends-kept = x18;
-      namespaces-held = x19;
+      root-process = has-root-process;
+      have-parents = has-have-parents;
+      root-namespace = has-root-namespace;
+      inits = has-inits;
+      empty-slots = has-empty-slots;
+      namespace-tree = has-namespace-tree;
+      below-dead = below-dead-follows (view t) r has-unborn-namespaces has-dead-members has-root-process has-have-parents has-inits has-first-pids has-parents has-first-parents has-ended-bare;
+      unborn-namespaces = has-unborn-namespaces;
+      last-pids = has-last-pids;
+      pid-range = has-pid-range;
+      pids-differ = has-pids-differ;
+      first-pids = has-first-pids;
+      dead-members = has-dead-members;
+      unborn-members = unborn-members-follow (view t) r has-unborn-namespaces has-dead-members;
+      parents = has-parents;
+      first-parents = has-first-parents;
+      children-namespaces = has-children-namespaces;
+      process-traits = has-process-traits;
+      ended-bare = has-ended-bare;
+      ends-kept = has-ends-kept;
+      namespaces-held = has-namespaces-held;
     })

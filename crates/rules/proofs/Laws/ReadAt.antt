@@ -8,19 +8,18 @@ use lib.ListN.{getD, replicate}
 use Rattle.table.specs.Fresh.{empty-process}
 use Rattle.table.specs.Limits.{levels}
 use Rattle.table.specs.Slots.{no-pid, no-process, pid-at, is-ended}
-use Rattle.rules.specs.Read.{View, view, taken}
+use Rattle.rules.specs.Read.{View, view, taken, children}
 use Rattle.table.specs.declared.Process.{Process}
 use Rattle.table.specs.declared.Table.{Table}
 
 -- p reads as the process at slot i
 pub record ReadAt (v : View) (i : ℕ) (p : Process) : Type 0 where
   pub own : p .own .0 ≡ v .own i
-  pub children : p .children .0 ≡ v .children i
+  pub children : p .children .0 ≡ children v i
   pub parent : p .parent .0 ≡ v .parent i
   pub state : p .state ≡ v .state i
   pub ended : is-ended (p .state) ≡ v .ended i
-  pub handled : p .handled ≡ v .handled i
-  pub pending : p .pending ≡ v .pending i
+  pub traits : p .traits ≡ v .traits i
   pub pid : (l : ℕ) → pid-at p l ≡ v .pid i l
   pub taken : not (eqb (pid-at p 0) 0) ≡ taken v i
 
@@ -47,8 +46,7 @@ read-at t i p e =
       parent = ap (λ q. q .parent .0) e ∙ alike (λ q. q .parent .0) refl (t .processes) i;
       state = ap (λ q. q .state) e ∙ alike (λ q. q .state) refl (t .processes) i;
       ended = ap (λ q. is-ended (q .state)) e ∙ alike (λ q. is-ended (q .state)) refl (t .processes) i;
-      handled = ap (λ q. q .handled) e ∙ alike (λ q. q .handled) refl (t .processes) i;
-      pending = ap (λ q. q .pending) e ∙ alike (λ q. q .pending) refl (t .processes) i;
+      traits = ap (λ q. q .traits) e ∙ alike (λ q. q .traits) refl (t .processes) i;
       pid = pid;
       taken = ap (λ k. not (eqb k 0)) (pid 0);
     }

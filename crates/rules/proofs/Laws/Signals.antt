@@ -7,7 +7,7 @@ use mathlib.Core.Bool.{false, So, false≢true}
 use mathlib.Core.Path.{_≡_, refl, _∙_, ap, sym, subst}
 use borrow.Author.Tests.{eq-eqb, ne-eqb}
 use lib.Dec.{eqb}
-use Rattle.rules.proofs.Laws.Facts.{SignalsOk}
+use Rattle.table.specs.Limits.{signals}
 use Rattle.table.specs.SignalSets.{has, with-signal, without-signal}
 
 -- what is in a set with a signal more, or one less
@@ -49,6 +49,10 @@ without-signal-le m (suc s) = omega (arith, without-signal-le (m / 2) s)
 
 -- ---- the sets of signals that handle and poll make
 
+-- the two sets as a sound table has them
+abbrev pub SignalsOk : ℕ → ℕ → Type 0
+SignalsOk h q = (((So (has h 0) → ⊥) × (So (has h 9) → ⊥)) × (So (has h 19) → ⊥)) × ((s : ℕ) → s < signals → So (has q s) → So (has h s))
+
 no-bits : (s : ℕ) → So (has 0 s) → ⊥
 unfolding has
 no-bits zero h = false≢true h
@@ -63,6 +67,14 @@ has-less q s b y = go (ℕ-discrete b s)
     go : Dec (b ≡ s) → (b ≡ s → ⊥) × So (has q b)
     go (yes e) = absurd (false≢true (sym (has-without-same q s) ∙ subst (λ n. So (has (without-signal q s) n)) e y))
     go (no o) = (o, sym (has-without-other q s b o) ∙ y)
+
+-- a handled signal may be pending
+pub pend-ok : (h q s : ℕ) → SignalsOk h q → So (has h s) → SignalsOk h (with-signal q s)
+pend-ok h q s k x = (k .0, λ b l y. go b l y (ℕ-discrete b s))
+  where
+    go : (b : ℕ) → b < signals → So (has (with-signal q s) b) → Dec (b ≡ s) → So (has h b)
+    go b l y (yes e) = subst (λ n. So (has h n)) (sym e) x
+    go b l y (no o) = k .1 b l (sym (has-with-other q s b o) ∙ y)
 
 -- what poll and handle make of the two sets is fit
 pub poll-ok : (h q s : ℕ) → SignalsOk h q → SignalsOk h (without-signal q s)

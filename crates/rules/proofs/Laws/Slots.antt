@@ -3,15 +3,15 @@ use Prim.Native.Nat.{ℕ, zero, suc, pred, _-_, _<_, _≤_}
 use native.Mathlib.Decide.{ℕ-discrete}
 use native.Mathlib.Omega.{arith}
 use mathlib.Core.Bool.{Bool, true, false, So, false≢true}
-use mathlib.Core.Logic.{_⊎_, inl, inr, ⊎-elim}
+use mathlib.Core.Logic.{⊎-elim}
 use mathlib.Core.Path.{_≡_, refl, sym, _∙_, ap, subst}
 use borrow.Author.Tests.{eq-eqb, eqb-true, eqb-false, leb-true, le-leb, lt-leb}
 use lib.Dec.{eqb}
 use Rattle.rules.proofs.Laws.Below.{deep-namespace, up-level, not-root, level-deepest, below-trans}
-use Rattle.rules.proofs.Laws.Facts.{Facts, lives-or-ended, lives-taken}
+use Rattle.rules.proofs.Laws.Facts.{Facts, lives-taken}
 use Rattle.rules.proofs.Laws.Tests.{isnt-so, no-so, left, right, cases, isnt, both}
 use Rattle.rules.proofs.Laws.Tree.{below-refl}
-use Rattle.table.specs.Limits.{levels, no-slot}
+use Rattle.table.specs.Limits.{levels}
 use Rattle.table.specs.Slots.{is-alive, is-dead, is-unborn}
 use Rattle.rules.specs.Read.{View, alive, below, climb, dead, init, living, namespace-taken, pid-seen, seen, taken, unborn, up-by}
 use Rattle.rules.specs.Sound.{zero-namespace}
@@ -167,7 +167,7 @@ module _ (v : View) (f : Facts v) where
 
   -- a living namespace's init is seen from it and from every one above
   pub init-seen : (n m : ℕ) → So (alive v n) → So (below v n m) → So (seen v m (init v n))
-  unfolding seen
+  unfolding seen taken
   init-seen n m a h = both _ _ (init-taken n a) (subst (λ x. So (below v x m)) (sym (init-own n a)) h)
 
   pub init-pid : (n : ℕ) → So (alive v n) → pid-seen v n (init v n) ≡ 1
@@ -216,13 +216,9 @@ module _ (v : View) (f : Facts v) where
   pub pid-zero : (i l : ℕ) → So (taken v i) → l < levels → v .level (v .own i) < l → v .pid i l ≡ 0
   pid-zero i l h k m = eqb-true _ _ (rw (lt-leb l (v .level (v .own i)) m) at (f .pid-range i h l k))
 
--- a process holds a namespace for its children, or none
-pub children-of : (v : View) (f : Facts v) (i : ℕ) → So (taken v i) → So (namespace-taken v (v .children i)) ⊎ (v .children i ≡ no-slot)
-children-of v f i h = ⊎-elim (λ l. inl (f .children i h l .0)) (λ e. inr (f .ended-bare i h e .0 .0)) (lives-or-ended v i h)
-
 -- who sees a parent sees the child
 pub child-seen : (v : View) (f : Facts v) (n i : ℕ) → So (taken v i) → So (seen v n (v .parent i)) → So (seen v n i)
-unfolding seen
+unfolding seen taken
 child-seen v f n i h k = go (ℕ-discrete i 0)
   where
     go : Dec (i ≡ 0) → So (taken v i and below v (v .own i) n)

@@ -1,5 +1,5 @@
 -- A row of four tests.
-use Rattle.sound.proofs.Rows.{row-4, atoms}
+use Rattle.sound.proofs.Rows.{by-row, row}
 use Rattle.sound.specs.Quick.{living-ok}
 use borrow.Author.Needs.{needs}
 use Rattle.sound.proofs.living_ok.Statement.{statement}
@@ -10,28 +10,28 @@ is-dead-requires c κs = search needs
 
 returns : tie.Need-returns
 unfolding living-ok
-returns c = search (row-4, atoms)
+returns c = by-row _ _ (search row depth 20)
 
 holds-namespace-requires : tie.Need-holds-namespace-requires
 holds-namespace-requires c κs = search needs
 
 returns-2 : tie.Need-returns-2
 unfolding living-ok
-returns-2 c = search (row-4, atoms)
+returns-2 c = by-row _ _ (search row depth 20)
 
 below-requires : tie.Need-below-requires
 below-requires c κs = search needs
 
 returns-3 : tie.Need-returns-3
 unfolding living-ok
-returns-3 c = search (row-4, atoms)
+returns-3 c = by-row _ _ (search row depth 20)
 
 holds-rightly-requires : tie.Need-holds-rightly-requires
 holds-rightly-requires c κs = search needs
 
 returns-4 : tie.Need-returns-4
 unfolding living-ok
-returns-4 c = search (row-4, atoms)
+returns-4 c = by-row _ _ (search row depth 20)
 
 pub living-ok-spec : {M : Type 1} → statement M
 living-ok-spec =

@@ -1,5 +1,5 @@
 -- A row of six tests.
-use Rattle.sound.proofs.Rows.{row-6, atoms}
+use Rattle.sound.proofs.Rows.{by-row, row}
 use Rattle.sound.specs.Quick.{member-ok}
 use borrow.Author.Needs.{needs}
 use Rattle.sound.proofs.member_ok.Statement.{statement}
@@ -10,42 +10,42 @@ holds-namespace-requires c κs = search needs
 
 returns : tie.Need-returns
 unfolding member-ok
-returns c = search (row-6, atoms)
+returns c = by-row _ _ (search row depth 20)
 
 is-unborn-requires : tie.Need-is-unborn-requires
 is-unborn-requires c κs = search needs
 
 returns-2 : tie.Need-returns-2
 unfolding member-ok
-returns-2 c = search (row-6, atoms)
+returns-2 c = by-row _ _ (search row depth 20)
 
 end-ok-requires : tie.Need-end-ok-requires
 end-ok-requires c κs = search needs
 
 returns-3 : tie.Need-returns-3
 unfolding member-ok
-returns-3 c = search (row-6, atoms)
+returns-3 c = by-row _ _ (search row depth 20)
 
-signals-ok-requires : tie.Need-signals-ok-requires
-signals-ok-requires c κs = search needs
+traits-ok-requires : tie.Need-traits-ok-requires
+traits-ok-requires c κs = search needs
 
 returns-4 : tie.Need-returns-4
 unfolding member-ok
-returns-4 c = search (row-6, atoms)
+returns-4 c = by-row _ _ (search row depth 20)
 
 pids-ok-requires : tie.Need-pids-ok-requires
 pids-ok-requires c κs = search needs
 
 returns-5 : tie.Need-returns-5
 unfolding member-ok
-returns-5 c = search (row-6, atoms)
+returns-5 c = by-row _ _ (search row depth 20)
 
 state-ok-requires : tie.Need-state-ok-requires
 state-ok-requires c κs = search needs
 
 returns-6 : tie.Need-returns-6
 unfolding member-ok
-returns-6 c = search (row-6, atoms)
+returns-6 c = by-row _ _ (search row depth 20)
 
 pub member-ok-spec : {M : Type 1} → statement M
 member-ok-spec =
@@ -57,7 +57,7 @@ member-ok-spec =
     returns-2
     end-ok-requires
     returns-3
-    signals-ok-requires
+    traits-ok-requires
     returns-4
     pids-ok-requires
     returns-5

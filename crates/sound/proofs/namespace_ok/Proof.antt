@@ -1,5 +1,5 @@
 -- A row of three tests.
-use Rattle.sound.proofs.Rows.{row-3, atoms, told-agree}
+use Rattle.sound.proofs.Rows.{by-row, row}
 use Rattle.sound.specs.Quick.{namespace-ok}
 use borrow.Author.Needs.{needs}
 use Rattle.sound.proofs.namespace_ok.Statement.{statement}
@@ -7,7 +7,7 @@ use Rattle.sound.proofs.namespace_ok.Tie as tie
 
 returns : tie.Need-returns
 unfolding namespace-ok
-returns c = search (row-3, atoms, told-agree)
+returns c = by-row _ _ (search row depth 20)
 
 holds-namespace-requires : tie.Need-holds-namespace-requires
 holds-namespace-requires c κs = search needs
@@ -17,14 +17,14 @@ both-or-neither-requires c κs = search needs
 
 returns-2 : tie.Need-returns-2
 unfolding namespace-ok
-returns-2 c = search (row-3, atoms, told-agree)
+returns-2 c = by-row _ _ (search row depth 20)
 
 filled-ok-requires : tie.Need-filled-ok-requires
 filled-ok-requires c κs = search needs
 
 returns-3 : tie.Need-returns-3
 unfolding namespace-ok
-returns-3 c = search (row-3, atoms, told-agree)
+returns-3 c = by-row _ _ (search row depth 20)
 
 pub namespace-ok-spec : {M : Type 1} → statement M
 namespace-ok-spec =

@@ -1,5 +1,5 @@
 -- A row of four tests.
-use Rattle.sound.proofs.Rows.{row-4, atoms}
+use Rattle.sound.proofs.Rows.{by-row, row}
 use Rattle.sound.specs.Quick.{parent-ok}
 use borrow.Author.Needs.{needs}
 use Rattle.sound.proofs.parent_ok.Statement.{statement}
@@ -10,28 +10,28 @@ is-taken-requires c κs = search needs
 
 returns : tie.Need-returns
 unfolding parent-ok
-returns c = search (row-4, atoms)
+returns c = by-row _ _ (search row depth 20)
 
 has-ended-requires : tie.Need-has-ended-requires
 has-ended-requires c κs = search needs
 
 returns-2 : tie.Need-returns-2
 unfolding parent-ok
-returns-2 c = search (row-4, atoms)
+returns-2 c = by-row _ _ (search row depth 20)
 
 below-requires : tie.Need-below-requires
 below-requires c κs = search needs
 
 returns-3 : tie.Need-returns-3
 unfolding parent-ok
-returns-3 c = search (row-4, atoms)
+returns-3 c = by-row _ _ (search row depth 20)
 
 first-ok-requires : tie.Need-first-ok-requires
 first-ok-requires c κs = search needs
 
 returns-4 : tie.Need-returns-4
 unfolding parent-ok
-returns-4 c = search (row-4, atoms)
+returns-4 c = by-row _ _ (search row depth 20)
 
 pub parent-ok-spec : {M : Type 1} → statement M
 parent-ok-spec =

@@ -3,7 +3,7 @@ use borrow.Author.Needs.{needs}
 use mathlib.Core.Logic.{⊎-elim}
 use mathlib.Core.Path.{_≡_, ap}
 use Rattle.table.specs.Slots.{process, namespace}
-use Rattle.rules.specs.Read.{view}
+use Rattle.rules.specs.Read.{view, children}
 use Prim.Native.Nat.{_-_}
 use Rattle.sound.proofs.Records.{namespace-past, process-past, process-reads}
 use Rattle.table.proofs.AllLoops.{Passed, all-starts, all-goes-on, all-fails, all-passes}
@@ -14,7 +14,7 @@ use Rattle.sound.proofs.processes_ok.Statement.{statement}
 use Rattle.sound.proofs.processes_ok.Tie as tie
 
 abbrev Inv-loop : tie.InvT-loop
-Inv-loop t up i₀ i = Passed process-slots (λ k. process-ok (view t .up) k (process-at (view t) k) (namespace-at (view t) (view t .own k)) (namespace-at (view t) (view t .children k)) (process-at (view t) (view t .parent k))) i
+Inv-loop t up i₀ i = Passed process-slots (λ k. process-ok (view t .up) k (process-at (view t) k) (namespace-at (view t) (view t .own k)) (namespace-at (view t) (children (view t) k)) (process-at (view t) (view t .parent k))) i
 
 abbrev μ-loop : tie.MeasureT-loop
 μ-loop t up i₀ i = process-slots - i

@@ -1,5 +1,5 @@
 -- The root, by the records at slot 0.
-use Rattle.sound.proofs.Rows.{row-2, atoms}
+use Rattle.sound.proofs.Rows.{by-row, row}
 use Rattle.rules.specs.Read.{taken, living}
 use Rattle.rules.specs.Sound.{root-process, root-namespace}
 use Rattle.sound.specs.Quick.{root-process-ok, root-namespace-ok}
@@ -18,14 +18,14 @@ root-process-ok-requires c κs = search needs
 
 returns : tie.Need-returns
 unfolding root-process root-namespace root-process-ok root-namespace-ok taken living
-returns c = search (row-2, atoms)
+returns c = by-row _ _ (search row depth 20)
 
 root-namespace-ok-requires : tie.Need-root-namespace-ok-requires
 root-namespace-ok-requires c κs = search needs
 
 returns-2 : tie.Need-returns-2
 unfolding root-process root-namespace root-process-ok root-namespace-ok taken living
-returns-2 c = search (row-2, atoms)
+returns-2 c = by-row _ _ (search row depth 20)
 
 pub root-ok-spec : {M : Type 1} → statement M
 root-ok-spec =

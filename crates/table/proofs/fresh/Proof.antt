@@ -21,7 +21,7 @@ array-set-from-namespaces c = search needs
 
 returns : tie.Need-returns
 unfolding fresh
-returns c = rw (c .before .before .empty-namespace .ensures, c .before .before .before .empty-process .ensures)
+returns c = rw (c .before .before .before .empty-namespace .ensures, c .before .before .before .before .empty-process .ensures)
 
 pub fresh-spec : {M : Type 1} → statement M
 fresh-spec =

@@ -1,14 +1,23 @@
 -- `exit` ends the caller, who lives, so the end is the definition's.
 use borrow.Author.Needs.{needs}
-use Rattle.waits.proofs.Waits.{exit-busy, exit-ends}
+use Rattle.waits.proofs.Waits.{exit-refused, exit-ends}
 use Rattle.waits.proofs.exit.Statement.{statement}
 use Rattle.waits.proofs.exit.Tie as tie
+
+may-exit-requires : tie.Need-may-exit-requires
+may-exit-requires c κs = search needs
+
+enum-known-verdict : tie.Need-enum-known-verdict
+enum-known-verdict c = search needs
 
 refused-requires : tie.Need-refused-requires
 refused-requires c κs = search needs
 
 returns : tie.Need-returns
-returns c = λ s q. search exit-busy
+returns c = λ s q. search exit-refused
+
+enum-told : tie.Need-enum-told
+enum-told c = search needs
 
 exit-status-requires : tie.Need-exit-status-requires
 exit-status-requires c κs = search needs
@@ -29,8 +38,11 @@ pub exit-spec : {M : Type 1} → statement M
 exit-spec =
     tie.close
     (tie.spec
+    may-exit-requires
+    enum-known-verdict
     refused-requires
     returns
+    enum-told
     exit-status-requires
     end-process-requires
     free-unheld-requires

@@ -1,17 +1,23 @@
 -- `wait` makes the tests of the definition, and goes by the state of the child that it found.
 use borrow.Author.Needs.{needs}
-use Rattle.waits.proofs.Waits.{wait-childless, wait-running, wait-stopped, wait-reaps}
+use Rattle.waits.proofs.Waits.{wait-refused, wait-running, wait-stopped, wait-reaps}
 use Rattle.waits.proofs.wait.Statement.{statement}
 use Rattle.waits.proofs.wait.Tie as tie
 
-has-child-requires : tie.Need-has-child-requires
-has-child-requires c κs = search needs
+may-wait-requires : tie.Need-may-wait-requires
+may-wait-requires c κs = search needs
+
+enum-known-verdict : tie.Need-enum-known-verdict
+enum-known-verdict c = search needs
 
 refused-requires : tie.Need-refused-requires
 refused-requires c κs = search needs
 
 returns : tie.Need-returns
-returns c = search wait-childless
+returns c = search wait-refused
+
+enum-told : tie.Need-enum-told
+enum-told c = search needs
 
 own-level-requires : tie.Need-own-level-requires
 own-level-requires c κs = search needs
@@ -22,14 +28,14 @@ first-ended-requires c κs = search needs
 process-requires : tie.Need-process-requires
 process-requires c κs = search needs
 
-enum-told : tie.Need-enum-told
-enum-told c = search needs
+enum-told-2 : tie.Need-enum-told-2
+enum-told-2 c = search needs
 
 answers-requires : tie.Need-answers-requires
 answers-requires c κs = search needs
 
-enum-told-2 : tie.Need-enum-told-2
-enum-told-2 c = search needs
+enum-told-3 : tie.Need-enum-told-3
+enum-told-3 c = search needs
 
 answers-requires-2 : tie.Need-answers-requires-2
 answers-requires-2 c κs = search needs
@@ -56,15 +62,17 @@ pub wait-spec : {M : Type 1} → statement M
 wait-spec =
     tie.close
     (tie.spec
-    has-child-requires
+    may-wait-requires
+    enum-known-verdict
     refused-requires
     returns
+    enum-told
     own-level-requires
     first-ended-requires
     process-requires
-    enum-told
-    answers-requires
     enum-told-2
+    answers-requires
+    enum-told-3
     answers-requires-2
     enum-known-state
     pid-at-requires

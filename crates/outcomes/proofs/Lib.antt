@@ -1,0 +1,2 @@
+-- What is proved about verdicts, beside each function's own proof.
+pub mod Verdicts
