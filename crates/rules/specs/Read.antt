@@ -4,7 +4,7 @@ use mathlib.Core.Bool.{Bool, true, false, not}
 use mathlib.Core.List.{List}
 use lib.Dec.{eqb}
 use Rattle.table.specs.Limits.{process-slots}
-use Rattle.table.specs.Tests.{_and_, _or_, if_then_else_, lowest, ascending}
+use Rattle.table.specs.Tests.{_and_, _or_, _implies_, if_then_else_, lowest, ascending}
 use Rattle.table.specs.Slots.{process, namespace, pid-at, hold-at, is-ended, is-unborn, is-alive, is-dead, init-of}
 use Rattle.table.specs.declared.Life.{Life}
 use Rattle.table.specs.declared.State.{State}
@@ -131,9 +131,9 @@ sees v n x = not (eqb (x .pid 0) 0) and below v (x .own) n
 abbrev pub number-in : View → ℕ → Numbers → ℕ
 number-in v n x = x .pid (v .level n)
 
--- x and y are both seen from n, by one number
-abbrev pub share : View → ℕ → Numbers → Numbers → Bool
-share v n x y = sees v n x and sees v n y and eqb (number-in v n x) (number-in v n y)
+-- y, if it is seen from n, is seen by another number than x
+abbrev pub unlike : View → ℕ → Numbers → Numbers → Bool
+unlike v n x y = sees v n y implies not (eqb (number-in v n x) (number-in v n y))
 
 -- From n one sees the processes of its subtree, ended ones too.
 unfoldable pub seen : View → ℕ → ℕ → Bool

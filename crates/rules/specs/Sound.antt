@@ -5,7 +5,7 @@ use lib.Dec.{eqb, leb, ltb}
 use lib.ListN.{length}
 use Rattle.table.specs.Limits.{process-slots, namespace-slots, levels, deepest, greatest-pid, no-slot, hold-slots, signals, statuses}
 use Rattle.table.specs.Slots.{process, is-running}
-use Rattle.rules.specs.Read.{View, view, taken, namespace-taken, living, children, alive, dead, unborn, init, below, seen, pid-seen, numbers, share}
+use Rattle.rules.specs.Read.{View, view, taken, namespace-taken, living, children, alive, dead, unborn, init, below, seen, pid-seen, numbers, unlike}
 use Rattle.table.specs.Tests.{_and_, _or_, _implies_, agree, if_then_else_, all, any, one}
 use Rattle.table.specs.declared.End.the-variants.{Exited, Signaled}
 use Rattle.table.specs.declared.State.{State}
@@ -103,7 +103,7 @@ pid-range v =
 unfoldable pub pids-differ : View → Bool
 pids-differ v =
     each-namespace v
-    (λ n. all process-slots (λ i. all i (λ j. not (share v n (numbers v i) (numbers v j)))))
+    (λ n. all process-slots (λ i. seen v n i implies all i (λ j. unlike v n (numbers v i) (numbers v j))))
 
 -- in a living namespace its init alone has 1.
 unfoldable pub first-pids : View → Bool

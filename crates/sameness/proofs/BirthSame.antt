@@ -25,14 +25,10 @@ use Rattle.rules.specs.Pids.{next-pid}
 use Rattle.table.specs.Slots.{init-of}
 use Rattle.rules.specs.Read.{View, above-at, alive, below, init, is-init, living, seen, taken, unborn, children}
 use Rattle.sameness.specs.Sheet.{Row, by-init, name, row}
+use Rattle.sameness.proofs.Names.{named-rows, children-named, values-same}
 use Rattle.table.specs.Tests.{if_then_else_, values}
 use Rattle.table.specs.declared.Life.{Life}
 use Rattle.table.specs.Traits.{born-traits}
-
-values-same : (f g : ℕ → ℕ) (n k : ℕ) → ((l : ℕ) → k ≤ l → l < k + n → f l ≡ g l) → values f n k ≡ values g n k
-unfolding values
-values-same f g zero k h = refl
-values-same f g (suc n) k h = ap₂ _∷_ (h k (omega arith) (omega arith)) (values-same f g n (suc k) (λ l a b. h l (omega arith) (omega arith)))
 
 left-pids : (v : View) (c n k i : ℕ) → eqb i k ≡ false → (a b : ℕ) → values (with-born v c n k .pid i) a b ≡ values (v .pid i) a b
 left-pids v c n k i e a b = ap (λ (f : ℕ → ℕ). values f a b) (fun-ext (λ l. rw e))
@@ -127,7 +123,7 @@ module _ {v u : View} {s r : ℕ} (w : Pair v u s r) {c d : ℕ} {n m k l : ℕ}
         by-test (eqb (children v i) n)
         (λ q. ap (name v′ s) (eqb-true _ _ q) ∙ cradle-name ∙ ap (name u′ r) (sym (eqb-true _ _ (sym same ∙ q))))
         (λ q. name-other a c s _ (children-taken (w .facts-v) i li) y (λ z. eqb-false _ _ q (sym z)) ∙ sym (name-other b d r _ (children-taken (w .facts-u) j lj) y′ (λ z. eqb-false _ _ (sym same ∙ q) (sym z)))))
-        (λ y. name-born a c s (children v i) y ∙ ap (λ (o : Row). o .children) rows ∙ sym (name-born b d r (children u j) (sym both-unborn ∙ y))))
+        (λ y. name-born a c s (children v i) y ∙ named-rows v u s r i j rows 0 (omega arith) ∙ sym (name-born b d r (children u j) (sym both-unborn ∙ y))))
 
     old-last : (if is-init v′ i then v′ .last (v′ .own i) else 0) ≡ (if is-init u′ j then u′ .last (u′ .own j) else 0)
     unfolding row
@@ -147,7 +143,7 @@ module _ {v u : View} {s r : ℕ} (w : Pair v u s r) {c d : ℕ} {n m k l : ℕ}
         row-by v′ u′ s r i j (left-pids v c n k i ei (levels - v .level s) (v .level s) ∙ ap (λ (o : Row). o .pids) rows ∙ sym (left-pids u d m l j ej (levels - u .level r) (u .level r))) (rw (ei, ej) (ap (λ (o : Row). o .state) rows)) (rw (ei, ej) (ap (λ (o : Row). o .traits) rows))
         (rw (ei, ej) (pid-in-grown a c s (v .parent i) (parent-old a i (taken-v x)) ∙ ap (λ (o : Row). o .parent) rows ∙ sym (pid-in-grown b d r (u .parent j) (parent-old b j (taken-u x)))))
         (rw (ei, ej) (name-born a c s (v .own i) (own-not-unborn v (w .facts-v) i (taken-v x)) ∙ ap (λ (o : Row). o .own) rows ∙ sym (name-born b d r (u .own j) (own-not-unborn u (w .facts-u) j (taken-u x)))))
-        (rw (ei, ej) old-children)
+        (children-named v′ u′ s r i j (rw (ei, ej) old-children))
         old-last
 
   new-pids : values (v′ .pid k) (levels - v .level s) (v .level s) ≡ values (u′ .pid l) (levels - u .level r) (u .level r)
@@ -177,7 +173,7 @@ module _ {v u : View} {s r : ℕ} (w : Pair v u s r) {c d : ℕ} {n m k l : ℕ}
       let el = eq-eqb l l refl in
       row-by v′ u′ s r k l new-pids (rw (ek, el)) (rw (ek, el) (ap (λ (o : Row). born-traits (o .traits)) (twin-rows w tc)))
       (rw (ek, el) (pid-in-grown a c s c (old a c c (taken-v tc)) ∙ pid-in-seen v s c (tc .seen-v) ∙ tc .pids ∙ sym (pid-in-grown b d r d (old b d d (taken-u tc)) ∙ pid-in-seen u r d (tc .seen-u))))
-      (rw (ek, el) cradle-name) (rw (ek, el) cradle-name) new-last
+      (rw (ek, el) cradle-name) (children-named v′ u′ s r k l (rw (ek, el) cradle-name)) new-last
 
   -- each row stands as it stood, and the children's rows are the same
   pub birth-same : Same v′ u′ s r

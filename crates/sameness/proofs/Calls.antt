@@ -16,7 +16,7 @@ use Rattle.sameness.proofs.Same.{Same, sheets-of-same}
 use Rattle.sameness.proofs.Twins.{Pair, Twin, Twins, twin-rows, owns, pid-twins}
 use Rattle.sameness.proofs.Cases.{by-test}
 use Rattle.sameness.proofs.Still.{same-still, put-still}
-use Rattle.sameness.proofs.Light.{shown, same-put}
+use Rattle.sameness.proofs.Light.{shown, same-put, shown-as}
 use Rattle.sameness.proofs.Readers.{parent-pid}
 use Rattle.rules.specs.Answers.{is-no-room, number-of, refusal-number, refused, answers, granted, is-refused}
 use Rattle.sameness.specs.Events.{at, follow, sheet-of, Place, gone, is-inside, outside}
@@ -240,7 +240,7 @@ module _ {t u : Table} {s r i j : ℕ} (w : Ready t u s r i j) where
   traits-kept x y k l q e h g =
       let z = shown t u (w .pair) (w .twin) in
       both-change w k l e h g (taken-s w) (taken-r w)
-      (same-put t u (w .pair) (w .twin) (w .sound-t .shape) (w .sound-u .shape) (record { states = z .states; traitss = q; childrens = z .childrens }) (refl, refl, refl) (refl, refl, refl))
+      (same-put t u (w .pair) (w .twin) (w .sound-t .shape) (w .sound-u .shape) (shown-as z (z .states) q) (refl, refl, refl) (refl, refl, refl))
 
 -- handle, and poll
 pub handle-same : (z : ℤ) (on : Bool) → GivesSame (Handle z on)

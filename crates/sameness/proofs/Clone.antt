@@ -1,4 +1,5 @@
 -- clone, plain and with a new namespace, and unshare: by twin callers, and by an outsider.
+use native.Mathlib.Omega.{arith}
 use Prim.Native.Nat.{ℕ, zero, suc}
 use mathlib.Core.Bool.{false, not, So, false≢true, true, Bool}
 use mathlib.Core.Logic.{inl, inr, ⊎-elim}
@@ -25,7 +26,7 @@ use Rattle.sameness.proofs.Readers.{children-names, children-unborn, ho
 use Rattle.sameness.proofs.Same.{Same, same-trans}
 use Rattle.sameness.proofs.Twins.{Pair, Twin, Twins, taken-v, taken-u, twins-named, twins-level, owns, flip-same}
 use Rattle.sameness.proofs.Freeing.{freed-alike, freed-leaves}
-use Rattle.sameness.proofs.Light.{shown, same-put}
+use Rattle.sameness.proofs.Light.{shown, same-put, shown-to}
 use Rattle.sameness.proofs.NewNamespace.{the-namespace, new-name, new-taken, new-still, new-unborn, not-held, same-free, new-outside}
 use Rattle.sameness.proofs.Still.{Still, near-here, same-still, stands-still, near, put-still}
 use Rattle.rules.specs.Answers.{answers, granted}
@@ -36,7 +37,7 @@ use Rattle.rules.specs.Claims.{place}
 use Rattle.rules.specs.Pids.{free-slot, free-namespace-slot, next-pid}
 use Rattle.table.specs.Slots.{is-dead, is-alive, process}
 use Rattle.rules.specs.Read.{View, dead, namespace-taken, unborn, view, pid-seen, below, seen, children, taken}
-use Rattle.sameness.specs.Sheet.{Row, name-by, row}
+use Rattle.sameness.specs.Sheet.{name-by, row}
 use Rattle.rules.specs.Sound.{SoundTable}
 use Rattle.table.specs.Tests.{_or_, if_then_else_}
 use Rattle.table.specs.declared.Answer.the-variants.{Number}
@@ -48,6 +49,7 @@ use Rattle.table.specs.declared.Table.{Table}
 use Rattle.table.specs.Records.{with-children}
 use Rattle.sameness.specs.Events.{namespace-inside}
 use Rattle.sameness.specs.Touches.{touched, clones-into}
+use Rattle.sameness.proofs.Names.{named-rows}
 
 -- ---- plain clone, by twin callers
 
@@ -98,7 +100,7 @@ module _ {t u : Table} {s r c d : ℕ} (w : Ready t u s r c d) where
   deads : dead (view t) (children (view t) c) ≡ dead (view u) (children (view u) d)
   unfolding row
   deads =
-      sym (ap is-dead-name (name-taken ft s _ hn) ∙ by-dead (view t) s _ _) ∙ ap (λ (q : Row). is-dead-name (q .children)) (the-rows w) ∙ ap is-dead-name (name-taken fu r _ hm) ∙ by-dead (view u) r _ _
+      sym (ap is-dead-name (name-taken ft s _ hn) ∙ by-dead (view t) s _ _) ∙ ap is-dead-name (named-rows _ _ _ _ _ _ (the-rows w) 0 (omega arith)) ∙ ap is-dead-name (name-taken fu r _ hm) ∙ by-dead (view u) r _ _
 
   unborns : unborn (view t) (children (view t) c) ≡ unborn (view u) (children (view u) d)
   unborns = children-unborn (w .pair) (w .twin) (runs-lives t c (w .runs-t))
@@ -195,7 +197,7 @@ module _ {t u : Table} {s r c d : ℕ} (w : Ready t u s r c d) (ot : own-level (
         refl,
         freed-alike t u a b (new-pair .alive-v) (new-pair .alive-u)
             (same-put tn un new-pair new-twin (gt .shape-of) (gu .shape-of)
-            (record { states = z .states; traitss = z .traitss; childrens = new-name st c rt s ∙ sym (new-name su d ru r) })
+            (shown-to z (new-name st c rt s ∙ sym (new-name su d ru r)))
             (refl, refl, refl) (refl, refl, refl)),
       )
 

@@ -24,6 +24,7 @@ use Rattle.table.specs.Limits.{no-slot, sigkill}
 use Rattle.table.specs.Slots.{init-of, is-alive}
 use Rattle.rules.specs.Read.{View, alive, below, init, namespace-taken, pid-in, seen, taken, child-of, is-init, living, unborn, children}
 use Rattle.sameness.specs.Sheet.{dead-at, name, name-by, nearest, row, Row}
+use Rattle.sameness.proofs.Names.{named-rows, children-named}
 use Rattle.table.specs.Tests.{if_then_else_, _and_}
 use Rattle.table.specs.declared.End.{End}
 use Rattle.table.specs.declared.Life.the-variants.{Dead}
@@ -175,7 +176,7 @@ module _ {v u : View} {s r : ℕ} (p : Pair v u s r) {x y : ℕ} (e : End) (k : 
         states = λ z. if slot z then Ended e else rows z .state;
         traitss = λ z. if slot z then ended-traits (rows z .traits) else rows z .traits;
         parents = parent-after (p .facts-v) x e s i ∙ (λ z. if slot z then rows z .parent else (if child z then reapers z else rows z .parent)) ∙ sym (parent-after (p .facts-u) y e r j);
-        childrens = children-after (p .facts-v) x e s i ∙ (λ z. if slot z then none z else rows z .children) ∙ sym (children-after (p .facts-u) y e r j);
+        holds = children-named _ _ s r i j (children-after (p .facts-v) x e s i ∙ (λ z. if slot z then none z else named-rows v u s r i j rows 0 (omega arith) z) ∙ sym (children-after (p .facts-u) y e r j));
         lasts = λ z. rows z .last;
       }
 
@@ -223,7 +224,7 @@ module _ {v u : View} {s r : ℕ} (p : Pair v u s r) {x y : ℕ} (e : End) (k : 
       let lj = sym (living-twins p m) ∙ li in
       let a = unborn-outside (p .facts-v) _ i li z (tops .lives-v) o in
       let b = unborn-outside (p .facts-u) _ j lj (sym (children-unborn p m li) ∙ z) (tops .lives-u) (sym (sees m) ∙ o) in
-      either-name _ _ (ap (λ (o : Row). o .children) (twin-rows p m)) (children-taken (p .facts-v) i li) (children-taken (p .facts-u) j lj) (a ∙ sym b) (λ h. absurd (no-so a h)))
+      either-name _ _ (named-rows v u s r i j (twin-rows p m) 0 (omega arith)) (children-taken (p .facts-v) i li) (children-taken (p .facts-u) j lj) (a ∙ sym b) (λ h. absurd (no-so a h)))
       (λ z. namesakes (children-names p m li z))
 
   child-names : {i j : ℕ} → Twin v u s r i j → name v′ s (if seen v (v .own x) i then no-slot else children v i) ≡ name u′ r (if seen u (u .own y) j then no-slot else children u j)
@@ -250,7 +251,7 @@ module _ {v u : View} {s r : ℕ} (p : Pair v u s r) {x y : ℕ} (e : End) (k : 
       (λ z. if going z then no-traits else (if sees m z then ended-traits (rows z .traits) else rows z .traits))
       (parent-left (p .facts-v) x e s i (taken-v m) q ∙ ap (λ (o : Row). o .parent) rows ∙ sym (parent-left (p .facts-u) y e r j (taken-u m) q′))
       (rw (here v x i q, here u y j q′) (namesakes (own-names p m)))
-      (rw (here v x i q, here u y j q′) (child-names m))
+      (children-named v′ u′ s r i j (rw (here v x i q, here u y j q′) (child-names m)))
       (last-left (p .facts-v) x e i (taken-v m) q ∙ (λ z. if below-named p (own-names p m) tops z then 0 else rows z .last) ∙ sym (last-left (p .facts-u) y e j (taken-u m) q′))
 
   -- each row that stays is the same on both

@@ -1,11 +1,12 @@
 -- Freeing the namespaces that nobody holds leaves the sheet of S.
+use native.Mathlib.Omega.{arith}
 use Prim.Native.Nat.{ℕ}
 use mathlib.Core.Bool.{false, So, false≢true}
 use mathlib.Core.List.{List, _∷_, map, []}
 use mathlib.Core.Logic.{inl, ⊎-elim}
 use mathlib.Core.Path.{_≡_, refl, sym, _∙_, ap, subst}
 use borrow.Author.Tests.{eqb-true}
-use Rattle.rules.proofs.Keeps.Freed.{restrict, kept-up, kept-children, kept-own, kept-by, kept-root, freed-view, freed-keeps}
+use Rattle.rules.proofs.Keeps.Freed.{restrict, kept-up, kept-own, kept-by, kept-root, freed-view, freed-keeps, kept-hold}
 use Rattle.rules.proofs.Laws.Below.{deep-namespace, not-root}
 use Rattle.rules.proofs.Laws.Facts.{Facts, facts, Sane, seen-taken, seen-below}
 use Rattle.rules.proofs.Laws.Lists.{In}
@@ -17,11 +18,13 @@ use Rattle.sameness.proofs.Still.{Still, same-still, stands-still}
 use Rattle.sameness.proofs.Same.{Same, sheets-of-same, listed-seen}
 use Rattle.sameness.specs.Events.{at, follow, gone, sheet-of}
 use Rattle.rules.specs.Freeing.{freed, kept}
-use Rattle.rules.specs.Read.{View, all-seen, is-init, namespace-taken, seen, taken, view, alive, init, children}
+use Rattle.rules.specs.Read.{View, all-seen, is-init, namespace-taken, seen, taken, view, alive, init}
 use Rattle.sameness.specs.Sheet.{Sheet, row, sheet}
+use Rattle.sameness.proofs.Names.{values-same}
 use Rattle.rules.specs.Sound.{SoundTable}
 use Rattle.table.specs.Tests.{if_then_else_}
 use Rattle.table.specs.declared.Table.{Table}
+use Rattle.table.specs.Limits.{hold-slots}
 
 module _ {v : View} (f : Facts v) where
   -- the view once they are freed
@@ -51,7 +54,7 @@ module _ {v : View} (f : Facts v) where
   row-freed s i ks h =
       let last : (if is-init v i then w .last (v .own i) else 0) ≡ (if is-init v i then v .last (v .own i) else 0) = rw (kept-own v f i h) in
       row-remain f remain s i ks refl h
-      ∙ (λ z. lit v s i (v .state i) (v .traits i) (pid-in-remain f (remain .places) s (v .parent i) ks refl z) (name-remain f remain s (children v i) ks (kept-children v f i h) z) (last z))
+      ∙ (λ z. lit v s i (v .state i) (v .traits i) (pid-in-remain f (remain .places) s (v .parent i) ks refl z) (values-same _ _ hold-slots 0 (λ k a b. name-remain f remain s (v .hold i k) ks (kept-hold v f i h k (omega arith))) z) (last z))
 
   module _ (s : ℕ) where
     same-freed : So (kept v s) → Same w v s s

@@ -23,7 +23,7 @@ use Rattle.sameness.proofs.Cases.{by-test, by-equal}
 use Rattle.sameness.proofs.Calls.{Ready, owns-twins, TestsAlike, GivesSame}
 use Rattle.sameness.proofs.EndSame.{midway, end-same, pair-of, Midway, Onward, Target, from-after, targets-after}
 use Rattle.sameness.proofs.Freeing.{freed-alike}
-use Rattle.sameness.proofs.Light.{Placed, Shown, shown, same-put, put-other, put-remain}
+use Rattle.sameness.proofs.Light.{Placed, Shown, shown, same-put, put-other, put-remain, shown-as}
 use Rattle.sameness.proofs.Readers.{NobodyOrTwins, slot-v, twin-of-pid, seen-above, twin-eqb, is-init-twins, living-twins}
 use Rattle.sameness.proofs.Same.{seen-listed, listed-seen}
 use Rattle.sameness.proofs.Setns.{named-twins}
@@ -191,8 +191,8 @@ unfolding resumed with-pending
 resumed-shown {t} {u} {s} {r} {p} {q} z = subst (λ b. Shown t u s r (resumed p) (if b then with-pending (with-state q Running) 18 else with-state q Running)) (ap (λ (x : Traits). has (x .handled) 18) (z .traitss)) (go (has (p .traits .handled) 18))
   where
     go : (b : Bool) → Shown t u s r (if b then with-pending (with-state p Running) 18 else with-state p Running) (if b then with-pending (with-state q Running) 18 else with-state q Running)
-    go true = record { states = refl; traitss = ap (λ (x : Traits). with-signals x (x .handled) (with-signal (x .pending) 18)) (z .traitss); childrens = z .childrens }
-    go false = record { states = refl; traitss = z .traitss; childrens = z .childrens }
+    go true = shown-as z refl (ap (λ (x : Traits). with-signals x (x .handled) (with-signal (x .pending) 18)) (z .traitss))
+    go false = shown-as z refl (z .traitss)
 
 -- signal 0 ends nobody
 finish-pos : (v : View) (f x n : ℕ) → action-on v f x n ≡ Finish → 1 ≤ n
@@ -223,12 +223,12 @@ module _ {t u : Table} {s r f g : ℕ} (w : Midway t u s r f g) {x y : ℕ} (n :
   action-onward Nothing e = (w, λ a b h. h)
   action-onward Resume e = light-onward w k lx (resumed-shown z) (resumed-placed (process t x)) (resumed-placed (process u y)) (acted-t Resume lx) (acted-u Resume (ly w k lx))
   action-onward Stop e =
-      light-onward w k lx (record { states = refl; traitss = z .traitss; childrens = z .childrens })
+      light-onward w k lx (shown-as z refl (z .traitss))
       (refl, refl, refl) (refl, refl, refl) (acted-t Stop lx) (acted-u Stop (ly w k lx))
   action-onward Finish e = end-same (Signaled n) w k hx lx (both _ _ (le-leb 1 n (finish-pos (view t) f x n e)) (lt-ltb n signals low)) (finish-own (view t) f x n e)
   action-onward Pend e =
       let a = subst (Good (view t) x n) e (action-good (view t) x n f (w .sane-t .facts) (root-safe (w .sane-t .facts) f x hx)) in
-      light-onward w k lx (record { states = z .states; traitss = ap (λ (x : Traits). with-signals x (x .handled) (with-signal (x .pending) n)) (z .traitss); childrens = z .childrens })
+      light-onward w k lx (shown-as z (z .states) (ap (λ (x : Traits). with-signals x (x .handled) (with-signal (x .pending) n)) (z .traitss)))
       (refl, refl, refl) (refl, refl, refl) (acted-t Pend a) (acted-u Pend (ly w k lx, subst (λ (x : Traits). So (has (x .handled) n)) (z .traitss) (a .1)))
 
 module _ (n : ℕ) (low : n < signals) where

@@ -27,6 +27,7 @@ pub mod Readers
 pub mod Twins
 pub mod Anchor
 pub mod Same
+pub mod Names
 pub mod Cases
 -- where demand 3 applies, by computation
 pub mod Witness

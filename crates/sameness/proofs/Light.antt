@@ -1,24 +1,31 @@
 -- A process put at its slot with its place kept: own namespace, parent and numbers. Its state, its signals
 -- and its children's namespace may change; two tables on which twins change alike stay the same to S.
-use Prim.Native.Nat.{ℕ, zero, suc}
+use Prim.Native.Nat.{ℕ, zero, suc, _<_}
 use native.Mathlib.Omega.{arith}
 use mathlib.Core.Bool.{So, false≢true}
 use mathlib.Core.List.{List, _∷_, []}
 use mathlib.Core.Path.{_≡_, refl, sym, _∙_, ap, subst₂}
+use lib.Dec.{eqb}
 use lib.ListN.{getD, set}
 use lib.Seq.{getD-set-same, getD-set-other}
 use Rattle.rules.proofs.Keeps.Changed.{process-count}
 use Rattle.rules.proofs.Laws.Facts.{Facts}
-use Rattle.sameness.proofs.Cases.{by-equal}
+use Rattle.rules.proofs.Laws.Holds.{light-holds, turned-holds}
+use Rattle.sameness.proofs.Cases.{by-equal, by-test}
 use Rattle.sameness.proofs.Remain.{Remain, everyone, name-remain, pid-in-remain, same-remain}
 use Rattle.sameness.proofs.Same.{Same}
 use Rattle.sameness.proofs.Twins.{Pair, Twin, flip-pair, flip-twin, twin-rows, twin-unique, taken-v, taken-u}
-use Rattle.table.specs.Slots.{no-pid, no-process, pid-at, process, put}
+use Rattle.table.specs.Slots.{no-pid, no-process, pid-at, process, put, hold-at}
 use Rattle.rules.specs.Read.{pid-in, taken, view}
 use Rattle.rules.specs.Sound.{shaped}
 use Rattle.sameness.specs.Sheet.{Row, name, row}
+use Rattle.sameness.proofs.Names.{named-rows}
 use Rattle.table.specs.declared.Process.{Process}
 use Rattle.table.specs.declared.Table.{Table}
+use Rattle.table.specs.Limits.{hold-slots}
+use Rattle.table.specs.Records.{with-children, with-state, with-traits}
+use Rattle.table.specs.declared.State.{State}
+use Rattle.table.specs.declared.Traits.{Traits}
 
 -- what is read of an element, if it is read of the stored one as of the old, is unchanged everywhere
 read-set : {A B : Type 0} (g : A → B) (d : A) (l : List A) (c : ℕ) (x : A) → g x ≡ g (getD l c d) → (i : ℕ) → g (getD (set l c x) i d) ≡ g (getD l i d)
@@ -67,7 +74,7 @@ put-other t c p i n = getD-set-other (t .processes) c i p no-process n
 pub record Shown (t u : Table) (s r : ℕ) (p q : Process) : Type 0 where
   pub states : p .state ≡ q .state
   pub traitss : p .traits ≡ q .traits
-  pub childrens : name (view t) s (p .children .0) ≡ name (view u) r (q .children .0)
+  pub holds : (k : ℕ) → k < hold-slots → name (view t) s (hold-at p k) ≡ name (view u) r (hold-at q k)
 
 pub shown : (t u : Table) {s r : ℕ} (w : Pair (view t) (view u) s r) {i j : ℕ} → Twin (view t) (view u) s r i j → Shown t u s r (process t i) (process u j)
 unfolding row
@@ -76,7 +83,28 @@ shown t u w k =
     record {
       states = ap (λ (q : Row). q .state) e;
       traitss = ap (λ (q : Row). q .traits) e;
-      childrens = ap (λ (q : Row). q .children) e;
+      holds = named-rows _ _ _ _ _ _ e;
+    }
+
+-- so also with another state and other traits, the same on both,
+pub shown-as : {t u : Table} {s r : ℕ} {p q : Process} → Shown t u s r p q → {a b : State} → a ≡ b → {x y : Traits} → x ≡ y → Shown t u s r (with-traits (with-state p a) x) (with-traits (with-state q b) y)
+shown-as {t} {u} {s} {r} {p} {q} z {a} {b} e {x} {y} d =
+    record {
+      states = e;
+      traitss = d;
+      holds = λ k l. ap (name (view t) s) (light-holds p a x k) ∙ z .holds k l ∙ sym (ap (name (view u) r) (light-holds q b y k));
+    }
+
+-- and with another namespace for children, named alike
+pub shown-to : {t u : Table} {s r : ℕ} {p q : Process} → Shown t u s r p q → {n m : ℕ} → name (view t) s n ≡ name (view u) r m → Shown t u s r (with-children p n) (with-children q m)
+shown-to {t} {u} {s} {r} {p} {q} z {n} {m} e =
+    record {
+      states = z .states;
+      traitss = z .traitss;
+      holds = λ k l.
+          ap (name (view t) s) (turned-holds p (p .state) (p .traits) n k)
+          ∙ by-test (eqb k 0) (λ h. rw h e) (λ h. rw h (z .holds k l))
+          ∙ sym (ap (name (view u) r) (turned-holds q (q .state) (q .traits) m k));
     }
 
 module _ (t u : Table) {s r c d : ℕ} (w : Pair (view t) (view u) s r) (k : Twin (view t) (view u) s r c d) (gt : So (shaped t)) (gu : So (shaped u)) {p q : Process} (h : Shown t u s r p q) (a : Placed p (process t c)) (b : Placed q (process u d)) where
@@ -102,6 +130,6 @@ module _ (t u : Table) {s r c d : ℕ} (w : Pair (view t) (view u) s r) (k : Twi
         states = z .states;
         traitss = z .traitss;
         parents = parent-pid-kept t c p a (w .facts-v) s i ∙ ap (λ (o : Row). o .parent) e ∙ sym (parent-pid-kept u d q b (w .facts-u) r j);
-        childrens = name-remain (w .facts-v) (put-remain t c p a) s _ refl refl ∙ z .childrens ∙ sym (name-remain (w .facts-u) (put-remain u d q b) r _ refl refl);
+        holds = λ k b′. name-remain (w .facts-v) (put-remain t c p a) s _ refl refl ∙ z .holds k b′ ∙ sym (name-remain (w .facts-u) (put-remain u d q b) r _ refl refl);
         lasts = ap (λ (o : Row). o .last) e;
       })

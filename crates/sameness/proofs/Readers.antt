@@ -21,6 +21,7 @@ use Rattle.table.specs.Limits.{process-slots}
 use Rattle.table.specs.Slots.{is-ended}
 use Rattle.rules.specs.Read.{pid-seen, View, all-seen, alive, below, child-of, find, is-init, pid-in, seen, living, init, namespace-taken, unborn, children, taken}
 use Rattle.sameness.specs.Sheet.{Row, row, sheet}
+use Rattle.sameness.proofs.Names.{named-rows}
 use Rattle.rules.specs.Sound as S
 use Rattle.table.specs.Tests.{_and_, if_then_else_}
 
@@ -156,13 +157,13 @@ module _ {v u : View} {s r : ℕ} (w : Pair v u s r) {i j : ℕ} (k : Twin v u s
 
   pub children-unborn : unborn v (children v i) ≡ unborn u (children u j)
   unfolding row
-  children-unborn = sym (name-unborn (w .facts-v) s _ (children-taken (w .facts-v) i li)) ∙ ap (λ (q : Row). is-unborn-name (q .children)) (twin-rows w k) ∙ name-unborn (w .facts-u) r _ (children-taken (w .facts-u) j lj)
+  children-unborn = sym (name-unborn (w .facts-v) s _ (children-taken (w .facts-v) i li)) ∙ ap is-unborn-name (named-rows v u s r i j (twin-rows w k) 0 (omega arith)) ∙ name-unborn (w .facts-u) r _ (children-taken (w .facts-u) j lj)
 
   pub children-names : unborn v (children v i) ≡ false → Namesakes v u s r (children v i) (children u j)
   unfolding row
   children-names h =
       record {
-        names = ap (λ (q : Row). q .children) (twin-rows w k);
+        names = named-rows v u s r i j (twin-rows w k) 0 (omega arith);
         stands-v = children-taken (w .facts-v) i li;
         stands-u = children-taken (w .facts-u) j lj;
         below-v = below-trans v (w .facts-v) _ _ s (children-below (w .facts-v) i li) (seen-below v s i (k .seen-v));

@@ -1,5 +1,6 @@
 -- A change that leaves places: some namespaces, with all above them, and some processes stand as they stood, and the
 -- other processes are gone. So "below", numbers and names stay, and two tables that change so stay the same to S.
+use mathlib.Core.List.{List}
 use Prim.Native.Nat.{ℕ, zero, suc, _-_}
 use mathlib.Core.Bool.{Bool, true, false, not, So}
 use mathlib.Core.Path.{_≡_, refl, sym, _∙_, ap, ap₂, fun-ext, subst}
@@ -11,10 +12,11 @@ use Rattle.sameness.proofs.Cases.{by-test}
 use Rattle.sameness.proofs.Anchor.{anchor}
 use Rattle.sameness.proofs.Same.{Same}
 use Rattle.sameness.proofs.Twins.{Pair, Twin, flip-pair, flip-twin, twin-rows, twin-there, taken-v, taken-u}
-use Rattle.table.specs.Limits.{levels, no-slot}
+use Rattle.table.specs.Limits.{levels, no-slot, hold-slots}
 use Rattle.table.specs.Slots.{init-of, is-alive}
-use Rattle.rules.specs.Read.{View, below, climb, init, is-init, namespace-taken, pid-in, pid-seen, seen, taken, children}
+use Rattle.rules.specs.Read.{View, below, climb, init, is-init, namespace-taken, pid-in, pid-seen, seen, taken}
 use Rattle.sameness.specs.Sheet.{Name, Row, by-init, dead-at, name, name-by, nearest, no-name, row}
+use Rattle.sameness.proofs.Names.{Named, names-alike}
 use Rattle.table.specs.Tests.{_and_, _or_, if_then_else_, values}
 use Rattle.table.specs.declared.Life.the-variants.{Unborn, Alive, Dead}
 use Rattle.table.specs.declared.Life.{Life}
@@ -158,15 +160,15 @@ pub record Remain (v v′ : View) (K Q : ℕ → Bool) : Type 0 where
   pub inits : (n : ℕ) → So (K n) → So (Q (init v n))
 
 -- a row by what may change
-abbrev pub lit : View → ℕ → ℕ → State → Traits → ℕ → Name → ℕ → Row
-lit v s i st x p c z = record { pids = values (v .pid i) (levels - v .level s) (v .level s); state = st; traits = x; parent = p; own = name v s (v .own i); children = c; last = z }
+abbrev pub lit : View → ℕ → ℕ → State → Traits → ℕ → List Name → ℕ → Row
+lit v s i st x p c z = record { pids = values (v .pid i) (levels - v .level s) (v .level s); state = st; traits = x; parent = p; own = name v s (v .own i); holds = c; last = z }
 
 module _ {v v′ : View} {K Q : ℕ → Bool} (f : Facts v) (w : Remain v v′ K Q) where
   pub name-remain : (s n : ℕ) → So (K s) → So (K n) → name v′ s n ≡ name v s n
   name-remain s n hs = name-stays f (w .places .tree) (w .lives) s (λ m k. pid-in-remain f (w .places) s (init v m) hs (w .inits m k)) n
 
   -- the row of one that remains, but for what may change
-  pub row-remain : (s i : ℕ) → So (K s) → So (Q i) → So (taken v i) → row v′ s i ≡ lit v s i (v′ .state i) (v′ .traits i) (pid-in v′ s (v′ .parent i)) (name v′ s (children v′ i)) (if is-init v i then v′ .last (v .own i) else 0)
+  pub row-remain : (s i : ℕ) → So (K s) → So (Q i) → So (taken v i) → row v′ s i ≡ lit v s i (v′ .state i) (v′ .traits i) (pid-in v′ s (v′ .parent i)) (values (λ k. name v′ s (v′ .hold i k)) hold-slots 0) (if is-init v i then v′ .last (v .own i) else 0)
   unfolding row is-init
   row-remain s i hs h ht =
       let own = w .places .owns i h in
@@ -177,7 +179,7 @@ module _ {v v′ : View} {K Q : ℕ → Bool} (f : Facts v) (w : Remain v v′ K
         traits = v′ .traits i;
         parent = pid-in v′ s (v′ .parent i);
         own = (ap (name v′ s) own ∙ name-remain s (v .own i) hs kept) k;
-        children = name v′ s (children v′ i);
+        holds = values (λ k. name v′ s (v′ .hold i k)) hold-slots 0;
         last = (ap (λ (n : ℕ). if eqb (init v′ n) i then v′ .last n else 0) own ∙ ap (λ (x : Life). if eqb (init-of x) i then v′ .last (v .own i) else 0) (w .lives (v .own i) kept)) k;
       }
 
@@ -186,7 +188,7 @@ pub record Lit (v u v′ u′ : View) (s r i j : ℕ) : Type 0 where
   pub states : v′ .state i ≡ u′ .state j
   pub traitss : v′ .traits i ≡ u′ .traits j
   pub parents : pid-in v′ s (v′ .parent i) ≡ pid-in u′ r (u′ .parent j)
-  pub childrens : name v′ s (children v′ i) ≡ name u′ r (children u′ j)
+  pub holds : Named v′ u′ s r i j
   pub lasts : (if is-init v i then v′ .last (v .own i) else 0) ≡ (if is-init u j then u′ .last (u .own j) else 0)
 
 -- two tables that were the same to S still are, if what may change is the same
@@ -198,5 +200,5 @@ same-remain {v} {u} {s} {r} w a b hs hr alike h =
     let e = twin-rows w k in
     let l = h i j k q in
     row-remain (w .facts-v) a s i hs q (taken-v k)
-    ∙ (λ z. record { pids = e z .pids; state = l .states z; traits = l .traitss z; parent = l .parents z; own = e z .own; children = l .childrens z; last = l .lasts z })
+    ∙ (λ z. record { pids = e z .pids; state = l .states z; traits = l .traitss z; parent = l .parents z; own = e z .own; holds = names-alike _ _ s r i j (l .holds) z; last = l .lasts z })
     ∙ sym (row-remain (w .facts-u) b r j hr (sym (alike i j k) ∙ q) (taken-u k)))

@@ -1,5 +1,5 @@
 -- Two tables are the same to a namespace: its level, and each row of one is a row of the other.
-use Prim.Native.Nat.{ℕ, zero, suc, _+_, _-_, _<_}
+use Prim.Native.Nat.{ℕ, _+_, _-_, _<_}
 use native.Mathlib.Omega.{arith}
 use mathlib.Core.Bool.{So}
 use mathlib.Core.List.{map}
@@ -10,8 +10,9 @@ use Rattle.rules.proofs.Laws.Facts.{Facts, seen-taken}
 use Rattle.rules.proofs.Laws.Lists.{In, in-map, map-in, in-ascending, ascending-in, ascending-sorted, Sorted, map-sorted, sorted-unique}
 use Rattle.rules.proofs.Laws.Slots.{pid-unique}
 use Rattle.table.specs.Limits.{levels, process-slots}
-use Rattle.rules.specs.Read.{View, all-seen, namespace-taken, pid-seen, seen, pid-in, is-init, children}
+use Rattle.rules.specs.Read.{View, all-seen, namespace-taken, pid-seen, seen, pid-in, is-init}
 use Rattle.sameness.specs.Sheet.{Row, row, sheet, name}
+use Rattle.sameness.proofs.Names.{Named, getD-values, names-alike}
 use Rattle.table.specs.Tests.{values, if_then_else_}
 
 -- its level, and each row of one is a row of the other
@@ -24,17 +25,11 @@ pub record Same (v u : View) (s r : ℕ) : Type 0 where
 abbrev pub key : Row → ℕ
 key q = getD (q .pids) 0 0
 
-pub getD-values : (f : ℕ → ℕ) (n k j : ℕ) → j < n → getD (values f n k) j 0 ≡ f (k + j)
-unfolding values
-getD-values f zero k j l = absurd (omega arith)
-getD-values f (suc n) k zero l = let e : k ≡ k + 0 = omega arith in ap f e
-getD-values f (suc n) k (suc j) l = let e : suc k + j ≡ k + suc j = omega arith in getD-values f n (suc k) j (omega arith) ∙ ap f e
-
 pub row-key : (v : View) (s i : ℕ) → v .level s < levels → key (row v s i) ≡ pid-seen v s i
 unfolding row pid-seen
 row-key v s i l =
     let e : v .level s + 0 ≡ v .level s = omega arith in
-    getD-values (v .pid i) (levels - v .level s) (v .level s) 0 (omega arith) ∙ ap (v .pid i) e
+    getD-values (v .pid i) 0 (levels - v .level s) (v .level s) 0 (omega arith) ∙ ap (v .pid i) e
 
 pub level-lt : {v : View} → Facts v → (s : ℕ) → So (namespace-taken v s) → v .level s < levels
 level-lt {v} f s h = omega (arith, level-deepest v f s h)
@@ -82,10 +77,10 @@ sheets-of-same {v} {u} {s} {r} h g hs hr w =
     }
 
 -- a row by its parts
-pub row-by : (v u : View) (s r i j : ℕ) → values (v .pid i) (levels - v .level s) (v .level s) ≡ values (u .pid j) (levels - u .level r) (u .level r) → v .state i ≡ u .state j → v .traits i ≡ u .traits j → pid-in v s (v .parent i) ≡ pid-in u r (u .parent j) → name v s (v .own i) ≡ name u r (u .own j) → name v s (children v i) ≡ name u r (children u j) → (if is-init v i then v .last (v .own i) else 0) ≡ (if is-init u j then u .last (u .own j) else 0) → row v s i ≡ row u r j
+pub row-by : (v u : View) (s r i j : ℕ) → values (v .pid i) (levels - v .level s) (v .level s) ≡ values (u .pid j) (levels - u .level r) (u .level r) → v .state i ≡ u .state j → v .traits i ≡ u .traits j → pid-in v s (v .parent i) ≡ pid-in u r (u .parent j) → name v s (v .own i) ≡ name u r (u .own j) → Named v u s r i j → (if is-init v i then v .last (v .own i) else 0) ≡ (if is-init u j then u .last (u .own j) else 0) → row v s i ≡ row u r j
 unfolding row
 row-by v u s r i j a b c f g h z =
-    λ k. record { pids = a k; state = b k; traits = c k; parent = f k; own = g k; children = h k; last = z k }
+    λ k. record { pids = a k; state = b k; traits = c k; parent = f k; own = g k; holds = names-alike v u s r i j h k; last = z k }
 
 pub same-trans : {v u x : View} {s r q : ℕ} → Same v u s r → Same u x r q → Same v x s q
 same-trans a b =

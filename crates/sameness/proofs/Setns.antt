@@ -13,7 +13,7 @@ use Rattle.rules.proofs.Laws.Judged.{alike, all-alike, gives}
 use Rattle.rules.proofs.Laws.Steps.{runs-lives}
 use Rattle.rules.proofs.Laws.Tests.{or-false-left}
 use Rattle.sameness.proofs.Calls.{Kept, Ready, owns-twins, TestsAlike, GivesSame, GivesLeaves}
-use Rattle.sameness.proofs.Light.{shown, same-put}
+use Rattle.sameness.proofs.Light.{shown, same-put, shown-to}
 use Rattle.sameness.proofs.Freeing.{freed-alike, freed-still}
 use Rattle.sameness.proofs.Readers.{NobodyOrTwins, find-twins, ended-twins, slot-v}
 use Rattle.sameness.proofs.Still.{put-still}
@@ -50,7 +50,7 @@ module _ {t u : Table} {s r i j : ℕ} (w : Ready t u s r i j) where
         refl,
         freed-alike t u a b (w .pair .alive-v) (w .pair .alive-u)
             (same-put t u (w .pair) (w .twin) (w .sound-t .shape) (w .sound-u .shape)
-            (record { states = z .states; traitss = z .traitss; childrens = ap (λ (q : Row). q .own) (twin-rows (w .pair) k) })
+            (shown-to z (ap (λ (q : Row). q .own) (twin-rows (w .pair) k)))
             (refl, refl, refl) (refl, refl, refl)),
       )
 

@@ -1,5 +1,5 @@
 -- A change that leaves all that the sheet of S rests on: the sheet stays. For calls by an outsider.
-use Prim.Native.Nat.{ℕ, suc, _-_, _≤_}
+use Prim.Native.Nat.{ℕ, suc, _-_, _≤_, _<_}
 use native.Mathlib.Decide.{ℕ-discrete}
 use native.Mathlib.Omega.{arith}
 use mathlib.Core.Bool.{Bool, false, not, So, false≢true}
@@ -17,10 +17,12 @@ use Rattle.sameness.proofs.Light.{Placed, put-other, put-remain}
 use Rattle.sameness.proofs.Readers.{children-below}
 use Rattle.sameness.proofs.Remain.{Tree, below-stays, name-stays, seen-remain, stands}
 use Rattle.sameness.proofs.Same.{Same}
-use Rattle.table.specs.Limits.{levels, no-slot}
+use Rattle.table.specs.Limits.{levels, no-slot, hold-slots}
 use Rattle.table.specs.Slots.{init-of, process, hold-at, pid-at, put}
 use Rattle.rules.specs.Read.{View, below, init, is-init, living, namespace-taken, pid-in, pid-seen, seen, view, children}
+use Rattle.rules.proofs.Laws.Holds.{each-index}
 use Rattle.sameness.specs.Sheet.{name, row}
+use Rattle.sameness.proofs.Names.{values-same}
 use Rattle.table.specs.Tests.{_or_, if_then_else_, values}
 use Rattle.table.specs.declared.Life.{Life}
 use Rattle.table.specs.declared.Process.{Process}
@@ -97,14 +99,14 @@ module _ {v v′ : View} {s : ℕ} (f : Facts v) (w : Still v v′ s) where
   row-still i q =
       let e = w .looks i q in
       let near-own = or-left _ _ (seen-below v s i q) in
-      let child = ⊎-elim (name-still (children v i)) (λ n. name-no-slot v′ s _ n ∙ sym (name-no-slot v s _ n)) (near-children f s i q) in
+      let child : (j : ℕ) → j < hold-slots → name v′ s (v .hold i j) ≡ name v s (v .hold i j) = each-index _ (⊎-elim (name-still (children v i)) (λ n. name-no-slot v′ s _ n ∙ sym (name-no-slot v s _ n)) (near-children f s i q)) in
       λ k. record {
         pids = values (fun-ext (λ l. w .pids i l q) k) (levels - level k) (level k);
         state = e k .state;
         traits = e k .traits;
         parent = (pid-in-still (v′ .parent i) ∙ w .parents i q) k;
         own = (ap (λ (l : Look). name v′ s (l .own)) e ∙ name-still (v .own i) near-own) k;
-        children = (ap (λ (l : Look). name v′ s (l .holds 0)) e ∙ child) k;
+        holds = (values-same _ _ hold-slots 0 (λ j a b. ap (λ (l : Look). name v′ s (l .holds j)) e ∙ child j (omega arith))) k;
         last = (ap (λ (l : Look). if eqb (init v′ (l .own)) i then v′ .last (l .own) else 0) e ∙ ap₂ (λ (x : Life) (z : ℕ). if eqb (init-of x) i then z else 0) (w .lives (v .own i) near-own) (w .lasts i q)) k;
       }
 

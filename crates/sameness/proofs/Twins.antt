@@ -13,7 +13,8 @@ use Rattle.rules.proofs.Laws.Tests.{bool-ext, both}
 use Rattle.rules.proofs.Laws.Tree.{below-refl}
 use Rattle.sameness.proofs.Anchor.{anchor, anchor-self, anchor-alive, anchor-below, anchor-least, is-by-init, name-pid, name-alive, name-anchor, name-level, name-level-dead}
 use Rattle.sameness.proofs.Cases.{by-test}
-use Rattle.sameness.proofs.Same.{Same, getD-values, level-lt, row-pid}
+use Rattle.sameness.proofs.Same.{Same, level-lt, row-pid}
+use Rattle.sameness.proofs.Names.{getD-values}
 use Rattle.table.specs.Limits.{levels}
 use Rattle.rules.specs.Read.{View, alive, below, init, namespace-taken, pid-in, pid-seen, seen, taken, unborn, up-by}
 use Rattle.sameness.specs.Sheet.{Row, name, row}
@@ -98,9 +99,9 @@ module _ {v u : View} {s r : ℕ} (w : Pair v u s r) where
       let e : v .level s + (l - v .level s) ≡ l = omega arith in
       let d : u .level r + (l - v .level s) ≡ l = omega (arith, w .same .levels) in
       ap (v .pid i) (sym e)
-      ∙ sym (getD-values (v .pid i) (levels - v .level s) (v .level s) (l - v .level s) (omega arith))
+      ∙ sym (getD-values (v .pid i) 0 (levels - v .level s) (v .level s) (l - v .level s) (omega arith))
       ∙ ap (λ (q : Row). getD (q .pids) (l - v .level s) 0) (twin-rows k)
-      ∙ getD-values (u .pid j) (levels - u .level r) (u .level r) (l - v .level s) (omega (arith, w .same .levels))
+      ∙ getD-values (u .pid j) 0 (levels - u .level r) (u .level r) (l - v .level s) (omega (arith, w .same .levels))
       ∙ ap (u .pid j) d
 
 -- the level of a process's own namespace, from its numbers

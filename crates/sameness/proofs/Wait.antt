@@ -38,6 +38,7 @@ use Rattle.sameness.specs.Sheet.{Row, name, row, sheet}
 use Rattle.rules.specs.Sound.{SoundTable}
 use Rattle.table.specs.Tests.{_and_, _or_, if_then_else_, least, any}
 use Rattle.sameness.specs.Touches.{removes-from, touched}
+use Rattle.sameness.proofs.Names.{named-rows, children-named}
 use Rattle.table.specs.declared.Answer.the-variants.{Reaped}
 use Rattle.table.specs.declared.Call.the-variants.{Wait}
 use Rattle.table.specs.declared.State.the-variants.{Running, Stopped, Ended}
@@ -129,7 +130,7 @@ module _ {v u : View} {s r : ℕ} (w : Pair v u s r) {x y : ℕ} (k : Twin v u s
         states = λ z. if slot z then Running else rows z .state;
         traitss = λ z. if slot z then no-traits else rows z .traits;
         parents = reap-parent (w .facts-v) x (taken-v k) ex s i (taken-v m) q ∙ ap (λ (o : Row). o .parent) rows ∙ sym (reap-parent (w .facts-u) y (taken-u k) ey r j (taken-u m) q′);
-        childrens = reap-children (w .facts-v) x (taken-v k) ex s i q ∙ ap (λ (o : Row). o .children) rows ∙ sym (reap-children (w .facts-u) y (taken-u k) ey r j q′);
+        holds = children-named _ _ s r i j (reap-children (w .facts-v) x (taken-v k) ex s i q ∙ named-rows v u s r i j rows 0 (omega arith) ∙ sym (reap-children (w .facts-u) y (taken-u k) ey r j q′));
         lasts = ap (λ (o : Row). o .last) rows;
       }
 

@@ -43,7 +43,7 @@ lone-init =
     record {
       level = 1;
       rows =
-          record { pids = 1 ∷ replicate 31 0; state = Running; traits = no-traits; parent = 0; own = by-init 1; children = by-init 1; last = 1 } ∷ [];
+          record { pids = 1 ∷ replicate 31 0; state = Running; traits = no-traits; parent = 0; own = by-init 1; holds = by-init 1 ∷ []; last = 1 } ∷ [];
     }
 
 -- the same inside calls, with other calls between

@@ -3,9 +3,9 @@ use Prim.Native.Nat.{ℕ, zero, suc, _-_}
 use mathlib.Core.Bool.{true, false}
 use mathlib.Core.List.{List, map}
 use lib.Dec.{eqb}
-use Rattle.table.specs.Limits.{levels, no-slot}
+use Rattle.table.specs.Limits.{levels, hold-slots, no-slot}
 use Rattle.table.specs.Slots.{is-alive}
-use Rattle.rules.specs.Read.{View, children, init, is-init, pid-in, all-seen}
+use Rattle.rules.specs.Read.{View, init, is-init, pid-in, all-seen}
 use Rattle.table.specs.Tests.{if_then_else_, values}
 use Rattle.table.specs.declared.Life.{Life}
 use Rattle.table.specs.declared.Life.the-variants.{Unborn, Alive, Dead}
@@ -19,15 +19,16 @@ pub data Name : Type 0 where
   unborn-name : Name
   no-name : Name
 
--- A row for each process: numbers from S's level down; state; signals (its traits); parent's number in S or 0; own and
--- children's namespace; and for a living init, its namespace's last number. No slot appears.
+-- A row for each process: numbers from S's level down; state; signals (its traits); parent's number in S or 0; own
+-- namespace; those that it holds, by their index (its children's); and for a living init, its namespace's last number. No
+-- slot appears.
 pub record Row : Type 0 where
   pub pids : List ℕ
   pub state : State
   pub traits : Traits
   pub parent : ℕ
   pub own : Name
-  pub children : Name
+  pub holds : List Name
   pub last : ℕ
 
 -- For namespace S: its level, and the rows.
@@ -64,7 +65,7 @@ row v s i =
       traits = v .traits i;
       parent = pid-in v s (v .parent i);
       own = name v s (v .own i);
-      children = name v s (children v i);
+      holds = values (λ k. name v s (v .hold i k)) hold-slots 0;
       last = if is-init v i then v .last (v .own i) else 0;
     }
 

@@ -82,7 +82,7 @@ some-of p [] = false
 some-of p (x ∷ xs) = elim (p x) [ true ↦ true | false ↦ some-of p xs ]
 
 -- what f gives at the n numbers from k
-unfoldable pub values : (ℕ → ℕ) → ℕ → ℕ → List ℕ
+unfoldable pub values {ℓ} : {A : Type ℓ} → (ℕ → A) → ℕ → ℕ → List A
 values f zero k = []
 values f (suc n) k = f k ∷ values f n (suc k)
 

@@ -13,7 +13,7 @@ use Rattle.rules.proofs.Laws.Holds.{blank-holds, each-index}
 use Rattle.rules.proofs.Laws.Tests.{tests, not-iff, or-iff, left, right, both, cases, or-left, all-elim, any-elim, any-intro, assume, given, all-intro}
 use Rattle.table.specs.Limits.{deepest, greatest-pid, hold-slots, levels, namespace-slots, no-slot, process-slots}
 use Rattle.table.specs.Slots.{no-process, no-namespace, is-running, is-unborn, hold-at, pid-at, is-ended, process}
-use Rattle.rules.specs.Read.{View, view, taken, namespace-taken, living, children, alive, dead, unborn, init, below, seen, pid-seen, share, numbers}
+use Rattle.rules.specs.Read.{View, view, taken, namespace-taken, living, children, alive, dead, unborn, init, below, seen, pid-seen, unlike, numbers}
 use Rattle.rules.specs.Sound as S
 use Rattle.rules.specs.Sound.{SoundTable, held, holds, kept-end, reaches-root, shaped, zero-namespace, zero-process}
 use Rattle.rules.proofs.Laws.Traits.{none-are-blank}
@@ -162,12 +162,12 @@ pub is-seen : (v : View) (n i : ℕ) → Taken v i → Below v (v .own i) n → 
 unfolding seen taken
 is-seen v n i t b = both _ _ t b
 
--- two processes share a number: the test as a statement, and back
-pub share-iff : (v : View) (n i j : ℕ) → So (share v n (numbers v i) (numbers v j)) ↔ (Seen v n i × Seen v n j × (pid-seen v n i ≡ pid-seen v n j))
+-- the second of two processes has another number, if it is seen: the test as a statement, and back
+pub unlike-iff : (v : View) (n i j : ℕ) → So (unlike v n (numbers v i) (numbers v j)) ↔ (Seen v n j → pid-seen v n i ≡ pid-seen v n j → ⊥)
 unfolding seen taken pid-seen
-share-iff v n i j = (
-  λ k. (left _ _ (left _ _ k), right _ _ (left _ _ k), eqb-true _ _ (right _ _ k)),
-  λ (a, b, e). both _ _ (both _ _ a b) (eq-eqb _ _ e),
+unlike-iff v n i j = (
+  λ h b e. not-iff _ .0 (given _ _ h b) (eq-eqb _ _ e),
+  λ h. assume _ _ (λ b. not-iff _ .1 (λ e. h b (eqb-true _ _ e))),
 )
 
 pub root-namespace : (v : View) (n : ℕ) → n ≡ 0 → Stands v n
@@ -232,9 +232,8 @@ module _ (v : View) (p : Facts v) where
         last-pids = simp tests (p .last-pids);
         pid-range = simp tests (λ i l. p .pid-range i);
         pids-differ =
-            all-intro namespace-slots _ (λ n l. assume _ _ (λ s. all-intro process-slots _ (λ i li. all-intro i _ (λ j lj. not-iff _ .1 (λ k.
-            let (a, b, e) = share-iff v n i j .0 k in
-            omega (arith, p .differ n s i j a b e))))));
+            all-intro namespace-slots _ (λ n l. assume _ _ (λ s. all-intro process-slots _ (λ i li. assume _ _ (λ a. all-intro i _ (λ j lj.
+            unlike-iff v n i j .1 (λ b e. omega (arith, p .differ n s i j a b e)))))));
         first-pids = simp tests (λ n l s a i li. p .first n s a i);
         dead-members = simp tests (λ i l t. p .members i t .0);
         unborn-members = simp tests (λ i l t. p .members i t .1);
@@ -350,7 +349,7 @@ module _ (v : View) (r : Past v) (s : Sound v) where
       alone : (n : ℕ) → Stands v n → (i j : ℕ) → j < i → Seen v n i → Seen v n j → pid-seen v n i ≡ pid-seen v n j → ⊥
       alone n t i j l a b e =
           let rows = given _ _ (all-elim namespace-slots _ (s .pids-differ) n (namespace-range n t)) t in
-          not-iff _ .0 (all-elim i _ (all-elim process-slots _ rows i (range i (seen-taken v n i a))) j l) (share-iff v n i j .1 (a, b, e))
+          unlike-iff v n i j .0 (all-elim i _ (given _ _ (all-elim process-slots _ rows i (range i (seen-taken v n i a))) a) j l) b e
 
       base : (So (alive v 0) × (v .level 0 ≡ 0)) × (v .up 0 ≡ no-slot)
       base = simp tests at (s .root-namespace)

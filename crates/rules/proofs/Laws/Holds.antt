@@ -49,6 +49,11 @@ pub parent-holds : (p : Process) (i k : ℕ) → hold-at (with-parent p i) k ≡
 parent-holds p i zero = refl
 parent-holds p i (suc k) = refl
 
+-- another state and other traits
+pub light-holds : (p : Process) (s : State) (x : Traits) (k : ℕ) → hold-at (with-traits (with-state p s) x) k ≡ hold-at p k
+light-holds p s x zero = refl
+light-holds p s x (suc k) = refl
+
 -- another namespace for children, with any state and traits
 pub turned-holds : (p : Process) (s : State) (x : Traits) (m k : ℕ) → hold-at (with-children (with-traits (with-state p s) x) m) k ≡ with-hold (hold-at p) 0 m k
 turned-holds p s x m zero = refl

@@ -1,11 +1,9 @@
 -- Two sentences of soundness in document 01's words for processes alone: that the definitions, which are ready for more, say
 -- the same. (Those over what a process holds: `OneHold`.)
 use mathlib.Core.Bool.{Bool, not}
-use mathlib.Core.Path.{_≡_}
-use borrow.Author.Tests.{eqb-true, eq-eqb}
+use mathlib.Core.Path.{_≡_, refl}
 use lib.Dec.{eqb}
-use Rattle.rules.proofs.Laws.Facts.{share-iff}
-use Rattle.rules.proofs.Laws.Tests.{bool-ext, all-intro, all-elim, assume, given, not-iff, left, right, both}
+use Rattle.rules.proofs.Laws.Tests.{bool-ext, all-intro, all-elim, assume, given, left, right, both}
 use Rattle.rules.specs.Read.{View, seen, pid-seen}
 use Rattle.rules.specs.Sound.{each-process, each-namespace, pids-differ, process-traits}
 use Rattle.table.specs.Limits.{process-slots, namespace-slots}
@@ -20,19 +18,8 @@ differ v =
     (λ i. seen v n i implies all i (λ j. seen v n j implies not (eqb (pid-seen v n i) (pid-seen v n j)))))
 
 pub differ-plain : (v : View) → pids-differ v ≡ differ v
-unfolding pids-differ
-differ-plain v =
-    bool-ext _ _
-    (λ h. all-intro namespace-slots _ (λ n l. assume _ _ (λ s. all-intro process-slots _ (λ i li. assume _ _ (λ a. all-intro i _ (λ j lj. assume _ _ (λ b.
-    not-iff _ .1 (λ e. not-iff _ .0
-    (all-elim i _ (all-elim process-slots _ (given _ _ (all-elim namespace-slots _ h n l) s) i li) j lj)
-    (share-iff v n i j .1 (a, b, eqb-true _ _ e))))))))))
-    (λ h. all-intro namespace-slots _ (λ n l. assume _ _ (λ s. all-intro process-slots _ (λ i li. all-intro i _ (λ j lj.
-    not-iff _ .1 (λ k.
-    let (a, b, e) = share-iff v n i j .0 k in
-    not-iff _ .0
-    (given _ _ (all-elim i _ (given _ _ (all-elim process-slots _ (given _ _ (all-elim namespace-slots _ h n l) s) i li) a) j lj) b)
-    (eq-eqb _ _ e)))))))
+unfolding pids-differ seen pid-seen
+differ-plain v = refl
 
 -- handled signals, and pending ones among them
 pub traits-plain : (v : View) → process-traits v ≡ (each-process v (λ i. handled-ok (v .traits i)) and each-process v (λ i. pending-ok (v .traits i)))
