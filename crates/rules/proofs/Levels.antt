@@ -3,7 +3,8 @@ use Prim.Native.Nat.{ℕ}
 use mathlib.Core.Bool.{false, not, So}
 use mathlib.Core.Path.{_≡_, ap}
 use borrow.Author.Tests.{eq-eqb, ne-eqb}
-use Rattle.rules.proofs.Laws.Below.{deepest-home}
+use lib.Dec.{eqb, leb}
+use Rattle.rules.proofs.Laws.Below.{deepest-home, deepest-only}
 use Rattle.rules.proofs.Laws.Facts.{facts, lives-taken}
 use Rattle.rules.proofs.Laws.Steps.{runs-lives}
 use Rattle.rules.specs.Answers.{refused}
@@ -26,14 +27,20 @@ module _ (t : Table) (c : ℕ) (h : SoundTable t) (r : So (runs (view t) c)) whe
       let l = runs-lives t c r in
       ap not (eq-eqb _ _ (deepest-home (view t) (facts t h) c (lives-taken (view t) c l) l e))
 
+  -- its test is whether the level is that one
+  at-deepest : leb deepest (own-level (view t) c) ≡ eqb (own-level (view t) c) deepest
+  at-deepest =
+      let f = facts t h in
+      deepest-only (view t) f _ (f .members c (lives-taken (view t) c (runs-lives t c r)) .0 .0)
+
   -- There clone new and unshare are refused.
   pub clone-too-deep : own-level (view t) c ≡ deepest → step t c CloneNew ≡ refused t Enospc
   unfolding step make clone-new
-  clone-too-deep e = rw (h .rules, r, deepest-at-home e, eq-eqb (own-level (view t) c) deepest e)
+  clone-too-deep e = rw (h .rules, r, deepest-at-home e, at-deepest, eq-eqb (own-level (view t) c) deepest e)
 
   pub unshare-too-deep : own-level (view t) c ≡ deepest → step t c Unshare ≡ refused t Enospc
   unfolding step make unshare
-  unshare-too-deep e = rw (h .rules, r, deepest-at-home e, eq-eqb (own-level (view t) c) deepest e)
+  unshare-too-deep e = rw (h .rules, r, deepest-at-home e, at-deepest, eq-eqb (own-level (view t) c) deepest e)
 
   -- On any other clone new is granted, where the children's namespace is the own one and there is room.
   pub clone-deeper :
@@ -41,4 +48,4 @@ module _ (t : Table) (c : ℕ) (h : SoundTable t) (r : So (runs (view t) c)) whe
       → namespaces-full (view t) ≡ false
       → step t c CloneNew ≡ born t c (birth (new-namespace t c) c (free-namespace-slot (view t)))
   unfolding step make clone-new _or_
-  clone-deeper m e p n = rw (h .rules, r, m, ne-eqb (own-level (view t) c) deepest e, p, n)
+  clone-deeper m e p n = rw (h .rules, r, m, at-deepest, ne-eqb (own-level (view t) c) deepest e, p, n)

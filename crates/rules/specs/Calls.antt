@@ -92,7 +92,7 @@ new-namespace t c =
 abbrev pub making-refusals : View → ℕ → Bool → List (Refusal × Bool)
 making-refusals v c no-room =
     (Einval, elsewhere v c)
-    ∷ (Enospc, eqb (own-level v c) deepest)
+    ∷ (Enospc, leb deepest (own-level v c))
     ∷ (Eagain, no-room)
     ∷ []
 

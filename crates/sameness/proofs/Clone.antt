@@ -5,11 +5,11 @@ use mathlib.Core.Bool.{false, not, So, false≢true, true, Bool}
 use mathlib.Core.Logic.{inl, inr, ⊎-elim}
 use mathlib.Core.Path.{_≡_, refl, sym, _∙_, ap, subst, subst₂}
 use borrow.Author.Tests.{eqb-true, eqb-false, eq-eqb, ne-eqb}
-use lib.Dec.{eqb}
+use lib.Dec.{eqb, leb}
 use native.Mathlib.Decide.{ℕ-discrete}
 use Rattle.rules.proofs.Keeps.Birth.{birth-view, with-born}
 use Rattle.rules.proofs.Keeps.Premises.{free-slot-is}
-use Rattle.rules.proofs.Laws.Below.{up-level, below-trans}
+use Rattle.rules.proofs.Laws.Below.{not-deepest, up-level, below-trans}
 use Rattle.rules.proofs.Laws.Facts.{Facts, facts, Sane, sane, seen-below, seen-taken, lives-taken, for-children, holds-children}
 use Rattle.rules.proofs.Laws.Judged.{Alike, alike, no-room, all-alike}
 use Rattle.rules.proofs.Laws.Slots.{alive-taken, alive-otherwise, root-only, alive-not-unborn}
@@ -233,7 +233,7 @@ homes-alike {t} {c} w = ap not (home-twins (w .pair) (w .twin) (runs-lives t c (
 
 -- both calls: twins agree on all but the room
 making-alike : {t u : Table} {s r c d : ℕ} → Ready t u s r c d → (a b : Bool) → Alike (making-refusals (view t) c a) (making-refusals (view u) d b)
-making-alike w a b = alike (homes-alike w) (alike (ap (λ n. eqb n deepest) (levels-alike w)) (no-room all-alike))
+making-alike w a b = alike (homes-alike w) (alike (ap (leb deepest) (levels-alike w)) (no-room all-alike))
 
 -- unshare by twin callers
 pub unshare-alike : TestsAlike Unshare
@@ -241,7 +241,7 @@ unshare-alike t u s r c d w = making-alike w (namespaces-full (view t)) (namespa
 
 pub unshare-same : GivesSame Unshare
 unfolding place answers granted
-unshare-same t u s r c d w n m h g = unshared-kept w (eqb-false _ _ (n Enospc)) (eqb-false _ _ (m Enospc)) (eqb-false _ _ (n Eagain)) (eqb-false _ _ (m Eagain))
+unshare-same t u s r c d w n m h g = unshared-kept w (not-deepest _ (n Enospc)) (not-deepest _ (m Enospc)) (eqb-false _ _ (n Eagain)) (eqb-false _ _ (m Eagain))
 
 -- clone new by twin callers
 pub clone-new-alike : TestsAlike CloneNew
@@ -250,7 +250,7 @@ clone-new-alike t u s r c d w = making-alike w (processes-full (view t) or names
 pub clone-new-same : GivesSame CloneNew
 unfolding place
 clone-new-same t u s r c d w n m h g =
-    cloned-kept w (eqb-false _ _ (n Enospc)) (eqb-false _ _ (m Enospc)) (eqb-false _ _ (or-false-right _ _ (n Eagain))) (eqb-false _ _ (or-false-right _ _ (m Eagain)))
+    cloned-kept w (not-deepest _ (n Enospc)) (not-deepest _ (m Enospc)) (eqb-false _ _ (or-false-right _ _ (n Eagain))) (eqb-false _ _ (or-false-right _ _ (m Eagain)))
     (eqb-false _ _ (or-false-left _ _ (n Eagain))) (eqb-false _ _ (or-false-left _ _ (m Eagain))) h g
 
 -- ---- by an outsider: the child is born outside S
@@ -322,7 +322,7 @@ clone-new-leaves t s i h hs k n away z g =
     let room₁ : free-slot (view (new-namespace t i)) ≡ process-slots → ⊥ = λ e. eqb-false _ _ (or-false-left _ _ (n Eagain)) (sym (same-free t i) ∙ e) in
     let still = new-still (sane t h) i room s hs in
     let li = runs-lives t i k in
-    let f₁ = namespace-sane t (sane t h) i li (eqb-false _ _ (n Enospc)) room in
+    let f₁ = namespace-sane t (sane t h) i li (not-deepest _ (n Enospc)) room in
     let tx = new-taken (sane t h) i room in
     let o = new-outside (sane t h) i room s hs (lives-taken (view t) i li) (f₁ .facts) away in
     stands-leaves h g hs (birth-stands f₁ i x tx room₁ s o (stands-still (facts t h) still hs))
@@ -334,9 +334,9 @@ unfolding place set-children answers granted namespace-taken
 unshare-leaves t s i h hs k n away z g =
     let room : free-namespace-slot (view t) ≡ namespace-slots → ⊥ = eqb-false _ _ (n Eagain) in
     let t₁ = new-namespace t i in
-    let f₁ = namespace-sane t (sane t h) i (runs-lives t i k) (eqb-false _ _ (n Enospc)) room .facts in
+    let f₁ = namespace-sane t (sane t h) i (runs-lives t i k) (not-deepest _ (n Enospc)) room .facts in
     let still = new-still (sane t h) i room s hs in
-    freed-leaves h (unshare-sane t h i k (eqb-false _ _ (n Enospc)) room) hs (stands-still (facts t h) still hs)
+    freed-leaves h (unshare-sane t h i k (not-deepest _ (n Enospc)) room) hs (stands-still (facts t h) still hs)
     (same-trans
     (same-still f₁ (put-still t₁ f₁ i (with-children (process t₁ i) (free-namespace-slot (view t))) (refl, refl, refl) s (still .seens i ∙ away)))
     (same-still (facts t h) still))

@@ -6,7 +6,7 @@ use mathlib.Core.List.{List, _∷_, []}
 use mathlib.Core.Logic.{_⊎_, inr}
 use mathlib.Core.Path.{_≡_, refl, sym, _∙_, ap, subst}
 use borrow.Author.Tests.{eqb-false, le-leb, lt-ltb}
-use lib.Dec.{eqb}
+use lib.Dec.{eqb, leb}
 use Rattle.rules.proofs.Keeps.Deliver.{Safe, Good, action-good}
 use Rattle.rules.proofs.Keeps.End.{end-sane}
 use Rattle.rules.proofs.Keeps.Freed.{freed-keeps}
@@ -14,7 +14,7 @@ use Rattle.rules.proofs.Keeps.Lights.{MayHold}
 use Rattle.rules.proofs.Keeps.NewNamespace.{namespace-facts}
 use Rattle.rules.proofs.Keeps.Premises as K
 use Rattle.rules.proofs.Keeps.Puts.{with-all, set-children-sane, reaped-sane, new-namespace-view, new-namespace-shape, its-traits, altered-sane}
-use Rattle.rules.proofs.Laws.Below.{level-deepest}
+use Rattle.rules.proofs.Laws.Below.{level-deepest, not-deepest}
 use Rattle.rules.proofs.Laws.Facts.{Facts, Holder, Taken, Stands, Lives, Below, Seen, Other, lives-taken, not-ended, seen-taken, seen-below, facts, held-in, Sane, sane, Holds, holds-children}
 use Rattle.rules.proofs.Laws.Find.{named-seen}
 use Rattle.rules.proofs.Laws.Judged.{None, gives, made-is, refusals}
@@ -194,10 +194,10 @@ module _ (t : Table) (c : ℕ) (h : SoundTable t) (r : So (runs (view t) c)) whe
       let (s, d) = f .children c here lives in
       record { lives = lives; namespace = s; below = d; not-dead = no-so a; up-own = λ u. f .unborn-own _ s u c here (holds-children v c); room = eqb-false _ process-slots b; holder = λ m s u o. held-in t h .holder m s u; held-by = λ m s. inr (held-in t h .held-by m s) }
 
-  pub may-bear-new : eqb (own-level v c) deepest ≡ false → eqb (free-slot v) process-slots or eqb (free-namespace-slot v) namespace-slots ≡ false
+  pub may-bear-new : leb deepest (own-level v c) ≡ false → eqb (free-slot v) process-slots or eqb (free-namespace-slot v) namespace-slots ≡ false
       → Change t (new-namespace t c) × (free-namespace-slot v < namespace-slots) × MayBear (view (new-namespace t c)) c (free-namespace-slot v)
   may-bear-new a b =
-      let deep = eqb-false (own-level v c) deepest a in
+      let deep = not-deepest (own-level v c) a in
       let room = eqb-false (free-namespace-slot v) namespace-slots (or-false-right _ _ b) in
       let q = K.ready-next t c h r deep room in (
         makes-namespace c lives deep room,
@@ -211,7 +211,7 @@ module _ (t : Table) (c : ℕ) (h : SoundTable t) (r : So (runs (view t) c)) whe
   gives-made Clone n = born c (children v c) (may-bear (n Enomem) (n Eagain))
   gives-made CloneNew n = let (x, l, m) = may-bear-new (n Enospc) (n Eagain) in born-in-new c (free-namespace-slot v) x l m
   gives-made Unshare n =
-      let deep = eqb-false (own-level v c) deepest (n Enospc) in
+      let deep = not-deepest (own-level v c) (n Enospc) in
       let room = eqb-false (free-namespace-slot v) namespace-slots (n Eagain) in
       let q = K.ready-next t c h r deep room in
       freed-after _ (more (more start (makes-namespace c lives deep room)) (turns c (free-namespace-slot v) (q .lives) (record { here = q .namespace; below = q .below; alone = λ u. (q .up-own u, q .alone) })))

@@ -7,19 +7,20 @@ use mathlib.Core.List.{List, [], _∷_}
 use mathlib.Core.Logic.{_↔_, ⊎-elim}
 use mathlib.Core.Path.{_≡_, refl, sym, _∙_, ap, subst}
 use borrow.Author.Tests.{eqb-true, eq-eqb, ne-eqb, lt-ltb}
-use lib.Dec.{eqb, ltb}
+use lib.Dec.{eqb, leb, ltb}
 use lib.IntN.{ℤ, pos, negsuc}
 use lib.ListN.{length}
 use Rattle.rules.proofs.Keeps.Finds.{targets-meant, meant-named}
+use Rattle.rules.proofs.Laws.Below.{deepest-only}
 use Rattle.rules.proofs.Laws.Facts.{Facts, Taken, seen-taken, lives-taken, facts}
 use Rattle.rules.proofs.Laws.Find.{Lowest, lowest-is, named-seen, find-cases}
 use Rattle.rules.proofs.Laws.Judged.{First, ascends, first-as, first-line, gives, gives-granted, judged-first, listed, made, one-place, refusals}
 use Rattle.rules.proofs.Laws.Steps.{runs-lives}
 use Rattle.rules.proofs.Laws.Tests.{isnt-so, no-so, left, right, both, isnt-not, not-iff, or-iff, cases, or-left, or-right, any-elim, any-intro, all-elim, all-intro}
 use Rattle.rules.specs.Answers.{refused}
-use Rattle.rules.specs.Calls.{named, targets, processes-full, namespaces-full}
+use Rattle.rules.specs.Calls.{named, own-level, targets, processes-full, namespaces-full}
 use Rattle.rules.specs.Claims.{AnswersListed, given-if, line, lines, not-running, place, numbered, meant}
-use Rattle.table.specs.Limits.{namespace-slots, process-slots}
+use Rattle.table.specs.Limits.{deepest, namespace-slots, process-slots}
 use Rattle.rules.specs.Pids.{free-namespace-slot, free-slot}
 use Rattle.table.specs.Slots.{is-running}
 use Rattle.rules.specs.Read.{View, namespace-taken, taken, view}
@@ -122,12 +123,15 @@ module _ (t : Table) (c : ℕ) (h : SoundTable t) (r : So (runs (view t) c)) whe
   unfolding free-namespace-slot
   namespaces = full namespace-slots (namespace-taken v)
 
+  deep : leb deepest (own-level v c) ≡ eqb (own-level v c) deepest
+  deep = deepest-only v f (v .own c) (f .members c here .0 .0)
+
   -- its list says what its lines say
   says : (call : Call) (d : Refusal) → listed (refusals v c call) d ≡ lines v c call d
   unfolding lines
   says Clone d = rw processes
-  says CloneNew d = rw (processes, namespaces)
-  says Unshare d = rw namespaces
+  says CloneNew d = rw (processes, namespaces, deep)
+  says Unshare d = rw (namespaces, deep)
   says (Setns n) d = rw (named-numbered v f c here n)
   says (Kill n s) d = rw (found-meant v f c here n)
   says (Exit s) d = refl

@@ -2,13 +2,13 @@
 use Prim.Native.Nat.{ℕ, zero, suc, _<_, _≤_, _-_}
 use native.Mathlib.Decide.{ℕ-discrete}
 use native.Mathlib.Omega.{arith}
-use mathlib.Core.Bool.{So}
+use mathlib.Core.Bool.{false, So}
 use mathlib.Core.Logic.{_⊎_, inl, inr, ⊎-elim}
-use mathlib.Core.Path.{_≡_, refl, sym, ap, subst}
-use borrow.Author.Tests.{eq-eqb, ne-eqb, eqb-true}
-use lib.Dec.{eqb}
+use mathlib.Core.Path.{_≡_, refl, sym, ap, subst, _∙_}
+use borrow.Author.Tests.{eq-eqb, ne-eqb, eqb-true, le-leb, leb-true, leb-false}
+use lib.Dec.{eqb, leb}
 use Rattle.rules.proofs.Laws.Facts.{Facts, Taken, Lives, Stands, Below, Other, hold-cases}
-use Rattle.rules.proofs.Laws.Tests.{or-true}
+use Rattle.rules.proofs.Laws.Tests.{isnt-so, or-true}
 use Rattle.rules.proofs.Laws.Tree as Tree
 use Rattle.rules.proofs.Laws.Tree.{Stepwise, climb-step, climb-cases}
 use Rattle.table.specs.Limits.{deepest, hold-slots}
@@ -24,6 +24,10 @@ deep-namespace v n k e = rw (e, ne-eqb (suc k) 0 (λ q. omega arith)) (or-true (
 pub shallow-below : (v : View) (a n : ℕ) → v .level a ≡ 0 → Below v a n → a ≡ n
 unfolding below climb
 shallow-below v a n e h = eqb-true a n (subst (λ k. So (climb (v .up) k a n)) e h)
+
+-- a level that passes the test of -28 is not the deepest
+pub not-deepest : (l : ℕ) → leb deepest l ≡ false → l ≡ deepest → ⊥
+not-deepest l h e = omega (arith, leb-false deepest l h)
 
 module _ (v : View) (p : Facts v) where
   pub not-root : (n k : ℕ) → v .level n ≡ suc k → Other n
@@ -140,6 +144,14 @@ module _ (v : View) (p : Facts v) where
       go : Dec (n ≡ 0) → v .level n ≤ deepest
       go (yes z) = omega (arith, ap (v .level) z, p .root-level)
       go (no o) = p .tree n s o .1
+
+  -- so on a level that is not less it is the deepest
+  pub deepest-only : (n : ℕ) → Stands v n → leb deepest (v .level n) ≡ eqb (v .level n) deepest
+  deepest-only n s = go (ℕ-discrete (v .level n) deepest)
+    where
+      go : Dec (v .level n ≡ deepest) → leb deepest (v .level n) ≡ eqb (v .level n) deepest
+      go (yes e) = le-leb deepest (v .level n) (omega arith) ∙ sym (eq-eqb _ deepest e)
+      go (no o) = isnt-so (λ x. omega (arith, leb-true deepest (v .level n) x, level-deepest n s)) ∙ sym (ne-eqb _ deepest o)
 
   -- nothing lies below the deepest level: the children of a living process there are born into its own namespace
   pub deepest-home : (i : ℕ) → Taken v i → Lives v i → v .level (v .own i) ≡ deepest → children v i ≡ v .own i
