@@ -19,7 +19,7 @@ use Rattle.table.proofs.Chains.{if-yes, if-no}
 use Rattle.rules.proofs.Laws.ReadAt.{read-at}
 use Rattle.rules.specs.Answers.{refused, answers}
 use Rattle.rules.specs.Calls.{within, natural, handle-on, handle-off, handle, poll, taken-up, handle-refusals, handle-gives}
-use Rattle.rules.specs.Claims.{place}
+use Rattle.rules.proofs.Laws.Judged.{place}
 use Rattle.table.specs.Fresh.{empty-process}
 use Rattle.table.specs.Limits.{signals, sigkill, sigstop}
 use Rattle.table.specs.Slots.{process, put}

@@ -24,12 +24,11 @@ use Rattle.outcomes.specs.Verdicts.{verdict}
 use Rattle.outcomes.specs.declared.Verdict.the-variants.{Granted, Refused}
 use Rattle.outcomes.specs.declared.Verdict.{Verdict}
 use Rattle.table.proofs.Chains.{pick-no}
-use Rattle.rules.proofs.Laws.Judged.{None}
+use Rattle.rules.proofs.Laws.Judged.{None, place}
 use Rattle.rules.proofs.Laws.ReadAt.{read-at}
 use Rattle.table.proofs.Table as T
 use Rattle.rules.specs.Answers.{refused, answers}
 use Rattle.rules.specs.Calls.{within, natural, named, others, targets, names-group, kill-refusals, kill-gives, kill}
-use Rattle.rules.specs.Claims.{place}
 use Rattle.rules.specs.Delivery.{deliver-all}
 use Rattle.rules.specs.Freeing.{freed}
 use Rattle.table.specs.Fresh.{empty-process}

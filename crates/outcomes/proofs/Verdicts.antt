@@ -6,10 +6,9 @@ use lib.Dec.{eqb}
 use Rattle.outcomes.specs.Verdicts.{verdict}
 use Rattle.outcomes.specs.declared.Verdict.{Verdict}
 use Rattle.outcomes.specs.declared.Verdict.the-variants.{Granted, Refused}
-use Rattle.rules.proofs.Laws.Judged.{None}
+use Rattle.rules.proofs.Laws.Judged.{None, place}
 use Rattle.rules.proofs.Laws.Tests.{choose}
 use Rattle.rules.specs.Answers.{judged, refused}
-use Rattle.rules.specs.Claims.{place}
 use Rattle.table.specs.Tests.{_or_, if_then_else_}
 use Rattle.table.specs.declared.Outcome.{Outcome}
 use Rattle.table.specs.declared.Refusal.{Refusal}

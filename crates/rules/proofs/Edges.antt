@@ -1,32 +1,28 @@
 -- "Edges to try": the ten lines, every starred edge and the room for processes and namespaces; an edge for each shortcut
--- that looks harmless; and the kinds of delivery. By computation.
+-- that looks harmless; the kinds of delivery; and what no answer shows. By computation.
 use Prim.Native.Nat.{ℕ, zero, suc}
 use mathlib.Core.Bool.{Bool, true, false, So}
 use mathlib.Core.List.{List, [], _∷_, _++_, map}
-use mathlib.Core.Option.{Option, none, some}
+use mathlib.Core.Option.{none, some}
 use mathlib.Core.Path.{_≡_, refl}
-use lib.IntN.{ℤ, pos}
+use lib.Dec.{eqb}
+use lib.IntN.{pos}
 use Rattle.rules.proofs.Open.{everything}
 use Rattle.rules.proofs.Tables.{running, exited, root-at, table-of, crowd, served, after}
-use Rattle.rules.specs.Answers.{minus, number-of, end-of}
+use Rattle.rules.specs.Answers.{Shown, minus, shown}
+use Rattle.rules.specs.Delivery.{default-action}
 use Rattle.table.specs.Fresh.{fresh}
+use Rattle.rules.specs.Read.{view}
 use Rattle.rules.specs.Sound.{shaped, sound}
 use Rattle.rules.specs.Step.{step}
-use Rattle.table.specs.Tests.{_and_}
-use Rattle.table.specs.declared.Answer.{Answer}
+use Rattle.table.specs.Tests.{_and_, only, values}
+use Rattle.table.specs.declared.Action.{Action}
+use Rattle.table.specs.declared.Action.the-variants.{Nothing, Resume, Stop, Finish, Pend}
 use Rattle.table.specs.declared.Call.{Call}
 use Rattle.table.specs.declared.Call.the-variants.{Clone, CloneNew, Unshare, Setns, Kill, Exit, Wait, Getpid, Getppid, Handle, Poll}
-use Rattle.table.specs.declared.End.{End}
 use Rattle.table.specs.declared.End.the-variants.{Exited, Signaled}
 use Rattle.table.specs.declared.Outcome.{Outcome}
 use Rattle.table.specs.declared.Table.{Table}
-
--- What document 01 shows of an answer: its number, and how a removed process ended.
-abbrev pub Shown : Type 0
-Shown = ℤ × Option End
-
-abbrev pub shown : Answer → Shown
-shown a = (number-of a, end-of a)
 
 abbrev says : ℕ → Shown
 says k = (pos k, none)
@@ -89,6 +85,18 @@ edges =
     ∷ (table-of (running 0 0 (300 ∷ []) ∷ []) (root-at 32767 ∷ []), (0, Clone, says 301) ∷ [])
     ∷ (table-of (exited 0 0 (300 ∷ []) ∷ []) (root-at 32767 ∷ []), (0, Clone, says 301) ∷ [])
     ∷ (table-of (exited 0 0 (300 ∷ []) ∷ []) (root-at 32767 ∷ []), (0, Wait, gave 300 0) ∷ (0, Clone, says 300) ∷ [])
+    -- wait takes the lowest number and not the lowest slot; the ended one makes no call
+    ∷ (
+      table-of [] (root-at 32766 ∷ []),
+      (0, Clone, says 32767)
+          ∷ (0, Clone, says 300)
+          ∷ (1, Exit (pos 7), says 0)
+          ∷ (2, Exit (pos 8), says 0)
+          ∷ (1, Getpid, refuses 1001)
+          ∷ (0, Wait, gave 300 8)
+          ∷ (0, Wait, gave 32767 7)
+          ∷ [],
+    )
     -- level 31 may clone new, level 32 gets -28 (for any table: Levels.antt), and may clone plainly
     ∷ (fresh, deeper 0 32 ++ (32, CloneNew, refuses 28) ∷ (32, Unshare, refuses 28) ∷ (32, Clone, says 2) ∷ [])
     -- 47 namespaces: clone new works; 48: it and unshare get -11, and plain clone works; after a wait, clone new works
@@ -117,6 +125,8 @@ edges =
     )
     -- kill 1 9 by an init on itself: 0, nothing ends
     ∷ (after fresh ((0, CloneNew) ∷ []), (1, Kill (pos 1) (pos 9), says 0) ∷ (1, Getpid, says 1) ∷ (0, Wait, says 0) ∷ [])
+    -- exit by the root init: -16; a caller at an empty slot and beyond the last one: -1001
+    ∷ (fresh, (0, Exit (pos 0), refuses 16) ∷ (1, Getpid, refuses 1001) ∷ (64, Getpid, refuses 1001) ∷ (255, Clone, refuses 1001) ∷ [])
     -- kill -1 on the fresh table: -3; kill 0: -38; kill 5 32: -22
     ∷ (fresh, (0, Kill (minus 1) (pos 9), refuses 3) ∷ (0, Kill (pos 0) (pos 9), refuses 38) ∷ (0, Kill (pos 5) (pos 32), refuses 22) ∷ (0, Kill (pos 0) (pos 32), refuses 22) ∷ [])
     -- unshare, clone, child exits, clone: -12
@@ -146,6 +156,30 @@ edges =
           ∷ (0, CloneNew, refuses 22)
           ∷ (0, Setns (pos 1), says 0)
           ∷ (0, Unshare, says 0)
+          ∷ [],
+    )
+    -- unshare: the caller stays where it is, its next child is the init of the new namespace, and the one after a member
+    ∷ (
+      fresh,
+      (0, Unshare, says 0)
+          ∷ (0, Getpid, says 1)
+          ∷ (0, Clone, says 2)
+          ∷ (1, Getpid, says 1)
+          ∷ (1, Getppid, says 0)
+          ∷ (0, Clone, says 3)
+          ∷ (2, Getpid, says 2)
+          ∷ [],
+    )
+    -- setns n: the children go into n's own namespace, and not where n's children go
+    ∷ (
+      fresh,
+      (0, CloneNew, says 2)
+          ∷ (1, Unshare, says 0)
+          ∷ (0, Setns (pos 2), says 0)
+          ∷ (0, Clone, says 3)
+          ∷ (2, Getpid, says 2)
+          ∷ (1, Clone, says 3)
+          ∷ (3, Getpid, says 1)
           ∷ [],
     )
     -- 63 processes: clone works; 64: -11; after a wait, it works
@@ -205,6 +239,52 @@ edges =
           ∷ (0, Wait, signal 2 15)
           ∷ [],
     )
+    -- a handled 18 resumes and is pending; a stopped process is ended by 15
+    ∷ (
+      crowd 1,
+      (1, Handle (pos 18) true, says 0)
+          ∷ (0, Kill (pos 2) (pos 19), says 0)
+          ∷ (1, Poll, refuses 1001)
+          ∷ (0, Kill (pos 2) (pos 18), says 0)
+          ∷ (1, Poll, says 18)
+          ∷ (0, Kill (pos 2) (pos 19), says 0)
+          ∷ (0, Kill (pos 2) (pos 15), says 0)
+          ∷ (0, Wait, signal 2 15)
+          ∷ [],
+    )
+    -- poll with two pending: the lowest first, one at a time; unshare and setns leave them
+    ∷ (
+      crowd 1,
+      (1, Handle (pos 20) true, says 0)
+          ∷ (1, Handle (pos 10) true, says 0)
+          ∷ (0, Kill (pos 2) (pos 20), says 0)
+          ∷ (0, Kill (pos 2) (pos 10), says 0)
+          ∷ (1, Unshare, says 0)
+          ∷ (1, Setns (pos 2), says 0)
+          ∷ (1, Poll, says 10)
+          ∷ (1, Poll, says 20)
+          ∷ (1, Poll, says 0)
+          ∷ [],
+    )
+    -- 9 and 19 to an inner init: nothing from within, by a member and by itself; 15 nothing from above too; 19 from above
+    -- stops it, 18 resumes it, and 9 from above ends it
+    ∷ (
+      fresh,
+      (0, CloneNew, says 2)
+          ∷ (1, Clone, says 2)
+          ∷ (2, Kill (pos 1) (pos 19), says 0)
+          ∷ (2, Kill (pos 1) (pos 9), says 0)
+          ∷ (1, Kill (pos 1) (pos 19), says 0)
+          ∷ (0, Kill (pos 2) (pos 15), says 0)
+          ∷ (1, Getpid, says 1)
+          ∷ (0, Kill (pos 2) (pos 19), says 0)
+          ∷ (1, Getpid, refuses 1001)
+          ∷ (0, Kill (pos 2) (pos 18), says 0)
+          ∷ (1, Getpid, says 1)
+          ∷ (0, Kill (pos 2) (pos 9), says 0)
+          ∷ (0, Wait, signal 2 9)
+          ∷ [],
+    )
     ∷ []
 
 -- ---- what is computed of them
@@ -225,7 +305,41 @@ pub edges-served : all-answers served edges ≡ expected edges
 unfolding everything
 edges-served = refl
 
--- Where an init signals itself, the whole table stays as it was.
-pub init-stays : step fresh 0 (Kill (pos 1) (pos 9)) .table ≡ fresh
+-- ---- beside the answers
+
+-- a table that isn't sound: the last number is past 32,767
+abbrev broken : Table
+broken = table-of [] (root-at 32768 ∷ [])
+
+-- On it a call gets -1000, and the table stays as it was.
+pub unsound-told : (shown (step broken 0 Clone .reply .answer) ≡ refuses 1000) × (step broken 0 Clone .table ≡ broken)
 unfolding everything
-init-stays = refl
+unsound-told = (refl, refl)
+
+-- Two namespaces were made, and the first was given back: a new child, and its namespace, take the lowest free slots.
+abbrev one-free : Table
+one-free = after fresh ((0, CloneNew) ∷ (0, CloneNew) ∷ (0, Kill (pos 2) (pos 9)) ∷ (0, Wait) ∷ [])
+
+pub lowest-slots : (served one-free 0 CloneNew .reply .child .0 ≡ 1) × (view (served one-free 0 CloneNew .table) .own 1 ≡ 1)
+unfolding everything
+lowest-slots = (refl, refl)
+
+-- the signals from 1 to 31 with a default action
+abbrev place : Action → ℕ
+place Nothing = 0
+place Resume = 1
+place Stop = 2
+place Finish = 3
+place Pend = 4
+
+abbrev with-default : Action → List ℕ
+with-default a = only (λ s. eqb (place (default-action s)) (place a)) (values (λ s. s) 31 1)
+
+-- The four groups.
+pub defaults :
+    (with-default Nothing ≡ 17 ∷ 23 ∷ 28 ∷ [])
+    × (with-default Resume ≡ 18 ∷ [])
+    × (with-default Stop ≡ 19 ∷ 20 ∷ 21 ∷ 22 ∷ [])
+    × (with-default Finish ≡ values (λ s. s) 16 1 ++ values (λ s. s) 4 24 ++ values (λ s. s) 3 29)
+unfolding everything
+defaults = (refl, refl, refl, refl)

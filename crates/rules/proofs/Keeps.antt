@@ -26,6 +26,9 @@ pub mod Clones
 pub mod Finds
 pub mod Exact
 pub mod MemberExact
+pub mod Spared
+pub mod Own
+pub mod Waited
 -- what a kill makes of each process
 pub mod Trace
 pub mod PutTrace

@@ -8,8 +8,11 @@ use Rattle.rules.proofs.Keeps.Killed as Killed
 use Rattle.rules.proofs.Keeps.Lines as Lines
 use Rattle.rules.proofs.Keeps.MemberExact as MemberExact
 use Rattle.rules.proofs.Keeps.Numbers as Numbers
+use Rattle.rules.proofs.Keeps.Own as Own
 use Rattle.rules.proofs.Keeps.Refusals as Refusals
-use Rattle.rules.specs.Claims.{RefusalLeaves, AnswersListed, KeepsSound, NamespaceFixed, NumbersKept, NamespacesKept, NumberFresh, CloneTells, SignalFinds, SignalExact, SubtreeFalls, EndExact, MemberEndExact}
+use Rattle.rules.proofs.Keeps.Spared as Spared
+use Rattle.rules.proofs.Keeps.Waited as Waited
+use Rattle.rules.specs.Claims.{RefusalLeaves, AnswersListed, KeepsSound, NamespaceFixed, NumbersKept, NamespacesKept, NumberFresh, CloneTells, ChildrenTurn, SignalsOnly, WaitExact, SignalFinds, SignalExact, InitSpared, SubtreeFalls, EndExact, MemberEndExact}
 
 -- ---- demand 1
 
@@ -17,7 +20,7 @@ use Rattle.rules.specs.Claims.{RefusalLeaves, AnswersListed, KeepsSound,
 pub refusal-leaves : RefusalLeaves
 refusal-leaves = Refusals.refusal-leaves
 
--- Each negative number is given exactly when its line says so and no earlier line does.
+-- Each negative number is given exactly when its row says so and no earlier row does.
 pub answers-listed : AnswersListed
 answers-listed = Lines.answers-listed
 
@@ -47,6 +50,18 @@ number-fresh = Fresh.number-fresh
 pub clone-tells : CloneTells
 clone-tells = Clones.clone-tells
 
+-- unshare and setns change the caller's children's namespace, and no other record.
+pub children-turn : ChildrenTurn
+children-turn = Own.children-turn
+
+-- handle and poll change only the caller's signals.
+pub signals-only : SignalsOnly
+signals-only = Own.signals-only
+
+-- A wait removes exactly one, the caller's ended child with the lowest number, and says how it ended; no other call does.
+pub wait-exact : WaitExact
+wait-exact = Waited.wait-exact
+
 -- A signal finds exactly the processes of the caller's namespace and those below.
 pub signal-finds : SignalFinds
 signal-finds = Killed.signal-finds
@@ -54,6 +69,10 @@ signal-finds = Killed.signal-finds
 -- What a granted kill makes of each process: of those it means, of a fallen subtree, of orphans, and of all others.
 pub signal-exact : SignalExact
 signal-exact = Killed.signal-exact
+
+-- An init's 9 to itself leaves the whole table as it was.
+pub init-spared : InitSpared
+init-spared = Spared.init-spared
 
 -- A namespace's first process takes its whole subtree down.
 pub subtree-falls : SubtreeFalls

@@ -43,11 +43,20 @@ end-of (Refused e) = none
 end-of (Number k) = none
 end-of (Reaped k e) = some e
 
--- The answer is a refusal.
+-- What document 01 shows of an answer, and the promises speak of: its number, and how a removed process ended.
+abbrev pub Shown : Type 0
+Shown = ℤ × Option End
+
+abbrev pub shown : Answer → Shown
+shown a = (number-of a, end-of a)
+
+abbrev pub is-negative : ℤ → Bool
+is-negative (pos k) = false
+is-negative (negsuc k) = true
+
+-- The answer is a refusal: its number is below 0.
 unfoldable pub is-refused : Answer → Bool
-is-refused (Refused e) = true
-is-refused (Number k) = false
-is-refused (Reaped k e) = false
+is-refused a = is-negative (number-of a)
 
 -- one and the same number
 abbrev pub same-number : ℤ → ℤ → Bool
@@ -57,8 +66,8 @@ same-number (negsuc a) (pos b) = false
 same-number (negsuc a) (negsuc b) = eqb a b
 
 -- "No room" is -11.
-unfoldable pub is-no-room : Answer → Bool
-is-no-room a = same-number (number-of a) (minus 11)
+unfoldable pub is-no-room : Shown → Bool
+is-no-room x = same-number (x .0) (minus 11)
 
 -- ---- what a call gives: the answer, the child's slot for the host, and the table then
 

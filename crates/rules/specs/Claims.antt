@@ -1,31 +1,32 @@
 -- The promises, as types: a value of such a type is a proof.
 use Prim.Native.Nat.{ℕ, _<_, _≤_}
-use mathlib.Core.Bool.{Bool, false, not, So}
+use mathlib.Core.Bool.{Bool, not, So}
 use mathlib.Core.Logic.{_↔_, _⊎_}
+use mathlib.Core.Option.{none, some}
 use mathlib.Core.Path.{_≡_}
-use lib.Dec.{eqb, ltb}
+use lib.Dec.{eqb}
 use lib.IntN.{ℤ, pos, negsuc}
-use Rattle.rules.specs.Calls.{targets, pid-to, within, natural, names-group, status}
+use Rattle.rules.specs.Answers.{number-of, end-of}
+use Rattle.rules.specs.Calls.{targets, pid-to, natural, status}
 use Rattle.rules.specs.Delivery.{action-on, resumed, with-pending}
-use Rattle.table.specs.Limits.{no-slot, process-slots, namespace-slots, signals, deepest, greatest-pid, restart-pid, sigkill, sigstop}
-use Rattle.table.specs.Slots.{process, is-running}
+use Rattle.table.specs.Fresh.{empty-namespace}
+use Rattle.table.specs.Limits.{no-slot, signals, greatest-pid, restart-pid, sigkill}
+use Rattle.table.specs.Slots.{process, namespace}
 use Rattle.rules.specs.Read.{View, view, taken, living, children, namespace-taken, alive, dead, unborn, init, is-init, below, seen, pid-seen, child-of}
-use Rattle.rules.specs.Sound.{SoundTable, sound, shaped}
+use Rattle.rules.specs.Refusals.{meant, numbered, rows, first, below-0}
+use Rattle.rules.specs.Sound.{SoundTable, shaped}
 use Rattle.rules.specs.Step.{step, runs}
-use Rattle.table.specs.Tests.{_and_, _or_, if_then_else_, all, any, some-of}
+use Rattle.table.specs.Tests.{_and_, if_then_else_, some-of}
 use Rattle.table.specs.declared.Action.{Action}
 use Rattle.table.specs.declared.Action.the-variants.{Nothing, Resume, Stop, Finish, Pend}
-use Rattle.table.specs.declared.Answer.the-variants.{Refused, Number}
 use Rattle.table.specs.declared.Call.{Call}
-use Rattle.table.specs.declared.Call.the-variants.{Clone, CloneNew, Unshare, Setns, Kill, Exit, Wait, Getpid, Getppid, Handle, Poll}
+use Rattle.table.specs.declared.Call.the-variants.{Clone, CloneNew, Unshare, Setns, Kill, Exit, Wait, Handle, Poll}
 use Rattle.table.specs.declared.End.{End}
 use Rattle.table.specs.declared.End.the-variants.{Exited, Signaled}
-use Rattle.table.specs.declared.Refusal.{Refusal}
-use Rattle.table.specs.declared.Refusal.the-variants.{Unsound, NotRunning, Einval, Enosys, Esrch, Ebusy, Echild, Enospc, Enomem, Eagain}
 use Rattle.table.specs.declared.Process.{Process}
 use Rattle.table.specs.declared.State.the-variants.{Running, Stopped, Ended}
 use Rattle.table.specs.declared.Table.{Table}
-use Rattle.table.specs.Records.{with-state, with-parent, as-ended}
+use Rattle.table.specs.Records.{with-state, with-parent, with-children, with-traits, as-ended}
 
 -- the table after a call
 abbrev pub after : Table → ℕ → Call → Table
@@ -33,90 +34,18 @@ after t c call = step t c call .table
 
 -- ---- demand 1: an answer for each call, and what a refusal leaves
 
--- A refusal leaves the whole table unchanged and tells the host no slot.
+-- A refusal, an answer below 0, leaves the whole table unchanged and tells the host no slot.
 unfoldable pub RefusalLeaves : Type 0
 RefusalLeaves =
-    (t : Table) (c : ℕ) (call : Call) (e : Refusal) → step t c call .reply .answer ≡ Refused e
+    (t : Table) (c k : ℕ) (call : Call) → number-of (step t c call .reply .answer) ≡ negsuc k
     → (after t c call ≡ t) × (step t c call .reply .child .0 ≡ no-slot)
 
--- the number k is that of the process at i, seen from the caller's namespace
-unfoldable pub numbered : View → ℕ → ℤ → ℕ → Bool
-numbered v c (pos k) i = seen v (v .own c) i and eqb (pid-to v c i) k
-numbered v c (negsuc k) i = false
-
--- the process at i is one that the caller's kill n means: of that number, or seen and neither the caller nor number 1
-unfoldable pub meant : View → ℕ → ℤ → ℕ → Bool
-meant v c (pos n) i = numbered v c (pos n) i
-meant v c (negsuc n) i = seen v (v .own c) i and (not (eqb i c) and not (eqb (pid-to v c i) 1))
-
--- Order: -1000, -1001, -22, -38, -3, -16, -10, -28, -12, -11.
-unfoldable pub place : Refusal → ℕ
-place Unsound = 0
-place NotRunning = 1
-place Einval = 2
-place Enosys = 3
-place Esrch = 4
-place Ebusy = 5
-place Echild = 6
-place Enospc = 7
-place Enomem = 8
-place Eagain = 9
-
--- the test b for the number e, and f for the others
-abbrev pub given-if : Refusal → Bool → (Refusal → Bool) → Refusal → Bool
-given-if e b f d = if eqb (place d) (place e) then b else f d
-
-abbrev pub no-more : Refusal → Bool
-no-more d = false
-
--- no room: clone with 64 processes, clone new or unshare with 48 namespaces (W-206): every slot is taken
-abbrev pub full : View → Bool
-full v = all process-slots (taken v)
-
-abbrev pub namespaces-taken : View → Bool
-namespaces-taken v = all namespace-slots (namespace-taken v)
-
--- the lines of the two calls that make a namespace: the children's namespace isn't the own one (W-203), the own level is
--- the deepest, 32 (W-206), or there is no room
-abbrev pub making-lines : View → ℕ → Bool → Refusal → Bool
-making-lines v c no-room =
-    given-if Einval (not (eqb (children v c) (v .own c)))
-    (given-if Enospc (eqb (v .level (v .own c)) deepest) (given-if Eagain no-room no-more))
-
--- "Negative numbers", by the call: what its lines of the table say of a call by the process at c, whatever the other
--- lines say.
-unfoldable pub lines : View → ℕ → Call → Refusal → Bool
-lines v c Clone = given-if Enomem (dead v (children v c)) (given-if Eagain (full v) no-more)
-lines v c CloneNew = making-lines v c (full v or namespaces-taken v)
-lines v c Unshare = making-lines v c (namespaces-taken v)
-lines v c (Setns n) = given-if Esrch (not (any process-slots (λ i. numbered v c n i and not (v .ended i)))) no-more
-lines v c (Kill n s) =
-    given-if Einval (not (within 0 signals s))
-    (given-if Enosys (names-group n) (given-if Esrch (not (any process-slots (meant v c n))) no-more))
-lines v c (Exit s) = given-if Ebusy (eqb c 0) no-more
-lines v c Wait = given-if Echild (not (any process-slots (child-of v c))) no-more
-lines v c Getpid = no-more
-lines v c Getppid = no-more
-lines v c (Handle s on) =
-    given-if Einval (not (within 1 signals s) or eqb (natural s) sigkill or eqb (natural s) sigstop) no-more
-lines v c Poll = no-more
-
--- -1001: the caller's slot is beyond 63, empty, ended or stopped
-unfoldable pub not-running : View → ℕ → Bool
-not-running v c = not (ltb c process-slots) or not (taken v c) or not (is-running (v .state c))
-
--- with the first two lines, which are those of each call
-unfoldable pub line : Table → ℕ → Call → Refusal → Bool
-line t c call =
-    given-if Unsound (not (sound t)) (given-if NotRunning (not-running (view t) c) (lines (view t) c call))
-
--- Each negative number is given exactly when its line says so and no earlier line does, on any table of the declared
--- type, by any caller.
+-- Each negative number is given exactly when its row of the table says so and no earlier row does, on any table of the
+-- declared type, by any caller: the number that an answer below 0 shows is that of the first row that holds.
 unfoldable pub AnswersListed : Type 0
 AnswersListed =
-    (t : Table) (c : ℕ) (call : Call) (e : Refusal) → So (shaped t)
-    → (step t c call .reply .answer ≡ Refused e)
-    ↔ (So (line t c call e) × ((d : Refusal) → place d < place e → So (line t c call d) → ⊥))
+    (t : Table) (c : ℕ) (call : Call) → So (shaped t)
+    → below-0 (number-of (step t c call .reply .answer)) ≡ first (rows t c call)
 
 -- ---- demand 2: soundness
 
@@ -176,8 +105,9 @@ NumberFresh =
 
 -- The child at k that the caller bore into n, with the answer a, by a call that took t to u.
 pub record Born (t u : Table) (c k n a : ℕ) : Type 0 where
-  -- Its slot was empty.
+  -- Its slot was the lowest that was empty.
   pub new : So (taken (view t) k) → ⊥
+  pub lowest : (j : ℕ) → j < k → So (taken (view t) j)
   pub here : So (taken (view u) k)
   -- Its parent is the caller, its own namespace n, and its children's too; it runs, without signals.
   pub kin : (view u .parent k ≡ c) × (view u .own k ≡ n) × (children (view u) k ≡ n)
@@ -189,20 +119,94 @@ pub record Born (t u : Table) (c k n a : ℕ) : Type 0 where
   -- Nobody else's record changes.
   pub others : (i : ℕ) → (i ≡ k → ⊥) → process u i ≡ process t i
 
+-- The namespace at n that the caller made, by a call that took t to u.
+pub record MadeNamespace (t u : Table) (c n : ℕ) : Type 0 where
+  -- Its slot was the lowest that was empty.
+  pub new : So (namespace-taken (view t) n) → ⊥
+  pub lowest : (m : ℕ) → m < n → So (namespace-taken (view t) m)
+  -- Its parent is the caller's own.
+  pub parent : view u .up n ≡ view t .own c
+
 -- A granted clone tells the host the slot of exactly the child, and no other call tells one.
 pub record CloneTells : Type 0 where
   pub plain :
-      (t : Table) (c a : ℕ) → SoundTable t → step t c Clone .reply .answer ≡ Number a
+      (t : Table) (c a : ℕ) → SoundTable t → number-of (step t c Clone .reply .answer) ≡ pos a
       → Born t (after t c Clone) c (step t c Clone .reply .child .0) (children (view t) c) a
   pub in-new :
-      (t : Table) (c a : ℕ) → SoundTable t → step t c CloneNew .reply .answer ≡ Number a
+      (t : Table) (c a : ℕ) → SoundTable t → number-of (step t c CloneNew .reply .answer) ≡ pos a
       → (n : ℕ)
       × Born t (after t c CloneNew) c (step t c CloneNew .reply .child .0) n a
-      × (So (namespace-taken (view t) n) → ⊥)
-      × (view (after t c CloneNew) .up n ≡ view t .own c)
+      × MadeNamespace t (after t c CloneNew) c n
   pub no-other :
       (t : Table) (c : ℕ) (call : Call) → (call ≡ Clone → ⊥) → (call ≡ CloneNew → ⊥)
       → step t c call .reply .child .0 ≡ no-slot
+
+-- ---- demand 2: the caller's own record
+
+-- The caller's children are born into n from now on, by a call that took t to u, and no other record changes; a namespace
+-- but those that the call made is as it was, or it is freed, since nobody holds it any more.
+pub record Turned (t u : Table) (c n : ℕ) : Type 0 where
+  pub caller : process u c ≡ with-children (process t c) n
+  pub others : (i : ℕ) → (i ≡ c → ⊥) → process u i ≡ process t i
+  pub namespaces : (m : ℕ) → (m ≡ n → ⊥) → (namespace u m ≡ namespace t m) ⊎ (namespace u m ≡ empty-namespace)
+
+-- What a granted unshare or setns does.
+pub record ChildrenTurn : Type 0 where
+  -- unshare: an unborn namespace below the caller's own becomes its children's namespace.
+  pub by-unshare :
+      (t : Table) (c : ℕ) → SoundTable t → number-of (step t c Unshare .reply .answer) ≡ pos 0
+      → (n : ℕ)
+      × Turned t (after t c Unshare) c n
+      × MadeNamespace t (after t c Unshare) c n
+      × So (unborn (view (after t c Unshare)) n)
+  -- setns n: children's namespace becomes n's own. That one stays as it was.
+  pub by-setns :
+      (t : Table) (c : ℕ) (n : ℤ) → SoundTable t → number-of (step t c (Setns n) .reply .answer) ≡ pos 0
+      → (i : ℕ)
+      × So (numbered (view t) c n i and not (view t .ended i))
+      × Turned t (after t c (Setns n)) c (view t .own i)
+      × (namespace (after t c (Setns n)) (view t .own i) ≡ namespace t (view t .own i))
+
+-- Only the signals of the process at c change, by a call that took t to u.
+pub record OwnSignals (t u : Table) (c : ℕ) : Type 0 where
+  pub caller : process u c ≡ with-traits (process t c) (view u .traits c)
+  pub others : (i : ℕ) → (i ≡ c → ⊥) → process u i ≡ process t i
+  pub namespaces : (n : ℕ) → namespace u n ≡ namespace t n
+
+-- handle and poll change no more, granted or refused.
+pub record SignalsOnly : Type 0 where
+  pub by-handle : (t : Table) (c : ℕ) (s : ℤ) (on : Bool) → SoundTable t → OwnSignals t (after t c (Handle s on)) c
+  pub by-poll : (t : Table) (c : ℕ) → SoundTable t → OwnSignals t (after t c Poll) c
+
+-- ---- demand 2: wait
+
+-- the process at i is an ended child of the caller
+abbrev pub ended-child : View → ℕ → ℕ → Bool
+ended-child v c i = child-of v c i and v .ended i
+
+-- The process at i is removed by the caller's wait, which took t to u.
+pub record Removes (t u : Table) (c i : ℕ) : Type 0 where
+  -- Among the caller's ended children it is the one with the lowest number seen.
+  pub child : So (ended-child (view t) c i)
+  pub lowest : (j : ℕ) → So (ended-child (view t) c j) → pid-to (view t) c i ≤ pid-to (view t) c j
+  -- It is removed, and nobody else is, or changed.
+  pub removed : So (taken (view u) i) → ⊥
+  pub others : (j : ℕ) → (j ≡ i → ⊥) → process u j ≡ process t j
+
+-- What a wait that isn't refused answers, and does.
+pub record WaitExact : Type 0 where
+  -- Answer: the number of the one that is removed, and how it ended.
+  pub removes :
+      (t : Table) (c k : ℕ) (e : End) → SoundTable t → number-of (step t c Wait .reply .answer) ≡ pos k
+      → end-of (step t c Wait .reply .answer) ≡ some e
+      → (i : ℕ) × Removes t (after t c Wait) c i × (k ≡ pid-to (view t) c i) × (view t .state i ≡ Ended e)
+  -- Children but none ended: 0, and nothing changes.
+  pub none-ended :
+      (t : Table) (c k : ℕ) → SoundTable t → number-of (step t c Wait .reply .answer) ≡ pos k
+      → end-of (step t c Wait .reply .answer) ≡ none
+      → (k ≡ 0) × (after t c Wait ≡ t) × ((i : ℕ) → So (ended-child (view t) c i) → ⊥)
+  -- No other call says how a process ended.
+  pub no-other : (t : Table) (c : ℕ) (call : Call) → (call ≡ Wait → ⊥) → end-of (step t c call .reply .answer) ≡ none
 
 -- ---- demand 2: signals
 
@@ -264,8 +268,15 @@ pub record SignalDone (t u : Table) (c : ℕ) (n s : ℤ) : Type 0 where
 -- Each kill that is granted does so.
 unfoldable pub SignalExact : Type 0
 SignalExact =
-    (t : Table) (c : ℕ) (n s : ℤ) → SoundTable t → step t c (Kill n s) .reply .answer ≡ Number 0
+    (t : Table) (c : ℕ) (n s : ℤ) → SoundTable t → number-of (step t c (Kill n s) .reply .answer) ≡ pos 0
     → SignalDone t (after t c (Kill n s)) c n s
+
+-- kill 1 9 by an init on itself: 0, and the whole table stays as it was.
+unfoldable pub InitSpared : Type 0
+InitSpared =
+    (t : Table) (c : ℕ) → SoundTable t → So (runs (view t) c) → So (is-init (view t) c)
+    → (number-of (step t c (Kill (pos 1) (pos sigkill)) .reply .answer) ≡ pos 0)
+    × (after t c (Kill (pos 1) (pos sigkill)) ≡ t)
 
 -- ---- demand 2: ends
 

@@ -11,4 +11,5 @@ pub mod Births
 pub mod Answers
 pub mod Calls
 pub mod Step
+pub mod Refusals
 pub mod Claims

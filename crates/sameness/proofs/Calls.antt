@@ -7,7 +7,7 @@ use mathlib.Core.Path.{_≡_, refl, sym, subst, subst₂, _∙_, ap}
 use lib.Dec.{eqb}
 use lib.IntN.{ℤ}
 use Rattle.rules.proofs.Laws.Facts.{facts}
-use Rattle.rules.proofs.Laws.Judged.{Alike, None, gives, gives-granted, judged-twins, made, made-is, refusals}
+use Rattle.rules.proofs.Laws.Judged.{Alike, None, gives, gives-granted, judged-twins, made, made-is, not-refused, refusals}
 use Rattle.rules.proofs.Laws.Steps.{step-made, runs-lives}
 use Rattle.rules.proofs.Laws.Tests.{left, isnt, or-true, right}
 use Rattle.rules.proofs.Laws.Slots.{living-own-alive, alive-taken}
@@ -18,7 +18,7 @@ use Rattle.sameness.proofs.Cases.{by-test}
 use Rattle.sameness.proofs.Still.{same-still, put-still}
 use Rattle.sameness.proofs.Light.{shown, same-put, shown-as}
 use Rattle.sameness.proofs.Readers.{parent-pid}
-use Rattle.rules.specs.Answers.{is-no-room, number-of, refusal-number, refused, answers, granted, is-refused}
+use Rattle.rules.specs.Answers.{is-no-room, shown as shown-of, number-of, refusal-number, refused, answers, granted, is-refused}
 use Rattle.sameness.specs.Events.{at, follow, sheet-of, Place, gone, is-inside, outside}
 use Rattle.rules.specs.Read.{namespace-taken, view, seen, alive}
 use Rattle.sameness.specs.Sheet.{sheet, row}
@@ -57,7 +57,7 @@ follow-self t (at s) h = rw h
 -- no room on one table, or the same answer and the same sheet
 abbrev pub Kept : Table → Table → ℕ → ℕ → Outcome → Outcome → Type 0
 Kept t u s r x y =
-    So (is-no-room (x .reply .answer) or is-no-room (y .reply .answer))
+    So (is-no-room (shown-of (x .reply .answer)) or is-no-room (shown-of (y .reply .answer)))
     ⊎ ((x .reply .answer ≡ y .reply .answer) × (after t s (x .table) ≡ after u r (y .table)))
 
 -- two tables, S alive in both, and two callers, running, with the same number there
@@ -95,7 +95,7 @@ no-room-left t u s r y = inl refl
 
 no-room-right : (t u : Table) (s r : ℕ) (x : Outcome) → Kept t u s r x (refused u Eagain)
 unfolding refused is-no-room number-of refusal-number
-no-room-right t u s r x = inl (or-true (is-no-room (x .reply .answer)))
+no-room-right t u s r x = inl (or-true (is-no-room (shown-of (x .reply .answer))))
 
 -- S stands after the call, and the tables are the same to it
 pub stands-same : (t u : Table) {t′ u′ : Table} {s r : ℕ} → SoundTable t′ → SoundTable u′ → So (namespace-taken (view t′) s) → So (namespace-taken (view u′) r) → Same (view t′) (view u′) s r → after t s t′ ≡ after u r u′
@@ -143,7 +143,7 @@ pub made-leaves : (c : Call) → GivesLeaves c → MadeLeaves c
 unfolding refused
 made-leaves c g t s i h hs k a =
     made-is (λ o. SoundTable (o .table) → after t s (o .table) ≡ sheet (view t) s) t i c (λ e m. as-it-was t s hs)
-    (λ n q. g t s i h hs k n (outsider t s i c a) (untouched-made s i c h k a (gives t i c tt) q (gives-granted t i c)))
+    (λ n q. g t s i h hs k n (outsider t s i c a) (untouched-made s i c h k a (gives t i c tt) q (not-refused (gives t i c tt) (gives-granted t i c))))
 
 -- S stands, and each row that was there is there, and no other
 pub stands-leaves : {t t′ : Table} {s : ℕ} → SoundTable t → SoundTable t′ → So (namespace-taken (view t) s) → So (namespace-taken (view t′) s) → Same (view t′) (view t) s s → after t s t′ ≡ sheet (view t) s

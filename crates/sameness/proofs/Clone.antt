@@ -11,7 +11,7 @@ use Rattle.rules.proofs.Keeps.Birth.{birth-view, with-born}
 use Rattle.rules.proofs.Keeps.Premises.{free-slot-is}
 use Rattle.rules.proofs.Laws.Below.{not-deepest, up-level, below-trans}
 use Rattle.rules.proofs.Laws.Facts.{Facts, facts, Sane, sane, seen-below, seen-taken, lives-taken, for-children, holds-children}
-use Rattle.rules.proofs.Laws.Judged.{Alike, alike, no-room, all-alike}
+use Rattle.rules.proofs.Laws.Judged.{Alike, alike, all-alike, no-room, place}
 use Rattle.rules.proofs.Laws.Slots.{alive-taken, alive-otherwise, root-only, alive-not-unborn}
 use Rattle.rules.proofs.Laws.Steps.{runs-lives}
 use Rattle.rules.proofs.Laws.Tests.{isnt-so, bool-ext, or-false-left, or-false-right, or-left, no-so, left, right, cases}
@@ -33,7 +33,6 @@ use Rattle.rules.specs.Answers.{answers, granted}
 use Rattle.rules.specs.Births.{birth}
 use Rattle.rules.specs.Calls.{born, elsewhere, new-namespace, own-level, set-children, making-refusals, processes-full, namespaces-full}
 use Rattle.table.specs.Limits.{process-slots, deepest, namespace-slots}
-use Rattle.rules.specs.Claims.{place}
 use Rattle.rules.specs.Pids.{free-slot, free-namespace-slot, next-pid}
 use Rattle.table.specs.Slots.{is-dead, is-alive, process}
 use Rattle.rules.specs.Read.{View, dead, namespace-taken, unborn, view, pid-seen, below, seen, children, taken}

@@ -27,7 +27,7 @@ use Rattle.sameness.proofs.Same.{same-of-sheets, level-lt, row-pid}
 use Rattle.sameness.proofs.Twins.{Pair, Twin, taken-v, taken-u}
 use Rattle.sameness.proofs.Setns.{setns-alike, setns-same, setns-leaves}
 use Rattle.sameness.proofs.Wait.{wait-alike, wait-leaves, wait-same}
-use Rattle.rules.specs.Answers.{is-no-room, refused}
+use Rattle.rules.specs.Answers.{is-no-room, refused, shown}
 use Rattle.rules.specs.Claims.{KeepsSound}
 use Rattle.sameness.specs.Claims.{Agree, Observed, OutsideLeaves, Sameness, observations, observe, lacks-room, NothingLearnt, roomy}
 use Rattle.sameness.specs.Events.{Event, Place, answer-of, at, follow, gone, happens, inside, inside-calls, next-place, next-table, outside, sheet-of, slot-of, table-after}
@@ -174,7 +174,7 @@ one-named : {t u : Table} {s r i j : ℕ} (c : Call) → Alike t (at s) u (at r)
 unfolding table-after answer-of sheet-of KeepsSound
 one-named {t} {u} {s} {r} {i} {j} c w n =
     ⊎-elim (λ x. inl x)
-    (λ x. inr (ap some (x .0), record { sound-t = keeps-sound t i c (w .sound-t); sound-u = keeps-sound u j c (w .sound-u); stands-t = follow-stands t (step t i c .table) (at s); stands-u = follow-stands u (step u j c .table) (at r); sheets = x .1 }))
+    (λ x. inr (ap (λ a. some (shown a)) (x .0), record { sound-t = keeps-sound t i c (w .sound-t); sound-u = keeps-sound u j c (w .sound-u); stands-t = follow-stands t (step t i c .table) (at s); stands-u = follow-stands u (step u j c .table) (at r); sheets = x .1 }))
     (inside-same c (w .sound-t) (w .sound-u) (w .stands-t) (w .stands-u) (w .sheets) n)
 
 inside-step : {t u : Table} (p q : Place) (k : ℕ) (c : Call) → Alike t p u q → Between t p u q (happens t p (inside k c)) (happens u q (inside k c))

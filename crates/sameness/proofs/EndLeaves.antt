@@ -26,7 +26,7 @@ use Rattle.sameness.proofs.Remain.{seen-same}
 use Rattle.sameness.proofs.Still.{Still, near}
 use Rattle.rules.specs.Answers.{answers, granted}
 use Rattle.rules.specs.Calls.{status}
-use Rattle.rules.specs.Claims.{place}
+use Rattle.rules.proofs.Laws.Judged.{place}
 use Rattle.rules.specs.Ends.{end}
 use Rattle.sameness.specs.Events.{at}
 use Rattle.rules.specs.Freeing.{freed, kept}

@@ -11,7 +11,7 @@ use lib.IntN.{ℤ}
 use Rattle.rules.proofs.Keeps.End.{end-sane, end-tree, end-view}
 use Rattle.rules.proofs.Laws.Below.{below-level, up-level}
 use Rattle.rules.proofs.Laws.Facts.{Facts, Sane, sane, seen-below}
-use Rattle.rules.proofs.Laws.Judged.{alike, all-alike}
+use Rattle.rules.proofs.Laws.Judged.{alike, all-alike, place}
 use Rattle.rules.proofs.Laws.Slots.{alive-taken, init-own, root-only, pid-unique, alive-up, init-seen}
 use Rattle.rules.proofs.Laws.Steps.{remainder, runs-lives}
 use Rattle.rules.proofs.Laws.Tests.{isnt-so, right, bool-ext}
@@ -26,7 +26,6 @@ use Rattle.sameness.proofs.Same.{Same}
 use Rattle.sameness.proofs.Twins.{pid-in-unseen, top-twins, Pair, Twin, flip-pair, flip-twin, twins-unique, taken-v, taken-u}
 use Rattle.rules.specs.Answers.{answers, granted}
 use Rattle.rules.specs.Calls.{status}
-use Rattle.rules.specs.Claims.{place}
 use Rattle.rules.specs.Ends.{end}
 use Rattle.rules.specs.Freeing.{freed}
 use Rattle.rules.specs.Read.{View, alive, init, is-init, namespace-taken, pid-in, pid-seen, seen, view, taken}

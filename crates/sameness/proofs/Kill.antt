@@ -15,7 +15,7 @@ use Rattle.rules.proofs.Keeps.Premises.{natural-low}
 use Rattle.rules.proofs.Laws.Below.{below-taken, below-level}
 use Rattle.rules.proofs.Laws.Facts.{Facts, Sane}
 use Rattle.rules.proofs.Laws.Find.{targets-seen}
-use Rattle.rules.proofs.Laws.Judged.{alike, all-alike}
+use Rattle.rules.proofs.Laws.Judged.{alike, all-alike, place}
 use Rattle.rules.proofs.Laws.Lists.{In, in-map, map-in, ascending-sorted, Sorted, map-sorted, sorted-unique, heads-equal, tails-equal, not-empty}
 use Rattle.rules.proofs.Laws.Slots.{pid-unique, alive-taken, living-own-alive, root-only, own-taken}
 use Rattle.rules.proofs.Laws.Tests.{choose, left, right, both, or-true, bool-ext, isnt-not}
@@ -30,7 +30,6 @@ use Rattle.sameness.proofs.Setns.{named-twins}
 use Rattle.sameness.proofs.Twins.{flip-twin, Pair, Twin, Twins, flip-pair, flip-twins, twin-there, seen-twins, pid-twins, owns, twins-unique}
 use Rattle.rules.specs.Answers.{answers, granted}
 use Rattle.rules.specs.Calls.{named, others, targets, natural}
-use Rattle.rules.specs.Claims.{place}
 use Rattle.rules.specs.Delivery.{act, action-on, deliver, deliver-all, resumed, with-pending}
 use Rattle.table.specs.Limits.{process-slots, signals}
 use Rattle.table.specs.Slots.{is-ended, pid-at, process, put}

@@ -24,7 +24,7 @@ use Rattle.sameness.proofs.Same.{Same, same-trans}
 use Rattle.sameness.proofs.Still.{Still, same-still, stands-still, above-still, put-still}
 use Rattle.rules.specs.Answers.{answers, granted}
 use Rattle.rules.specs.Calls.{natural, targets}
-use Rattle.rules.specs.Claims.{place}
+use Rattle.rules.proofs.Laws.Judged.{place}
 use Rattle.rules.specs.Delivery.{act, action-on, deliver, deliver-all, with-pending}
 use Rattle.rules.specs.Ends.{end}
 use Rattle.sameness.specs.Events.{at, is-inside}

@@ -9,7 +9,7 @@ use lib.IntN.{ℤ, pos, negsuc}
 use Rattle.rules.proofs.Keeps.Changes.{setns-sane}
 use Rattle.rules.proofs.Laws.Facts.{facts}
 use Rattle.rules.proofs.Laws.Find.{named-seen}
-use Rattle.rules.proofs.Laws.Judged.{alike, all-alike, gives}
+use Rattle.rules.proofs.Laws.Judged.{alike, all-alike, gives, place}
 use Rattle.rules.proofs.Laws.Steps.{runs-lives}
 use Rattle.rules.proofs.Laws.Tests.{or-false-left}
 use Rattle.sameness.proofs.Calls.{Kept, Ready, owns-twins, TestsAlike, GivesSame, GivesLeaves}
@@ -22,7 +22,6 @@ use Rattle.rules.specs.Answers.{answers, granted}
 use Rattle.rules.specs.Calls.{named, set-children}
 use Rattle.table.specs.Limits.{process-slots}
 use Rattle.table.specs.Slots.{process}
-use Rattle.rules.specs.Claims.{place}
 use Rattle.rules.specs.Read.{view, seen, namespace-taken}
 use Rattle.sameness.specs.Sheet.{Row, row}
 use Rattle.table.specs.Tests.{_or_}

@@ -12,6 +12,7 @@ use Rattle.rules.proofs.Keeps.Freed.{freed-view}
 use Rattle.rules.proofs.Keeps.Puts.{reaped-sane, reaped-view}
 use Rattle.rules.proofs.Keeps.Reap.{without}
 use Rattle.rules.proofs.Laws.Facts.{Facts, facts, sane}
+use Rattle.rules.proofs.Laws.Find.{Least, least-cases}
 use Rattle.rules.proofs.Laws.Judged.{alike, all-alike}
 use Rattle.rules.proofs.Laws.Slots.{init-living, parent-living, child-seen}
 use Rattle.rules.proofs.Laws.Tests.{no-so, zero-or, right, isnt, and-false, true-and, true-or, false-or-true, false-or-false, true-and-false, isnt-not, left, both, any-elim, any-intro, isnt-so, bool-ext}
@@ -46,37 +47,6 @@ use Rattle.table.specs.declared.State.{State}
 use Rattle.table.specs.declared.Table.{Table}
 use Rattle.table.specs.Records.{to-pid}
 use Rattle.table.specs.Traits.{no-traits}
-
--- ---- the lowest
-
-abbrev pub Least : (ℕ → Bool) → (ℕ → ℕ) → ℕ → ℕ → ℕ → Type 0
-Least p f d n x = ((x ≡ d) × ((i : ℕ) → i < n → p i ≡ false)) ⊎ (So (p x) × (x < n) × ((i : ℕ) → i < n → So (p i) → f x ≤ f i))
-
--- the number at which f is lowest, or none
-pub least-cases : (p : ℕ → Bool) (f : ℕ → ℕ) (d n : ℕ) → n ≤ d → Least p f d n (least p f d n)
-unfolding least
-least-cases p f d zero l = inl (refl, λ i k. absurd (omega arith))
-least-cases p f d (suc n) l = go (least p f d n) (least-cases p f d n (omega arith)) (p n) refl
-  where
-    extend : (P : ℕ → Type 0) → ((i : ℕ) → i < n → P i) → P n → (i : ℕ) → i < suc n → P i
-    extend P h k i m = by-equal i n (λ e. subst P (sym e) k) (λ e. h i (omega arith))
-
-    go : (b : ℕ) → Least p f d n b → (c : Bool) → p n ≡ c → Least p f d (suc n) (if p n and (eqb b d or ltb (f n) (f b)) then n else b)
-    go b r false e = rw (e, and-false (eqb b d or ltb (f n) (f b))) (stay b r)
-      where
-        stay : (b : ℕ) → Least p f d n b → Least p f d (suc n) b
-        stay b (inl (q, h)) = inl (q, extend (λ i. p i ≡ false) h e)
-        stay b (inr (q, m, h)) = inr (q, omega arith, extend (λ i. So (p i) → f b ≤ f i) h (λ k. absurd (false≢true (sym e ∙ k))))
-    go b r true e = test (eqb b d) refl (ltb (f n) (f b)) refl r
-      where
-        test : (x : Bool) → eqb b d ≡ x → (y : Bool) → ltb (f n) (f b) ≡ y → Least p f d n b → Least p f d (suc n) (if p n and (eqb b d or ltb (f n) (f b)) then n else b)
-        test true ex y ey (inl (q, h)) = rw (e, ex, true-or (ltb (f n) (f b)), true-and) (inr (e, omega arith, extend (λ i. So (p i) → f n ≤ f i) (λ i m k. absurd (false≢true (sym (h i m) ∙ k))) (λ k. omega arith)))
-        test true ex y ey (inr (q, m, h)) = absurd (omega (arith, eqb-true b d ex))
-        test false ex y ey (inl (q, h)) = absurd (eqb-false b d ex q)
-        test false ex true ey (inr (q, m, h)) =
-            rw (e, ex, ey, false-or-true, true-and) (inr (e, omega arith, extend (λ i. So (p i) → f n ≤ f i) (λ i a k. omega (arith, h i a k, ltb-true (f n) (f b) ey)) (λ k. omega arith)))
-        test false ex false ey (inr (q, m, h)) =
-            rw (e, ex, ey, false-or-false, true-and-false) (inr (q, omega arith, extend (λ i. So (p i) → f b ≤ f i) h (λ k. ltb-false (f n) (f b) ey)))
 
 -- ---- a slot emptied
 

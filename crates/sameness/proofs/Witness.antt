@@ -3,7 +3,7 @@
 use Prim.Native.Nat.{ℕ}
 use mathlib.Core.Bool.{Bool, true, So}
 use mathlib.Core.List.{List, [], _∷_, map}
-use mathlib.Core.Option.{some}
+use mathlib.Core.Option.{none, some}
 use mathlib.Core.Path.{_≡_, refl, sym, _∙_}
 use lib.IntN.{pos}
 use lib.ListN.{replicate}
@@ -14,15 +14,14 @@ use Rattle.rules.proofs.Tables.{crowd, after}
 use Rattle.sameness.specs.Claims.{Sameness, Agree, observations}
 use Rattle.sameness.specs.Events.{Place, at, Event, inside, outside, sheet-of, inside-calls, happens, answer-of, next-table, next-place}
 use Rattle.table.specs.Fresh.{fresh}
+use Rattle.rules.specs.Answers.{minus}
 use Rattle.rules.specs.Read.{view, alive}
 use Rattle.sameness.specs.Sheet.{Sheet, by-init, sheet}
 use Rattle.rules.specs.Sound.{SoundTable}
 use Rattle.sameness.specs.Touches.{touches, untouched}
-use Rattle.table.specs.declared.Answer.the-variants.{Refused, Number}
 use Rattle.table.specs.declared.Call.{Call}
 use Rattle.table.specs.declared.Call.the-variants.{Clone, CloneNew, Setns, Kill, Exit, Wait, Getpid, Getppid}
 use Rattle.table.specs.declared.End.the-variants.{Exited}
-use Rattle.table.specs.declared.Refusal.the-variants.{Eagain}
 use Rattle.table.specs.declared.State.{State}
 use Rattle.table.specs.declared.State.the-variants.{Running, Stopped, Ended}
 use Rattle.table.specs.declared.Table.{Table}
@@ -118,7 +117,7 @@ full = after (crowd 62) ((0, CloneNew) ∷ [])
 -- The same sheet, the same call, and one answer is "no room".
 pub no-room :
     (sheet (view full) 1 ≡ lone-init)
-    × (answer-of (happens alone (at 1) (inside 1 Clone)) ≡ some (Number 2))
-    × (answer-of (happens full (at 1) (inside 1 Clone)) ≡ some (Refused Eagain))
+    × (answer-of (happens alone (at 1) (inside 1 Clone)) ≡ some (pos 2, none))
+    × (answer-of (happens full (at 1) (inside 1 Clone)) ≡ some (minus 11, none))
 unfolding everything sheets
 no-room = (refl, refl, refl)

@@ -4,14 +4,13 @@ use mathlib.Core.Bool.{Bool, true, false, not, So}
 use mathlib.Core.List.{List, [], _∷_}
 use mathlib.Core.Option.{Option, none, some}
 use mathlib.Core.Path.{_≡_}
-use Rattle.rules.specs.Answers.{is-no-room}
+use Rattle.rules.specs.Answers.{Shown, is-no-room}
 use Rattle.sameness.specs.Events.{Place, at, Event, inside, outside, sheet-of, inside-calls, happens, answer-of, next-table, next-place}
 use Rattle.rules.specs.Read.{view, namespace-taken, alive}
 use Rattle.sameness.specs.Sheet.{Sheet, sheet}
 use Rattle.rules.specs.Sound.{SoundTable}
 use Rattle.table.specs.Tests.{_and_, _or_, if_then_else_}
 use Rattle.sameness.specs.Touches.{allowed, untouched}
-use Rattle.table.specs.declared.Answer.{Answer}
 use Rattle.table.specs.declared.Call.{Call}
 use Rattle.table.specs.declared.Table.{Table}
 
@@ -23,7 +22,7 @@ OutsideLeaves =
 
 -- Compared are the answers, with how a removed process ended, but no slot told to the host, and the whole sheets.
 pub record Observed : Type 0 where
-  pub answer : Option Answer
+  pub answer : Option Shown
   pub sheet : Sheet
 
 -- what one event adds: after an inside call its answer and the sheet

@@ -5,11 +5,11 @@ use mathlib.Core.List.{List, [], _∷_}
 use mathlib.Core.Option.{Option, none, some}
 use lib.Dec.{eqb}
 use Rattle.table.specs.Limits.{process-slots}
+use Rattle.rules.specs.Answers.{Shown, shown}
 use Rattle.rules.specs.Read.{view, namespace-taken, below, seen, find}
 use Rattle.sameness.specs.Sheet.{Sheet, sheet}
 use Rattle.rules.specs.Step.{step}
 use Rattle.table.specs.Tests.{if_then_else_}
-use Rattle.table.specs.declared.Answer.{Answer}
 use Rattle.table.specs.declared.Call.{Call}
 use Rattle.table.specs.declared.Outcome.{Outcome}
 use Rattle.table.specs.declared.Table.{Table}
@@ -71,10 +71,10 @@ unfoldable pub table-after : Table → Option Outcome → Table
 table-after t none = t
 table-after t (some r) = r .table
 
--- the answer, without the slot told to the host
-unfoldable pub answer-of : Option Outcome → Option Answer
+-- the answer as it is shown, without the slot told to the host
+unfoldable pub answer-of : Option Outcome → Option Shown
 answer-of none = none
-answer-of (some r) = some (r .reply .answer)
+answer-of (some r) = some (shown (r .reply .answer))
 
 -- the table after an event
 abbrev pub next-table : Table → Place → Event → Table

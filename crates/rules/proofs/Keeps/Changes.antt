@@ -17,13 +17,13 @@ use Rattle.rules.proofs.Keeps.Puts.{with-all, set-children-sane, reaped
 use Rattle.rules.proofs.Laws.Below.{level-deepest, not-deepest}
 use Rattle.rules.proofs.Laws.Facts.{Facts, Holder, Taken, Stands, Lives, Below, Seen, Other, lives-taken, not-ended, seen-taken, seen-below, facts, held-in, Sane, sane, Holds, holds-children}
 use Rattle.rules.proofs.Laws.Find.{named-seen}
-use Rattle.rules.proofs.Laws.Judged.{None, gives, made-is, refusals}
+use Rattle.rules.proofs.Laws.Judged.{gives, made-is, None, place, refusals}
 use Rattle.rules.proofs.Laws.Steps.{made-or-refused, runs-lives, remainder}
 use Rattle.rules.proofs.Laws.Tests.{isnt-so, no-so, choose, both, isnt-not, or-false-left, or-false-right}
 use Rattle.rules.specs.Answers.{answers, granted, refused}
 use Rattle.rules.specs.Births.{birth}
 use Rattle.rules.specs.Calls.{first-ended, getpid, getppid, handle-off, handle-on, named, natural, new-namespace, own-level, poll, reap, set-children, status, targets, taken-up}
-use Rattle.rules.specs.Claims.{KeepsSound, place}
+use Rattle.rules.specs.Claims.{KeepsSound}
 use Rattle.rules.specs.Delivery.{act, action-on, deliver, deliver-all, resumed, with-pending}
 use Rattle.rules.specs.Ends.{end}
 use Rattle.rules.specs.Freeing.{freed}

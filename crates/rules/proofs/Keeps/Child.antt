@@ -87,6 +87,7 @@ module _ (t : Table) (s : Sane t) (c n : ℕ) (m : MayBear (view t) c n) where
   born-child a e =
       record {
         new = free;
+        lowest = K.free-slot-lowest v;
         here = there;
         kin = (ap (λ (p : Process). p .parent .0) self, ap (λ (p : Process). p .own .0) self, ap (λ (p : Process). p .children .0) self);
         bare = (ap (λ (p : Process). p .state) self, ap (λ (p : Process). p .traits .handled) self ∙ born-signals _ .0, ap (λ (p : Process). p .traits .pending) self ∙ born-signals _ .1);

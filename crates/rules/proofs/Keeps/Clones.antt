@@ -1,24 +1,25 @@
 -- What a granted clone tells, and that no other call tells a slot.
 use Prim.Native.Nat.{ℕ, _<_}
 use native.Mathlib.Omega.{arith}
-use mathlib.Core.Bool.{So, false≢true}
+use mathlib.Core.Bool.{So}
 use mathlib.Core.Path.{_≡_, refl, sym, _∙_, ap, subst}
 use borrow.Author.Tests.{eq-eqb}
 use lib.Dec.{eqb}
+use lib.IntN.{pos}
 use Rattle.rules.proofs.Keeps.Birth.{birth-view}
 use Rattle.rules.proofs.Keeps.Changes.{Change, MayBear, change-sane, may-bear, may-bear-new}
 use Rattle.rules.proofs.Keeps.Child.{next-unique, free, there, born-child, born-place}
 use Rattle.rules.proofs.Keeps.Fresh.{next-rule, birth-numbered, new-numbered}
 use Rattle.rules.proofs.Keeps.Premises as K
 use Rattle.rules.proofs.Keeps.Puts.{new-namespace-view}
-use Rattle.rules.proofs.Laws.Facts.{Stands, facts, Sane, sane}
-use Rattle.rules.proofs.Laws.Judged.{gives, made-is}
+use Rattle.rules.proofs.Laws.Facts.{facts, Sane, sane}
+use Rattle.rules.proofs.Laws.Judged.{gives, made-is, none-refused, place}
 use Rattle.rules.proofs.Laws.Steps.{outcome-of}
 use Rattle.rules.proofs.Laws.Tests.{choose}
-use Rattle.rules.specs.Answers.{answers, granted, is-refused, refused}
+use Rattle.rules.specs.Answers.{answers, granted, number-of, refused}
 use Rattle.rules.specs.Births.{birth}
 use Rattle.rules.specs.Calls.{first-ended, getpid, getppid, new-namespace, poll, reap}
-use Rattle.rules.specs.Claims.{place, Born, CloneTells}
+use Rattle.rules.specs.Claims.{Born, MadeNamespace, CloneTells}
 use Rattle.rules.specs.Pids.{free-namespace-slot, free-slot, next-pid}
 use Rattle.rules.specs.Read.{View, pid-seen, taken, unborn, view, children}
 use Rattle.rules.specs.Sound.{SoundTable, sound}
@@ -26,38 +27,32 @@ use Rattle.rules.specs.Step.{make, runs, step}
 use Rattle.table.specs.Limits.{namespace-slots, no-slot, signals}
 use Rattle.table.specs.SignalSets.{lowest-signal}
 use Rattle.table.specs.Slots.{process}
-use Rattle.table.specs.declared.Answer.the-variants.{Number}
 use Rattle.table.specs.declared.Call.the-variants.{Clone, CloneNew, Unshare, Setns, Kill, Exit, Wait, Getpid, Getppid, Handle, Poll}
 use Rattle.table.specs.declared.Call.{Call}
 use Rattle.table.specs.declared.Outcome.{Outcome}
 use Rattle.table.specs.declared.Refusal.the-variants.{NotRunning, Enospc, Enomem, Eagain}
-use Rattle.table.specs.declared.Refusal.{Refusal}
 use Rattle.table.specs.declared.State.the-variants.{Running, Stopped, Ended}
 use Rattle.table.specs.declared.State.{State}
 use Rattle.table.specs.declared.Table.{Table}
 
 -- ---- each call
 
-same-answer : (a b : ℕ) → Number a ≡ Number b → a ≡ b
+same-answer : (a b : ℕ) → pos a ≡ pos b → a ≡ b
 same-answer a b e = cc
-
-none-refused : (t : Table) (e : Refusal) (a : ℕ) → refused t e .reply .answer ≡ Number a → ⊥
-unfolding refused is-refused
-none-refused t e a q = false≢true (sym (ap is-refused q))
 
 -- what a granted clone tells
 abbrev Told : Table → ℕ → ℕ → ℕ → Outcome → Type 0
-Told t c n a o = o .reply .answer ≡ Number a → Born t (o .table) c (o .reply .child .0) n a
+Told t c n a o = number-of (o .reply .answer) ≡ pos a → Born t (o .table) c (o .reply .child .0) n a
 
 abbrev ToldNew : Table → ℕ → ℕ → Outcome → Type 0
-ToldNew t c a o = o .reply .answer ≡ Number a → (n : ℕ) × Born t (o .table) c (o .reply .child .0) n a × (Stands (view t) n → ⊥) × (view (o .table) .up n ≡ view t .own c)
+ToldNew t c a o = number-of (o .reply .answer) ≡ pos a → (n : ℕ) × Born t (o .table) c (o .reply .child .0) n a × MadeNamespace t (o .table) c n
 
 module _ (t : Table) (c : ℕ) (h : SoundTable t) (r : So (runs (view t) c)) (a : ℕ) where
   abbrev v : View
   v = view t
 
   clone-told : Told t c (children v c) a (make t c Clone)
-  unfolding place
+  unfolding place number-of
   clone-told =
       made-is (Told t c (children v c) a) t c Clone (λ e q. absurd (none-refused t e a q)) (λ n w q.
       let m = may-bear t c h r (n Enomem) (n Eagain) in
@@ -86,7 +81,7 @@ module _ (t : Table) (c : ℕ) (h : SoundTable t) (r : So (runs (view t) c)) (a 
     unfolding new-namespace taken free-slot
     new-child b e =
         let z = born-child u s c n m b e in
-        record { new = z .new; here = z .here; kin = z .kin; bare = z .bare; first = λ y. z .first (subst (λ (w : View). So (unborn w n)) (sym (new-namespace-view t (h .shape) c l)) (rw (eq-eqb n n refl))); answer = z .answer; others = z .others }
+        record { new = z .new; lowest = K.free-slot-lowest v; here = z .here; kin = z .kin; bare = z .bare; first = λ y. z .first (subst (λ (w : View). So (unborn w n)) (sym (new-namespace-view t (h .shape) c l)) (rw (eq-eqb n n refl))); answer = z .answer; others = z .others }
 
     up-new : view (birth u c n) .up n ≡ v .own c
     up-new =
@@ -94,11 +89,11 @@ module _ (t : Table) (c : ℕ) (h : SoundTable t) (r : So (runs (view t) c)) (a 
         ∙ ap (λ (w : View). w .up n) (new-namespace-view t (h .shape) c l) ∙ rw (eq-eqb n n refl)
 
   clone-new-told : ToldNew t c a (make t c CloneNew)
-  unfolding place
+  unfolding place number-of
   clone-new-told =
       made-is (ToldNew t c a) t c CloneNew (λ e q. absurd (none-refused t e a q)) (λ n w q.
       let (z, l, m) = may-bear-new t c h r (n Enospc) (n Eagain) in
-      (free-namespace-slot v, new-child z l m a (sym (same-answer _ a q) ∙ number-new z l m), K.free-namespace-is v (λ e. omega (arith, l, e)) .1, up-new z l m))
+      (free-namespace-slot v, new-child z l m a (sym (same-answer _ a q) ∙ number-new z l m), record { new = K.free-namespace-is v (λ e. omega (arith, l, e)) .1; lowest = K.free-namespace-lowest v; parent = up-new z l m }))
 
 -- ---- no other call tells a slot
 

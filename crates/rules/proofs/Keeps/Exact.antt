@@ -107,17 +107,22 @@ module _ (t : Table) (c i : ℕ) (h : SoundTable t) (r : So (runs (view t) c)) (
       let l = f .in-range i (seen-taken v (v .own c) i seen-i) in
       rw (e, ne-eqb i process-slots (λ q. omega (arith, q, l)))
 
-  kill-made : (s : ℕ) → s < signals → make t c (Kill (pos k) (pos s)) .table ≡ freed (deliver t (v .own c) i s)
-  unfolding make kill answers granted _and_ deliver-all k
+  kill-made : (s : ℕ) → s < signals → make t c (Kill (pos k) (pos s)) ≡ answers (freed (deliver t (v .own c) i s)) 0
+  unfolding make kill _and_ deliver-all k
   kill-made s l =
       let z : eqb k 0 ≡ false = ne-eqb k 0 (counted v f c here i seen-i) in
       let a : not (within 0 signals (pos s)) ≡ false = ap not (both _ _ (le-leb 0 s (omega arith)) (lt-ltb s signals l)) in
       rw (a, z, found, kill, kill-gives)
 
-  -- a signal by number that ends its target
+  -- a signal by number
+  pub kill-answers : (s : ℕ) → s < signals → step t c (Kill (pos (pid-to v c i)) (pos s)) ≡ answers (freed (deliver t (v .own c) i s)) 0
+  unfolding k
+  kill-answers s l = step-made t c (Kill (pos k) (pos s)) h r ∙ kill-made s l
+
+  -- one that ends its target
   pub finish-made : (s : ℕ) → s < signals → action-on v (v .own c) i s ≡ Finish → step t c (Kill (pos (pid-to v c i)) (pos s)) .table ≡ freed (end t i (Signaled s))
-  unfolding deliver act k
-  finish-made s l e = ap (λ (o : Outcome). o .table) (step-made t c (Kill (pos k) (pos s)) h r) ∙ kill-made s l ∙ ap (λ a. freed (act t i s a)) e
+  unfolding deliver act answers granted
+  finish-made s l e = ap (λ (o : Outcome). o .table) (kill-answers s l) ∙ ap (λ a. freed (act t i s a)) e
 
 by-signal : (t : Table) (c i : ℕ) → SoundTable t → So (runs (view t) c) → Lives (view t) i → So (is-init (view t) i) → Seen (view t) (view t .own c) i → (view t .own i ≡ view t .own c → ⊥) → EndsExactly t (step t c (Kill (pos (pid-to (view t) c i)) (pos 9)) .table) i (Signaled 9)
 unfolding _and_

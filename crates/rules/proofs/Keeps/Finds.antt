@@ -17,7 +17,7 @@ use Rattle.rules.proofs.Laws.Lists.{In, some-of-in, in-some-of, only-in
 use Rattle.rules.proofs.Laws.Slots.{pid-pos}
 use Rattle.rules.proofs.Laws.Tests.{left, right, both}
 use Rattle.rules.specs.Calls.{targets, named, others, pid-to}
-use Rattle.rules.specs.Claims.{meant, numbered}
+use Rattle.rules.specs.Refusals.{meant, numbered}
 use Rattle.rules.specs.Freeing.{freed}
 use Rattle.table.specs.Limits.{process-slots}
 use Rattle.table.specs.Slots.{no-process, process}
@@ -65,6 +65,13 @@ module _ (v : View) (f : Facts v) (c : ℕ) (here : Taken v c) where
     λ h. let (m, k) = only-in _ i _ (some-of-in i _ h) in both _ _ (ascending-in _ _ process-slots i m .1) k,
     λ h. in-some-of i _ (in-only _ i _ (in-ascending _ _ process-slots i (f .in-range i (seen-taken v _ i (left _ _ h))) (left _ _ h)) (right _ _ h)),
   )
+
+-- whom a number names in the caller's namespace has it there
+pub named-is : (v : View) (c : ℕ) (n : ℤ) → (named v c n ≡ process-slots → ⊥) → So (numbered v c n (named v c n))
+unfolding numbered named
+named-is v c (pos zero) o = absurd (o refl)
+named-is v c (pos (suc k)) o = ⊎-elim (λ x. both _ _ (x .0) (eq-eqb _ (suc k) (x .1))) (λ x. absurd (o (x .0))) (find-cases v (v .own c) (suc k))
+named-is v c (negsuc k) o = absurd (o refl)
 
 -- freeing leaves the processes
 pub freed-leaves : (t : Table) → So (shaped t) → (i : ℕ) → process (freed t) i ≡ process t i

@@ -1,7 +1,7 @@
 -- What a granted kill does, slot by slot.
 use Prim.Native.Nat.{ℕ, _<_}
 use native.Mathlib.Omega.{arith}
-use mathlib.Core.Bool.{Bool, true, false, not, So, false≢true}
+use mathlib.Core.Bool.{Bool, true, false, not, So}
 use mathlib.Core.List.{_∷_, []}
 use mathlib.Core.Logic.{inr, ⊎-elim}
 use mathlib.Core.Path.{_≡_, refl, sym, _∙_, ap, subst}
@@ -21,22 +21,22 @@ use Rattle.rules.proofs.Laws.Below.{below-trans}
 use Rattle.rules.proofs.Laws.Facts.{Facts, Taken, Lives, Below, Seen, Other, lives-taken, not-ended, seen-taken, seen-below, is-seen, facts, Sane, sane, zero-of}
 use Rattle.rules.proofs.Laws.Lists.{In, Distinct, some-of-in, in-some-of, sorted-distinct, only-distinct, ascending-sorted}
 use Rattle.rules.proofs.Laws.Slots.{child-seen, living-own-alive, init-living, init-own, own-taken}
-use Rattle.rules.proofs.Laws.Judged.{made-is}
+use Rattle.rules.proofs.Laws.Judged.{made-is, none-refused, place}
 use Rattle.rules.proofs.Laws.Steps.{runs-lives, outcome-of}
 use Rattle.rules.proofs.Laws.Tests.{isnt-not, yes-or-no, no-so, left, right, both, not-iff}
-use Rattle.rules.specs.Answers.{answers, granted, is-refused, refused}
+use Rattle.rules.specs.Answers.{answers, granted, number-of, refused}
 use Rattle.rules.specs.Calls.{natural, others, pid-to, targets, named}
-use Rattle.rules.specs.Claims.{place, Falls, SignalDone, SignalExact, SignalFinds, felled, heir, meant, numbered, struck}
+use Rattle.rules.specs.Claims.{Falls, SignalDone, SignalExact, SignalFinds, felled, heir, struck}
 use Rattle.rules.specs.Delivery.{action-on, deliver-all}
 use Rattle.rules.specs.Freeing.{freed}
 use Rattle.rules.specs.Read.{View, all-seen, init, is-init, living, seen, taken, view}
+use Rattle.rules.specs.Refusals.{meant, numbered}
 use Rattle.rules.specs.Sound.{SoundTable}
 use Rattle.rules.specs.Step.{runs, step}
 use Rattle.table.specs.Limits.{process-slots, signals}
 use Rattle.table.specs.Slots.{is-ended, pid-at, process}
 use Rattle.table.specs.Tests.{_and_, if_then_else_}
 use Rattle.table.specs.declared.Action.the-variants.{Finish}
-use Rattle.table.specs.declared.Answer.the-variants.{Number}
 use Rattle.table.specs.declared.Call.the-variants.{Kill}
 use Rattle.table.specs.declared.End.the-variants.{Signaled}
 use Rattle.table.specs.declared.Outcome.{Outcome}
@@ -221,16 +221,16 @@ module _ (t : Table) (c : ℕ) (h : SoundTable t) (r : So (runs (view t) c)) (n 
 
 -- each kill that is granted
 pub signal-exact : SignalExact
-unfolding SignalExact place answers granted refused is-refused
+unfolding SignalExact place answers granted refused
 signal-exact t c n s h =
     outcome-of Done t c (Kill n s) h (refuse NotRunning) (λ r.
     made-is Done t c (Kill n s) refuse (λ a w q. signal-done t c h r n s (K.natural-low s (isnt-not _ (a Einval)))))
   where
     Done : Outcome → Type 0
-    Done o = o .reply .answer ≡ Number 0 → SignalDone t (o .table) c n s
+    Done o = number-of (o .reply .answer) ≡ pos 0 → SignalDone t (o .table) c n s
 
     refuse : (e : Refusal) → Done (refused t e)
-    refuse e q = absurd (false≢true (sym (ap is-refused q)))
+    refuse e q = absurd (none-refused t e 0 q)
 
 -- ---- who is not seen
 

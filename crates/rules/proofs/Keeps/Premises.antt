@@ -15,7 +15,7 @@ use Rattle.rules.proofs.Laws.Below.{shallow-below, level-deepest}
 use Rattle.rules.proofs.Laws.Facts.{Holder, Facts, Held, Taken, Stands, Lives, Below, Seen, lives-taken, not-ended, seen-below, facts, held-in, sound-from, sane, Holds}
 use Rattle.rules.proofs.Laws.Find.{lowest-is, targets-seen}
 use Rattle.rules.proofs.Laws.Steps.{runs-lives}
-use Rattle.rules.proofs.Laws.Tests.{no-so, isnt-so, left, right}
+use Rattle.rules.proofs.Laws.Tests.{no-so, isnt-so, isnt-not, left, right}
 use Rattle.rules.specs.Births.{birth}
 use Rattle.rules.specs.Calls.{natural, new-namespace, targets, within}
 use Rattle.table.specs.Limits.{deepest, namespace-slots, process-slots, signals}
@@ -36,6 +36,15 @@ use Rattle.table.specs.Records.{with-traits}
 pub free-slot-is : (v : View) → (free-slot v ≡ process-slots → ⊥) → (free-slot v < process-slots) × (Taken v (free-slot v) → ⊥)
 unfolding free-slot
 free-slot-is v o = let r = lowest-is (λ i. not (taken v i)) process-slots 0 in let l : lowest (λ i. not (taken v i)) process-slots 0 < process-slots = omega (arith, r .upto) in (l, λ t. no-so (ap not t) (r .holds (omega arith)))
+
+-- and each one below it is taken
+pub free-slot-lowest : (v : View) (j : ℕ) → j < free-slot v → Taken v j
+unfolding free-slot
+free-slot-lowest v j l = isnt-not _ (lowest-is (λ i. not (taken v i)) process-slots 0 .none-before j (omega arith) l)
+
+pub free-namespace-lowest : (v : View) (j : ℕ) → j < free-namespace-slot v → Stands v j
+unfolding free-namespace-slot
+free-namespace-lowest v j l = isnt-not _ (lowest-is (λ n. not (namespace-taken v n)) namespace-slots 0 .none-before j (omega arith) l)
 
 pub free-namespace-is : (v : View) → (free-namespace-slot v ≡ namespace-slots → ⊥) → (free-namespace-slot v < namespace-slots) × (Stands v (free-namespace-slot v) → ⊥)
 unfolding free-namespace-slot

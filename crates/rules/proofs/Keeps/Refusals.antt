@@ -1,39 +1,40 @@
 -- A refusal leaves the whole table unchanged and tells the host no slot.
 use Prim.Native.Nat.{ℕ}
-use mathlib.Core.Bool.{false, false≢true}
+use mathlib.Core.Option.{Option, none, some}
 use mathlib.Core.Path.{_≡_, refl, sym, _∙_, ap}
-use Rattle.rules.proofs.Laws.Judged.{gives, gives-granted, made-is}
+use lib.IntN.{negsuc}
+use Rattle.rules.proofs.Laws.Judged.{gives, gives-granted, made-is, some-none, told}
 use Rattle.rules.proofs.Laws.Tests.{choose}
-use Rattle.rules.specs.Answers.{refused, is-refused}
+use Rattle.rules.specs.Answers.{number-of, refused}
 use Rattle.rules.specs.Claims.{RefusalLeaves}
+use Rattle.rules.specs.Refusals.{below-0}
 use Rattle.table.specs.Limits.{no-slot}
 use Rattle.rules.specs.Read.{view}
 use Rattle.rules.specs.Sound.{sound}
 use Rattle.rules.specs.Step.{make, runs, step}
-use Rattle.table.specs.declared.Answer.the-variants.{Refused}
 use Rattle.table.specs.declared.Call.{Call}
 use Rattle.table.specs.declared.Outcome.{Outcome}
 use Rattle.table.specs.declared.Refusal.the-variants.{Unsound, NotRunning}
 use Rattle.table.specs.declared.Refusal.{Refusal}
 use Rattle.table.specs.declared.Table.{Table}
 
--- If the outcome is a refusal, it leaves t and tells no slot.
-abbrev Leaves : Table → Outcome → Type 0
-Leaves t o = (e : Refusal) → o .reply .answer ≡ Refused e → (o .table ≡ t) × (o .reply .child .0 ≡ no-slot)
+-- If the outcome's number is below 0, it leaves t and tells no slot.
+abbrev Leaves : Table → ℕ → Outcome → Type 0
+Leaves t k o = number-of (o .reply .answer) ≡ negsuc k → (o .table ≡ t) × (o .reply .child .0 ≡ no-slot)
 
-refuses : (t : Table) (e : Refusal) → Leaves t (refused t e)
+refuses : (t : Table) (k : ℕ) (e : Refusal) → Leaves t k (refused t e)
 unfolding refused
-refuses t e r q = (refl, refl)
+refuses t k e q = (refl, refl)
 
--- an outcome that is no refusal
-grants : (t : Table) (o : Outcome) → is-refused (o .reply .answer) ≡ false → Leaves t o
-unfolding is-refused
-grants t o h e q = absurd (false≢true (sym h ∙ ap is-refused q))
+-- an outcome whose number is not
+grants : (t : Table) (k : ℕ) (o : Outcome) → told o ≡ none → Leaves t k o
+unfolding below-0
+grants t k o h q = absurd (some-none (sym (ap below-0 q) ∙ h))
 
-make-leaves : (t : Table) (c : ℕ) (call : Call) → Leaves t (make t c call)
-make-leaves t c call = made-is (Leaves t) t c call (refuses t) (λ n q. grants t (gives t c call tt) (gives-granted t c call))
+make-leaves : (t : Table) (k c : ℕ) (call : Call) → Leaves t k (make t c call)
+make-leaves t k c call = made-is (Leaves t k) t c call (refuses t k) (λ n q. grants t k (gives t c call tt) (gives-granted t c call))
 
 -- a refusal of any call on any table
 pub refusal-leaves : RefusalLeaves
 unfolding RefusalLeaves step
-refusal-leaves t c call = choose (Leaves t) (sound t) (λ a. choose (Leaves t) (runs (view t) c) (λ a. make-leaves t c call) (λ a. refuses t NotRunning)) (λ a. refuses t Unsound)
+refusal-leaves t c k call = choose (Leaves t k) (sound t) (λ a. choose (Leaves t k) (runs (view t) c) (λ a. make-leaves t k c call) (λ a. refuses t k NotRunning)) (λ a. refuses t k Unsound)

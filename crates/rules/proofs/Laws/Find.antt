@@ -2,20 +2,20 @@
 use Prim.Native.Nat.{ℕ, zero, suc, _<_, _≤_, _+_}
 use native.Mathlib.Decide.{ℕ-discrete, decLt}
 use native.Mathlib.Omega.{arith}
-use mathlib.Core.Bool.{Bool, true, false, So}
+use mathlib.Core.Bool.{Bool, true, false, So, false≢true}
 use mathlib.Core.List.{[], _∷_}
 use mathlib.Core.Logic.{_⊎_, inl, ⊎-elim, inr}
-use mathlib.Core.Path.{_≡_, refl, subst, sym}
-use borrow.Author.Tests.{eqb-true, eq-eqb, eqb-false}
-use lib.Dec.{eqb}
+use mathlib.Core.Path.{_≡_, refl, subst, sym, _∙_}
+use borrow.Author.Tests.{eqb-true, eq-eqb, eqb-false, ltb-true, ltb-false}
+use lib.Dec.{eqb, ltb}
 use lib.IntN.{ℤ, pos, negsuc}
 use Rattle.rules.proofs.Laws.Facts.{Facts, Stands, Seen, seen-taken}
 use Rattle.rules.proofs.Laws.Lists.{In, ascending-in, only-in}
-use Rattle.rules.proofs.Laws.Tests.{left, right, no-so, both}
+use Rattle.rules.proofs.Laws.Tests.{left, right, no-so, both, and-false, true-and, true-or, false-or-true, false-or-false, true-and-false}
 use Rattle.rules.specs.Calls.{named, targets, others}
 use Rattle.table.specs.Limits.{process-slots}
 use Rattle.rules.specs.Read.{View, find, seen, pid-seen, all-seen}
-use Rattle.table.specs.Tests.{lowest, _and_, if_then_else_, if_then_else_}
+use Rattle.table.specs.Tests.{lowest, least, _and_, _or_, if_then_else_}
 
 pub record Lowest (f : ℕ → Bool) (n k r : ℕ) : Type 0 where
   pub from : k ≤ r
@@ -36,6 +36,39 @@ lowest-is f (suc n) k = go (f k) refl (lowest-is f n (suc k))
     go : (b : Bool) → f k ≡ b → Lowest f n (suc k) (lowest f n (suc k)) → Lowest f (suc n) k (elim b as (λ x. ℕ) [ true ↦ k | false ↦ lowest f n (suc k) ])
     go true e h = record { from = omega arith; upto = omega arith; holds = λ l. e; none-before = λ j a b. absurd (omega arith) }
     go false e h = record { from = omega (arith, h .from); upto = omega (arith, h .upto); holds = λ l. h .holds (omega arith); none-before = λ j a b. before e _ h j a b (ℕ-discrete j k) }
+
+-- where f is lowest among those of which p holds, or d where there is none
+abbrev pub Least : (ℕ → Bool) → (ℕ → ℕ) → ℕ → ℕ → ℕ → Type 0
+Least p f d n x = ((x ≡ d) × ((i : ℕ) → i < n → p i ≡ false)) ⊎ (So (p x) × (x < n) × ((i : ℕ) → i < n → So (p i) → f x ≤ f i))
+
+pub least-cases : (p : ℕ → Bool) (f : ℕ → ℕ) (d n : ℕ) → n ≤ d → Least p f d n (least p f d n)
+unfolding least
+least-cases p f d zero l = inl (refl, λ i k. absurd (omega arith))
+least-cases p f d (suc n) l = go (least p f d n) (least-cases p f d n (omega arith)) (p n) refl
+  where
+    extend : (P : ℕ → Type 0) → ((i : ℕ) → i < n → P i) → P n → (i : ℕ) → i < suc n → P i
+    extend P h k i m = at (ℕ-discrete i n)
+      where
+        at : Dec (i ≡ n) → P i
+        at (yes e) = subst P (sym e) k
+        at (no o) = h i (omega arith)
+
+    go : (b : ℕ) → Least p f d n b → (c : Bool) → p n ≡ c → Least p f d (suc n) (if p n and (eqb b d or ltb (f n) (f b)) then n else b)
+    go b r false e = rw (e, and-false (eqb b d or ltb (f n) (f b))) (stay b r)
+      where
+        stay : (b : ℕ) → Least p f d n b → Least p f d (suc n) b
+        stay b (inl (q, h)) = inl (q, extend (λ i. p i ≡ false) h e)
+        stay b (inr (q, m, h)) = inr (q, omega arith, extend (λ i. So (p i) → f b ≤ f i) h (λ k. absurd (false≢true (sym e ∙ k))))
+    go b r true e = test (eqb b d) refl (ltb (f n) (f b)) refl r
+      where
+        test : (x : Bool) → eqb b d ≡ x → (y : Bool) → ltb (f n) (f b) ≡ y → Least p f d n b → Least p f d (suc n) (if p n and (eqb b d or ltb (f n) (f b)) then n else b)
+        test true ex y ey (inl (q, h)) = rw (e, ex, true-or (ltb (f n) (f b)), true-and) (inr (e, omega arith, extend (λ i. So (p i) → f n ≤ f i) (λ i m k. absurd (false≢true (sym (h i m) ∙ k))) (λ k. omega arith)))
+        test true ex y ey (inr (q, m, h)) = absurd (omega (arith, eqb-true b d ex))
+        test false ex y ey (inl (q, h)) = absurd (eqb-false b d ex q)
+        test false ex true ey (inr (q, m, h)) =
+            rw (e, ex, ey, false-or-true, true-and) (inr (e, omega arith, extend (λ i. So (p i) → f n ≤ f i) (λ i a k. omega (arith, h i a k, ltb-true (f n) (f b) ey)) (λ k. omega arith)))
+        test false ex false ey (inr (q, m, h)) =
+            rw (e, ex, ey, false-or-false, true-and-false) (inr (q, omega arith, extend (λ i. So (p i) → f b ≤ f i) h (λ k. ltb-false (f n) (f b) ey)))
 
 -- somebody has the number in n, or nobody
 abbrev pub Found : View → ℕ → ℕ → ℕ → Type 0

@@ -1,25 +1,21 @@
 -- The laws of a call as the list of its refusals and what it gives, each once for all calls.
-use Prim.Native.Nat.{ℕ, _<_, _≤_}
-use native.Mathlib.Decide.{decLt, ℕ-discrete}
-use native.Mathlib.Omega.{arith}
-use mathlib.Core.Bool.{Bool, true, false, So, false≢true}
-use mathlib.Core.List.{List, [], _∷_}
-use mathlib.Core.Logic.{_↔_, _⊎_, inl, inr, ⊎-elim}
+use Prim.Native.Nat.{ℕ}
+use mathlib.Core.Bool.{Bool, true, false, false≢true}
+use mathlib.Core.List.{List, [], _∷_, map}
+use mathlib.Core.Option.{Option, none, some}
 use mathlib.Core.Path.{_≡_, refl, sym, _∙_, ap, subst}
-use borrow.Author.Tests.{eq-eqb, ltb-true, ne-eqb}
-use lib.Dec.{eqb, ltb}
-use Rattle.rules.proofs.Laws.Tests.{choose, left, right, no-so}
-use Rattle.rules.specs.Answers.{answers, granted, is-refused, judged, refused}
+use lib.Dec.{eqb}
+use lib.IntN.{ℤ, pos, negsuc}
+use Rattle.rules.proofs.Laws.Tests.{choose, no-so}
+use Rattle.rules.specs.Answers.{answers, granted, is-negative, is-refused, judged, number-of, refusal-number, refused}
 use Rattle.rules.specs.Calls.{clone, clone-gives, clone-new, clone-new-gives, clone-new-refusals, clone-refusals, exit, exit-gives, exit-refusals, first-ended, getpid, getppid, handle, handle-gives, handle-refusals, kill, kill-gives, kill-refusals, poll, reap, setns, setns-gives, setns-refusals, unshare, unshare-gives, unshare-refusals, wait, wait-gives, wait-refusals}
-use Rattle.rules.specs.Claims.{given-if, no-more, place}
 use Rattle.rules.specs.Read.{View, view}
+use Rattle.rules.specs.Refusals.{below-0, first}
 use Rattle.rules.specs.Step.{make}
 use Rattle.table.specs.Limits.{signals}
 use Rattle.table.specs.SignalSets.{lowest-signal}
 use Rattle.table.specs.Slots.{process}
-use Rattle.table.specs.Tests.{_and_, if_then_else_}
-use Rattle.table.specs.declared.Answer.the-variants.{Refused, Number, Reaped}
-use Rattle.table.specs.declared.Answer.{Answer}
+use Rattle.table.specs.Tests.{if_then_else_}
 use Rattle.table.specs.declared.Call.the-variants.{Clone, CloneNew, Unshare, Setns, Kill, Exit, Wait, Getpid, Getppid, Handle, Poll}
 use Rattle.table.specs.declared.Call.{Call}
 use Rattle.table.specs.declared.Outcome.{Outcome}
@@ -31,7 +27,27 @@ use Rattle.table.specs.declared.Table.{Table}
 
 -- ---- what is not refused
 
--- a list as the lines of the table: its test for a number
+-- the place of each refusal in document 01's order
+unfoldable pub place : Refusal → ℕ
+place Unsound = 0
+place NotRunning = 1
+place Einval = 2
+place Enosys = 3
+place Esrch = 4
+place Ebusy = 5
+place Echild = 6
+place Enospc = 7
+place Enomem = 8
+place Eagain = 9
+
+-- the test b for the refusal e, and f for the others
+abbrev pub given-if : Refusal → Bool → (Refusal → Bool) → Refusal → Bool
+given-if e b f d = if eqb (place d) (place e) then b else f d
+
+abbrev no-more : Refusal → Bool
+no-more d = false
+
+-- a list as a function: its test for a refusal
 abbrev pub listed : List (Refusal × Bool) → Refusal → Bool
 listed [] = no-more
 listed (r ∷ rs) = given-if (r .0) (r .1) (listed rs)
@@ -71,117 +87,59 @@ module _ (K : Outcome → Outcome → Type 0) (t u : Table) (same : (e : Refusal
       (λ h. choose (K (judged t rs o)) b (λ k. full-u _)
       (λ k. judged-twins rs qs w (λ n m. g (λ d. given-none Eagain a (listed rs) d h (n d)) (λ d. given-none Eagain b (listed qs) d k (m d)))))
 
--- ---- which answer: the first line that holds
+-- ---- which answer: the number of the first test that holds
 
--- An outcome's number is e exactly if the line of e says so and no earlier line does.
-abbrev pub First : (Refusal → Bool) → Outcome → Type 0
-First f o = (e : Refusal) → (o .reply .answer ≡ Refused e) ↔ (So (f e) × ((d : Refusal) → place d < place e → So (f d) → ⊥))
+-- the list by its numbers
+abbrev pub by-number : List (Refusal × Bool) → List (ℤ × Bool)
+by-number rs = map (λ (r : Refusal × Bool). (refusal-number (r .0), r .1)) rs
 
--- places ascend from above k
-abbrev pub ascends : ℕ → List (Refusal × Bool) → Bool
-ascends k [] = true
-ascends k (r ∷ rs) = ltb k (place (r .0)) and ascends (place (r .0)) rs
+-- what an answer below 0 shows
+abbrev pub told : Outcome → Option ℤ
+told o = below-0 (number-of (o .reply .answer))
 
--- the line at a place
-refusal-at : ℕ → Refusal
-refusal-at k =
-    if eqb k 0 then Unsound else (if eqb k 1 then NotRunning else (if eqb k 2 then Einval else (if eqb k 3 then Enosys else (if eqb k 4 then Esrch
-    else (if eqb k 5 then Ebusy else (if eqb k 6 then Echild else (if eqb k 7 then Enospc else (if eqb k 8 then Enomem else Eagain))))))))
+-- the number of each refusal is below 0
+pub told-refused : (t : Table) (e : Refusal) → told (refused t e) ≡ some (refusal-number e)
+unfolding refused refusal-number number-of below-0
+told-refused t Unsound = refl
+told-refused t NotRunning = refl
+told-refused t Einval = refl
+told-refused t Enosys = refl
+told-refused t Esrch = refl
+told-refused t Ebusy = refl
+told-refused t Echild = refl
+told-refused t Enospc = refl
+told-refused t Enomem = refl
+told-refused t Eagain = refl
 
-at-place : (e : Refusal) → refusal-at (place e) ≡ e
-unfolding place refusal-at
-at-place Unsound = refl
-at-place NotRunning = refl
-at-place Einval = refl
-at-place Enosys = refl
-at-place Esrch = refl
-at-place Ebusy = refl
-at-place Echild = refl
-at-place Enospc = refl
-at-place Enomem = refl
-at-place Eagain = refl
-
--- no two numbers have one place
-pub one-place : (d e : Refusal) → place d ≡ place e → d ≡ e
-one-place d e q = sym (at-place d) ∙ ap refusal-at q ∙ at-place e
-
-refused-same : (d e : Refusal) → Refused d ≡ Refused e → d ≡ e
-refused-same d e q = ap of q
+pub some-none : {A : Type 0} {k : A} → some k ≡ none → ⊥
+some-none {A} w = false≢true (sym (ap shown w))
   where
-    of : Answer → Refusal
-    of (Refused x) = x
-    of (Number k) = d
-    of (Reaped k x) = d
+    shown : Option A → Bool
+    shown none = false
+    shown (some k) = true
 
--- lines that say the same
-pub first-as : (f g : Refusal → Bool) (o : Outcome) → ((d : Refusal) → f d ≡ g d) → First f o → First g o
-first-as f g o q h e = (λ a. let (x, n) = h e .0 a in (sym (q e) ∙ x, λ d l y. n d l (q d ∙ y)), λ (x, n). h e .1 (q e ∙ x, λ d l y. n d l (sym (q d) ∙ y)))
+-- an answer with a number from 0 on is none
+pub none-refused : (t : Table) (e : Refusal) (a : ℕ) → number-of (refused t e .reply .answer) ≡ pos a → ⊥
+unfolding below-0
+none-refused t e a q = some-none (sym (told-refused t e) ∙ ap below-0 q)
 
--- an outcome that is no refusal, and no line
-pub first-none : (o : Outcome) → is-refused (o .reply .answer) ≡ false → First no-more o
-unfolding is-refused
-first-none o h e = (λ a. absurd (no-so h (ap is-refused a)), λ (x, n). absurd (false≢true x))
-
-given-here : (e : Refusal) (b : Bool) (f : Refusal → Bool) → given-if e b f e ≡ b
-given-here e b f = rw (eq-eqb (place e) (place e) refl)
-
-given-else : (e : Refusal) (b : Bool) (f : Refusal → Bool) (d : Refusal) → (place d ≡ place e → ⊥) → given-if e b f d ≡ f d
-given-else e b f d l = rw (ne-eqb (place d) (place e) l)
-
--- one more line in front, where the others say nothing of the numbers up to its own
-module _ (t : Table) (e : Refusal) (f : Refusal → Bool) (o : Outcome) (low : (d : Refusal) → place d ≤ place e → f d ≡ false) where
-  passed : (d : Refusal) → Dec (place d ≡ place e) → f d ≡ given-if e false f d
-  passed d (yes q) = low d (omega arith) ∙ sym (rw (eq-eqb (place d) (place e) q))
-  passed d (no q) = sym (given-else e false f d q)
-
-  -- if it holds, no number but its own is the first
-  hit : (x : Refusal) → So (given-if e true f x) → ((d : Refusal) → place d < place x → So (given-if e true f d) → ⊥) → Dec (place x ≡ place e) → Dec (place e < place x) → e ≡ x
-  hit x h n (yes q) l = one-place e x (sym q)
-  hit x h n (no q) (yes l) = absurd (n e l (given-here e true f))
-  hit x h n (no q) (no l) = absurd (no-so (low x (omega arith)) (sym (given-else e true f x q) ∙ h))
-
-  earlier : (d : Refusal) → place d < place e → So (given-if e true f d) → ⊥
-  earlier d l h = no-so (low d (omega arith)) (sym (given-else e true f d (λ z. omega arith)) ∙ h)
-
-  pub first-line : (b : Bool) → (b ≡ false → First f o) → First (given-if e b f) (if b then refused t e else o)
-  unfolding refused
-  first-line false h = first-as f (given-if e false f) o (λ d. passed d (ℕ-discrete (place d) (place e))) (h refl)
-  first-line true h =
-      λ x. (
-        λ a. subst (λ y. So (given-if e true f y) × ((d : Refusal) → place d < place y → So (given-if e true f d) → ⊥)) (refused-same e x a) (given-here e true f, earlier),
-        λ (y, n). ap Refused (hit x y n (ℕ-discrete (place x) (place e)) (decLt (place e) (place x))),
-      )
-
--- lines that ascend say nothing of the numbers before them
-pub listed-low : (k : ℕ) (rs : List (Refusal × Bool)) → So (ascends k rs) → (d : Refusal) → place d ≤ k → listed rs d ≡ false
-listed-low k [] h d l = refl
-listed-low k (r ∷ rs) h d l =
-    let m = ltb-true k (place (r .0)) (left _ _ h) in
-    given-else (r .0) (r .1) (listed rs) d (λ q. omega arith) ∙ listed-low (place (r .0)) rs (right _ _ h) d (omega arith)
-
--- of a list that ascends the first line that holds is given
-pub judged-first : (t : Table) (k : ℕ) (rs : List (Refusal × Bool)) (o : Unit {0} → Outcome) → So (ascends k rs) → is-refused (o tt .reply .answer) ≡ false → First (listed rs) (judged t rs o)
-judged-first t k [] o h g = first-none (o tt) g
-judged-first t k (r ∷ rs) o h g =
-    first-line t (r .0) (listed rs) (judged t rs o) (listed-low (place (r .0)) rs (right _ _ h)) (r .1) (λ z. judged-first t (place (r .0)) rs o (right _ _ h) g)
-
--- ---- which answer, in the list's own order
-
--- e is the first of the list whose test holds. (A call's order is its list's. It need not be that of the lines.)
-abbrev pub FirstOf : List (Refusal × Bool) → Refusal → Type 0
-FirstOf [] e = ⊥
-FirstOf (r ∷ rs) e = (So (r .1) × (r .0 ≡ e)) ⊎ ((r .1 ≡ false) × FirstOf rs e)
-
-pub judged-order : (t : Table) (rs : List (Refusal × Bool)) (o : Unit {0} → Outcome) → is-refused (o tt .reply .answer) ≡ false
-    → (e : Refusal) → (judged t rs o .reply .answer ≡ Refused e) ↔ FirstOf rs e
-unfolding is-refused refused
-judged-order t [] o g e = (λ q. false≢true (sym g ∙ ap is-refused q), λ x. absurd x)
-judged-order t (r ∷ rs) o g e = by-first (r .1) refl (judged-order t rs o g e)
+-- and an outcome that shows none is no refusal
+pub not-refused : (o : Outcome) → told o ≡ none → is-refused (o .reply .answer) ≡ false
+unfolding below-0 is-refused
+not-refused o h = go (number-of (o .reply .answer)) h
   where
-    by-first : (b : Bool) → r .1 ≡ b → (judged t rs o .reply .answer ≡ Refused e) ↔ FirstOf rs e
-        → ((if b then refused t (r .0) else judged t rs o) .reply .answer ≡ Refused e) ↔ FirstOf (r ∷ rs) e
-    by-first true h rest = (λ q. inl (h, refused-same (r .0) e q), λ x. ⊎-elim (λ y. ap Refused (y .1)) (λ y. absurd (no-so (y .0) h)) x)
-    by-first false h rest = (λ q. inr (h, rest .0 q), λ x. ⊎-elim (λ y. absurd (no-so h (y .0))) (λ y. rest .1 (y .1)) x)
+    go : (k : ℤ) → below-0 k ≡ none → is-negative k ≡ false
+    go (pos k) e = refl
+    go (negsuc k) e = absurd (some-none e)
+
+pub judged-told : (t : Table) (rs : List (Refusal × Bool)) (o : Unit {0} → Outcome) → told (o tt) ≡ none → told (judged t rs o) ≡ first (by-number rs)
+unfolding first
+judged-told t [] o g = g
+judged-told t (r ∷ rs) o g = by-test (judged-told t rs o g) (r .1)
+  where
+    by-test : told (judged t rs o) ≡ first (by-number rs) → (b : Bool) → told (elim b [ true ↦ refused t (r .0) | false ↦ judged t rs o ]) ≡ elim b [ true ↦ some (refusal-number (r .0)) | false ↦ first (by-number rs) ]
+    by-test rest true = told-refused t (r .0)
+    by-test rest false = rest
 
 -- ---- each call
 
@@ -232,9 +190,9 @@ made-is P t c call f g =
     let q = made t c call in
     subst P (sym q) (judged-is (λ o. make t c call ≡ o → P o) t (refusals (view t) c call) (gives t c call) (λ e q. f e) g q)
 
--- what a call gives is no refusal
-pub gives-granted : (t : Table) (c : ℕ) (call : Call) → is-refused (gives t c call tt .reply .answer) ≡ false
-unfolding is-refused granted answers getpid getppid poll reap
+-- what a call gives shows no number below 0
+pub gives-granted : (t : Table) (c : ℕ) (call : Call) → told (gives t c call tt) ≡ none
+unfolding number-of below-0 granted answers getpid getppid poll reap
 gives-granted t c Clone = refl
 gives-granted t c CloneNew = refl
 gives-granted t c Unshare = refl
@@ -243,11 +201,11 @@ gives-granted t c (Kill n s) = refl
 gives-granted t c (Exit s) = refl
 gives-granted t c Wait = reaped (view t .state (first-ended (view t) c))
   where
-    reaped : (s : State) → is-refused (reap t c (first-ended (view t) c) s .reply .answer) ≡ false
+    reaped : (s : State) → told (reap t c (first-ended (view t) c) s) ≡ none
     reaped Running = refl
     reaped Stopped = refl
     reaped (Ended e) = refl
 gives-granted t c Getpid = refl
 gives-granted t c Getppid = refl
 gives-granted t c (Handle s on) = refl
-gives-granted t c Poll = choose (λ (o : Outcome). is-refused (o .reply .answer) ≡ false) (eqb (lowest-signal (process t c .traits .pending)) signals) (λ a. refl) (λ a. refl)
+gives-granted t c Poll = choose (λ (o : Outcome). told o ≡ none) (eqb (lowest-signal (process t c .traits .pending)) signals) (λ a. refl) (λ a. refl)
