@@ -150,19 +150,21 @@ pub record Turned (t u : Table) (c n : ℕ) : Type 0 where
   pub others : (i : ℕ) → (i ≡ c → ⊥) → process u i ≡ process t i
   pub namespaces : (m : ℕ) → (m ≡ n → ⊥) → (namespace u m ≡ namespace t m) ⊎ (namespace u m ≡ empty-namespace)
 
--- What a granted unshare or setns does.
+-- What a granted unshare or setns does; the answer is 0.
 pub record ChildrenTurn : Type 0 where
   -- unshare: an unborn namespace below the caller's own becomes its children's namespace.
   pub by-unshare :
-      (t : Table) (c : ℕ) → SoundTable t → number-of (step t c Unshare .reply .answer) ≡ pos 0
-      → (n : ℕ)
+      (t : Table) (c k : ℕ) → SoundTable t → number-of (step t c Unshare .reply .answer) ≡ pos k
+      → (k ≡ 0)
+      × (n : ℕ)
       × Turned t (after t c Unshare) c n
       × MadeNamespace t (after t c Unshare) c n
       × So (unborn (view (after t c Unshare)) n)
   -- setns n: children's namespace becomes n's own. That one stays as it was.
   pub by-setns :
-      (t : Table) (c : ℕ) (n : ℤ) → SoundTable t → number-of (step t c (Setns n) .reply .answer) ≡ pos 0
-      → (i : ℕ)
+      (t : Table) (c k : ℕ) (n : ℤ) → SoundTable t → number-of (step t c (Setns n) .reply .answer) ≡ pos k
+      → (k ≡ 0)
+      × (i : ℕ)
       × So (numbered (view t) c n i and not (view t .ended i))
       × Turned t (after t c (Setns n)) c (view t .own i)
       × (namespace (after t c (Setns n)) (view t .own i) ≡ namespace t (view t .own i))
@@ -265,11 +267,11 @@ pub record SignalDone (t u : Table) (c : ℕ) (n s : ℤ) : Type 0 where
       (i : ℕ) → (Falls (view t) c n s i → ⊥) → (So (meant (view t) c n i) → ⊥)
       → process u i ≡ with-parent (process t i) (heir t u i)
 
--- Each kill that is granted does so.
+-- Each kill that is granted does so; the answer is 0.
 unfoldable pub SignalExact : Type 0
 SignalExact =
-    (t : Table) (c : ℕ) (n s : ℤ) → SoundTable t → number-of (step t c (Kill n s) .reply .answer) ≡ pos 0
-    → SignalDone t (after t c (Kill n s)) c n s
+    (t : Table) (c k : ℕ) (n s : ℤ) → SoundTable t → number-of (step t c (Kill n s) .reply .answer) ≡ pos k
+    → (k ≡ 0) × SignalDone t (after t c (Kill n s)) c n s
 
 -- kill 1 9 by an init on itself: 0, and the whole table stays as it was.
 unfoldable pub InitSpared : Type 0

@@ -2,6 +2,8 @@
 
 -- one induction over the two lists of calls
 pub mod Demand3
+-- the end of S: its processes are refused, and it stays while nobody touches it
+pub mod Stays
 -- what is to prove of a call by two callers with the same number in S, and by an outsider; and of each
 pub mod Calls
 pub mod Setns

@@ -1,12 +1,12 @@
--- Demand 3 is not empty: tables and lists to which it applies; for each of the four touches a call by which the sheet
--- changes; and two tables on which the lack of room makes the answers differ. By computation.
-use Prim.Native.Nat.{ℕ}
+-- Demand 3 is not empty: tables and lists to which it applies; how rows name namespaces; for each of the four touches a
+-- call by which the sheet changes; and two tables on which the lack of room makes the answers differ. By computation.
+use Prim.Native.Nat.{ℕ, _-_}
 use mathlib.Core.Bool.{Bool, true, So}
-use mathlib.Core.List.{List, [], _∷_, map}
+use mathlib.Core.List.{List, [], _∷_, _++_, map}
 use mathlib.Core.Option.{none, some}
 use mathlib.Core.Path.{_≡_, refl, sym, _∙_}
 use lib.IntN.{pos}
-use lib.ListN.{replicate}
+use lib.ListN.{length, replicate}
 use Rattle.rules.proofs.Open.{everything}
 use Rattle.sameness.proofs.Open.{sheets}
 use Rattle.sameness.proofs.Demand3.{sameness}
@@ -16,12 +16,12 @@ use Rattle.sameness.specs.Events.{Place, at, Event, inside, outside, she
 use Rattle.table.specs.Fresh.{fresh}
 use Rattle.rules.specs.Answers.{minus}
 use Rattle.rules.specs.Read.{view, alive}
-use Rattle.sameness.specs.Sheet.{Sheet, by-init, sheet}
+use Rattle.sameness.specs.Sheet.{Name, Row, Sheet, by-init, dead-at, unborn-name, no-name, sheet}
 use Rattle.rules.specs.Sound.{SoundTable}
 use Rattle.sameness.specs.Touches.{touches, untouched}
 use Rattle.table.specs.declared.Call.{Call}
-use Rattle.table.specs.declared.Call.the-variants.{Clone, CloneNew, Setns, Kill, Exit, Wait, Getpid, Getppid}
-use Rattle.table.specs.declared.End.the-variants.{Exited}
+use Rattle.table.specs.declared.Call.the-variants.{Clone, CloneNew, Unshare, Setns, Kill, Exit, Wait, Getpid, Getppid}
+use Rattle.table.specs.declared.End.the-variants.{Exited, Signaled}
 use Rattle.table.specs.declared.State.{State}
 use Rattle.table.specs.declared.State.the-variants.{Running, Stopped, Ended}
 use Rattle.table.specs.declared.Table.{Table}
@@ -34,25 +34,29 @@ abbrev alone : Table
 alone = after fresh ((0, CloneNew) ∷ [])
 
 abbrev among : Table
-among = after fresh ((0, Clone) ∷ (0, Clone) ∷ (1, Clone) ∷ (0, CloneNew) ∷ [])
+among = after fresh ((0, Clone) ∷ (0, Clone) ∷ (1, Clone) ∷ (1, CloneNew) ∷ [])
+
+-- a row of S, one level below the root
+abbrev row-with : List ℕ → State → ℕ → Name → Name → ℕ → Row
+row-with ks state parent own children last =
+    record { pids = ks ++ replicate (32 - length ks) 0; state = state; traits = no-traits; parent = parent; own = own; holds = children ∷ []; last = last }
 
 -- the sheet of both, and of the one in a full table below: a lone init
 abbrev lone-init : Sheet
-lone-init =
-    record {
-      level = 1;
-      rows =
-          record { pids = 1 ∷ replicate 31 0; state = Running; traits = no-traits; parent = 0; own = by-init 1; holds = by-init 1 ∷ []; last = 1 } ∷ [];
-    }
+lone-init = record { level = 1; rows = row-with (1 ∷ []) Running 0 (by-init 1) (by-init 1) 1 ∷ [] }
 
--- the same inside calls, with other calls between
+-- the same inside calls, by a stopped and by an ended process too, and one by nobody; with other calls between, of which
+-- one is the ordinary end of the outside parent
 abbrev some-calls : List Event
-some-calls = inside 1 Clone ∷ outside 0 Clone ∷ inside 2 Getppid ∷ inside 1 (Kill (pos 2) (pos 9)) ∷ inside 1 Wait ∷ inside 7 Getpid ∷ []
+some-calls =
+    inside 1 Clone ∷ outside 0 Clone ∷ inside 2 Getppid ∷ inside 1 (Kill (pos 2) (pos 19)) ∷ inside 2 Getpid
+    ∷ inside 1 (Kill (pos 2) (pos 9)) ∷ inside 2 Getpid ∷ inside 1 Wait ∷ inside 7 Getpid ∷ []
 
 abbrev other-calls : List Event
 other-calls =
-    outside 2 (Exit (pos 3)) ∷ inside 1 Clone ∷ inside 2 Getppid ∷ outside 0 Wait ∷ inside 1 (Kill (pos 2) (pos 9))
-    ∷ outside 200 Clone ∷ inside 1 Wait ∷ inside 7 Getpid ∷ outside 0 Clone ∷ []
+    outside 2 (Exit (pos 3)) ∷ inside 1 Clone ∷ inside 2 Getppid ∷ outside 0 Wait ∷ inside 1 (Kill (pos 2) (pos 19))
+    ∷ outside 1 (Exit (pos 4)) ∷ inside 2 Getpid ∷ inside 1 (Kill (pos 2) (pos 9)) ∷ outside 200 Clone ∷ inside 2 Getpid
+    ∷ inside 1 Wait ∷ inside 7 Getpid ∷ outside 0 Clone ∷ []
 
 sound : SoundTable alone × SoundTable among
 unfolding everything sheets
@@ -76,6 +80,36 @@ unfolding Sameness inside-calls
 applies =
     sameness alone among 1 1 (sound .0) (sound .1) (lives .0) (lives .1) (same-sheets .0 ∙ sym (same-sheets .1)) some-calls other-calls refl
     (untouching .0) (untouching .1)
+
+-- what is answered inside; at the end of the list nothing is
+pub answered :
+    map (λ o. o .answer) (observations alone (at 1) some-calls)
+    ≡ some (pos 2, none) ∷ some (pos 1, none) ∷ some (pos 0, none) ∷ some (minus 1001, none) ∷ some (pos 0, none)
+    ∷ some (minus 1001, none) ∷ some (pos 2, some (Signaled 9)) ∷ none ∷ none ∷ []
+unfolding everything sheets
+answered = refl
+
+-- ---- how a row names a namespace
+
+-- S with a process whose children's namespace is unborn, and one whose own namespace is dead: that of the init's children
+abbrev named-all : Table
+named-all =
+    after fresh
+    ((0, CloneNew) ∷ (1, Clone) ∷ (2, Unshare) ∷ (1, Unshare) ∷ (1, Clone) ∷ (3, Exit (pos 7)) ∷ [])
+
+-- S with its init ended: no living namespace above it is in the subtree
+abbrev ended-init : Table
+ended-init = after fresh ((0, CloneNew) ∷ (1, Exit (pos 4)) ∷ [])
+
+pub names :
+    (sheet (view named-all) 1 .rows
+    ≡ row-with (1 ∷ []) Running 0 (by-init 1) (dead-at 2 1) 3
+    ∷ row-with (2 ∷ []) Running 1 (by-init 1) unborn-name 0
+    ∷ row-with (3 ∷ 1 ∷ []) (Ended (Exited 7)) 1 (dead-at 2 1) no-name 0
+    ∷ [])
+    × (sheet (view ended-init) 1 .rows ≡ row-with (1 ∷ []) (Ended (Exited 4)) 0 (dead-at 1 0) no-name 0 ∷ [])
+unfolding everything sheets
+names = (refl, refl)
 
 -- ---- each touch changes a sheet
 

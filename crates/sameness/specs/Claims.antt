@@ -4,9 +4,9 @@ use mathlib.Core.Bool.{Bool, true, false, not, So}
 use mathlib.Core.List.{List, [], _∷_}
 use mathlib.Core.Option.{Option, none, some}
 use mathlib.Core.Path.{_≡_}
-use Rattle.rules.specs.Answers.{Shown, is-no-room}
+use Rattle.rules.specs.Answers.{Shown, minus, is-no-room}
 use Rattle.sameness.specs.Events.{Place, at, Event, inside, outside, sheet-of, inside-calls, happens, answer-of, next-table, next-place}
-use Rattle.rules.specs.Read.{view, namespace-taken, alive}
+use Rattle.rules.specs.Read.{view, namespace-taken, alive, dead, seen, pid-seen}
 use Rattle.sameness.specs.Sheet.{Sheet, sheet}
 use Rattle.rules.specs.Sound.{SoundTable}
 use Rattle.table.specs.Tests.{_and_, _or_, if_then_else_}
@@ -55,6 +55,27 @@ Sameness =
     → sheet (view t) s ≡ sheet (view u) r
     → (es fs : List Event) → inside-calls es ≡ inside-calls fs → So (untouched t (at s) es) → So (untouched u (at r) fs)
     → Agree (observations t (at s) es) (observations u (at r) fs)
+
+-- ---- the end of S
+
+-- S ended: any inside call then gets -1001.
+unfoldable pub EndedRefuses : Type 0
+EndedRefuses =
+    (t : Table) (s i : ℕ) (c : Call) → SoundTable t → So (dead (view t) s) → So (seen (view t) s i)
+    → answer-of (happens t (at s) (inside (pid-seen (view t) s i) c)) ≡ some (minus 1001, none)
+
+-- where S is at the end of a list
+unfoldable pub place-after : Table → Place → List Event → Place
+place-after t p [] = p
+place-after t p (e ∷ es) = place-after (next-table t p e) (next-place t p e) es
+
+-- Without touches S is never freed.
+unfoldable pub NeverFreed : Type 0
+NeverFreed =
+    (t : Table) (s : ℕ) (es : List Event) → SoundTable t → So (alive (view t) s) → So (untouched t (at s) es)
+    → place-after t (at s) es ≡ at s
+
+-- ---- what is learnt
 
 -- no observation is a "no room"
 unfoldable pub roomy : List Observed → Bool

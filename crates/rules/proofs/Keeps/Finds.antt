@@ -66,6 +66,12 @@ module _ (v : View) (f : Facts v) (c : ℕ) (here : Taken v c) where
     λ h. in-some-of i _ (in-only _ i _ (in-ascending _ _ process-slots i (f .in-range i (seen-taken v _ i (left _ _ h))) (left _ _ h)) (right _ _ h)),
   )
 
+-- whom a kill means is seen
+pub meant-seen : (v : View) (c : ℕ) (n : ℤ) (i : ℕ) → So (meant v c n i) → Seen v (v .own c) i
+unfolding meant numbered
+meant-seen v c (pos n) i m = left _ _ m
+meant-seen v c (negsuc n) i m = left _ _ m
+
 -- whom a number names in the caller's namespace has it there
 pub named-is : (v : View) (c : ℕ) (n : ℤ) → (named v c n ≡ process-slots → ⊥) → So (numbered v c n (named v c n))
 unfolding numbered named

@@ -11,7 +11,7 @@ use lib.IntN.{ℤ, pos, negsuc}
 use Rattle.rules.proofs.Keeps.Changes.{deliver-all-sane}
 use Rattle.rules.proofs.Keeps.Deliver.{Each, Safe, each-of}
 use Rattle.rules.proofs.Keeps.Exact.{kill-acts}
-use Rattle.rules.proofs.Keeps.Finds.{targets-meant, freed-leaves}
+use Rattle.rules.proofs.Keeps.Finds.{targets-meant, meant-seen, freed-leaves}
 use Rattle.rules.proofs.Keeps.Fixed.{processes-fall}
 use Rattle.rules.proofs.Keeps.Freed.{freed-keeps}
 use Rattle.rules.proofs.Keeps.Premises as K
@@ -221,34 +221,29 @@ module _ (t : Table) (c : ℕ) (h : SoundTable t) (r : So (runs (view t) c)) (n 
 
 -- each kill that is granted
 pub signal-exact : SignalExact
-unfolding SignalExact place answers granted refused
-signal-exact t c n s h =
+unfolding SignalExact place answers granted refused number-of
+signal-exact t c k n s h =
     outcome-of Done t c (Kill n s) h (refuse NotRunning) (λ r.
-    made-is Done t c (Kill n s) refuse (λ a w q. signal-done t c h r n s (K.natural-low s (isnt-not _ (a Einval)))))
+    made-is Done t c (Kill n s) refuse (λ a w q. (cc, signal-done t c h r n s (K.natural-low s (isnt-not _ (a Einval))))))
   where
     Done : Outcome → Type 0
-    Done o = number-of (o .reply .answer) ≡ pos 0 → SignalDone t (o .table) c n s
+    Done o = number-of (o .reply .answer) ≡ pos k → (k ≡ 0) × SignalDone t (o .table) c n s
 
     refuse : (e : Refusal) → Done (refused t e)
-    refuse e q = absurd (none-refused t e 0 q)
+    refuse e q = absurd (none-refused t e k q)
 
 -- ---- who is not seen
 
 module _ (t u : Table) (c : ℕ) (n s : ℤ) (f : Facts (view t)) (g : Facts (view u)) (done : SignalDone t u c n s) where
-  meant-seen : (n : ℤ) (i : ℕ) → So (meant (view t) c n i) → Seen (view t) (view t .own c) i
-  unfolding meant numbered
-  meant-seen (pos n) i m = left _ _ m
-  meant-seen (negsuc n) i m = left _ _ m
-
   falls-seen : (i : ℕ) → Falls (view t) c n s i → Seen (view t) (view t .own c) i
   unfolding felled
   falls-seen i (j, d, b) =
-      let a = meant-seen n j (left _ _ (left _ _ (left _ _ (left _ _ d)))) in
+      let a = meant-seen (view t) c n j (left _ _ (left _ _ (left _ _ (left _ _ d)))) in
       is-seen (view t) _ i (seen-taken (view t) _ i b) (below-trans (view t) f _ _ _ (seen-below (view t) _ i b) (seen-below (view t) _ j a))
 
   -- its record is as it was but for the parent, and so is its parent's, which lives on
   unseen : (i : ℕ) → (Seen (view t) (view t .own c) i → ⊥) → process u i ≡ with-parent (process t i) (heir t u i)
-  unseen i o = done .spared i (λ a. o (falls-seen i a)) (λ m. o (meant-seen n i m))
+  unseen i o = done .spared i (λ a. o (falls-seen i a)) (λ m. o (meant-seen (view t) c n i m))
 
   parent-on : (i : ℕ) → (Seen (view t) (view t .own c) i → ⊥) → Lives (view t) (view t .parent i) → Lives (view u) (view t .parent i)
   unfolding living taken

@@ -127,17 +127,18 @@ module _ (t w : Table) (g : So (shaped w)) (f : Facts (view w)) (c n : ℕ) (her
 
 -- ---- setns
 
-abbrev Set : Table → ℕ → ℤ → Outcome → Type 0
-Set t c n o =
-    number-of (o .reply .answer) ≡ pos 0
-    → (i : ℕ)
+abbrev Set : Table → ℕ → ℤ → ℕ → Outcome → Type 0
+Set t c n k o =
+    number-of (o .reply .answer) ≡ pos k
+    → (k ≡ 0)
+    × (i : ℕ)
     × So (numbered (view t) c n i and not (view t .ended i))
     × Turned t (o .table) c (view t .own i)
     × (namespace (o .table) (view t .own i) ≡ namespace t (view t .own i))
 
-setns-done : (t : Table) (c : ℕ) (n : ℤ) (h : SoundTable t) (r : So (runs (view t) c)) → None (refusals (view t) c (Setns n)) → Set t c n (answers (set-children t c (view t .own (named (view t) c n))) 0)
-unfolding place set-children answers granted
-setns-done t c n h r none q =
+setns-done : (t : Table) (c k : ℕ) (n : ℤ) (h : SoundTable t) (r : So (runs (view t) c)) → None (refusals (view t) c (Setns n)) → Set t c n k (answers (set-children t c (view t .own (named (view t) c n))) 0)
+unfolding place set-children answers granted number-of
+setns-done t c k n h r none q =
     let i = named (view t) c n in
     let m = view t .own i in
     let lives = runs-lives t c r in
@@ -146,18 +147,18 @@ setns-done t c n h r none q =
     let w = put t c (with-children (process t c) m) in
     let all = turned t w (s .shape-of) (s .facts) c m (lives-taken (view t) c lives) (self t h c lives _) (rest t h c lives _) (λ j o. refl) in
     let own = stays t w (s .shape-of) (s .facts) c m (lives-taken (view t) c lives) (self t h c lives _) (rest t h c lives _) (λ j o. refl) in
-    (i, both _ _ (named-is (view t) c n found) (ap not (or-false-right _ _ (none Esrch))), all, own)
+    (cc, i, both _ _ (named-is (view t) c n found) (ap not (or-false-right _ _ (none Esrch))), all, own)
 
 -- ---- unshare
 
-abbrev Unshared : Table → ℕ → Outcome → Type 0
-Unshared t c o =
-    number-of (o .reply .answer) ≡ pos 0
-    → (n : ℕ) × Turned t (o .table) c n × MadeNamespace t (o .table) c n × So (unborn (view (o .table)) n)
+abbrev Unshared : Table → ℕ → ℕ → Outcome → Type 0
+Unshared t c k o =
+    number-of (o .reply .answer) ≡ pos k
+    → (k ≡ 0) × (n : ℕ) × Turned t (o .table) c n × MadeNamespace t (o .table) c n × So (unborn (view (o .table)) n)
 
-unshare-done : (t : Table) (c : ℕ) (h : SoundTable t) (r : So (runs (view t) c)) → None (refusals (view t) c Unshare) → Unshared t c (answers (set-children (new-namespace t c) c (free-namespace-slot (view t))) 0)
-unfolding place set-children new-namespace answers granted
-unshare-done t c h r none q =
+unshare-done : (t : Table) (c k : ℕ) (h : SoundTable t) (r : So (runs (view t) c)) → None (refusals (view t) c Unshare) → Unshared t c k (answers (set-children (new-namespace t c) c (free-namespace-slot (view t))) 0)
+unfolding place set-children new-namespace answers granted number-of
+unshare-done t c k h r none q =
     let n = free-namespace-slot (view t) in
     let lives = runs-lives t c r in
     let room = eqb-false n namespace-slots (none Eagain) in
@@ -168,6 +169,7 @@ unshare-done t c h r none q =
     let spaces : (m : ℕ) → (m ≡ n → ⊥) → namespace w m ≡ namespace t m = λ m o. at m ∙ rw (ne-eqb m n o) in
     let there : namespace w n ≡ z = at n ∙ rw (eq-eqb n n refl) in
     let new = stays t w (s .shape-of) (s .facts) c n (lives-taken (view t) c lives) (self t h c lives _) (rest t h c lives _) spaces ∙ there in (
+      cc,
       n,
       turned t w (s .shape-of) (s .facts) c n (lives-taken (view t) c lives) (self t h c lives _) (rest t h c lives _) spaces,
       record { new = K.free-namespace-is (view t) room .1; lowest = K.free-namespace-lowest (view t); parent = ap (λ (x : Namespace). x .parent .0) new },
@@ -177,10 +179,10 @@ unshare-done t c h r none q =
 pub children-turn : ChildrenTurn
 children-turn =
     record {
-      by-unshare = λ t c h.
-          outcome-of (Unshared t c) t c Unshare h (λ q. absurd (none-refused t NotRunning 0 q))
-          (λ r. made-is (Unshared t c) t c Unshare (λ e q. absurd (none-refused t e 0 q)) (λ n w. unshare-done t c h r n));
-      by-setns = λ t c n h.
-          outcome-of (Set t c n) t c (Setns n) h (λ q. absurd (none-refused t NotRunning 0 q))
-          (λ r. made-is (Set t c n) t c (Setns n) (λ e q. absurd (none-refused t e 0 q)) (λ m w. setns-done t c n h r m));
+      by-unshare = λ t c k h.
+          outcome-of (Unshared t c k) t c Unshare h (λ q. absurd (none-refused t NotRunning k q))
+          (λ r. made-is (Unshared t c k) t c Unshare (λ e q. absurd (none-refused t e k q)) (λ n w. unshare-done t c k h r n));
+      by-setns = λ t c k n h.
+          outcome-of (Set t c n k) t c (Setns n) h (λ q. absurd (none-refused t NotRunning k q))
+          (λ r. made-is (Set t c n k) t c (Setns n) (λ e q. absurd (none-refused t e k q)) (λ m w. setns-done t c k n h r m));
     }
