@@ -219,6 +219,31 @@ edges =
           ∷ (0, Wait, signal 3 9)
           ∷ [],
     )
+    -- one that ended before its init keeps its own reason for its outside parent
+    ∷ (
+      fresh,
+      (0, CloneNew, says 2)
+          ∷ (0, Setns (pos 2), says 0)
+          ∷ (0, Clone, says 3)
+          ∷ (2, Exit (pos 5), says 0)
+          ∷ (0, Kill (pos 2) (pos 9), says 0)
+          ∷ (0, Wait, signal 2 9)
+          ∷ (0, Wait, gave 3 5)
+          ∷ [],
+    )
+    -- an init's end removes its grandchildren too: their slots are used again
+    ∷ (
+      fresh,
+      (0, CloneNew, says 2)
+          ∷ (1, Clone, says 2)
+          ∷ (2, Clone, says 3)
+          ∷ (0, Kill (pos 2) (pos 9), says 0)
+          ∷ (0, Clone, says 5)
+          ∷ (0, Clone, says 6)
+          ∷ (2, Getpid, says 5)
+          ∷ (3, Getpid, says 6)
+          ∷ [],
+    )
     -- 19 stops and 18 resumes; a handled signal becomes pending and has no other effect; off drops it; another ends
     ∷ (
       crowd 1,

@@ -1,5 +1,8 @@
 -- Demand 3, from the statement down: the two lists, each call, what changes, what corresponds.
 
+-- tables, lists and sheets by computation
+pub mod Open
+pub mod Actual
 -- one induction over the two lists of calls
 pub mod Demand3
 -- the end of S: its processes are refused, and it stays while nobody touches it
@@ -31,6 +34,5 @@ pub mod Anchor
 pub mod Same
 pub mod Names
 pub mod Cases
--- where demand 3 applies, by computation
-pub mod Witness
-pub mod Open
+-- where demand 3 applies
+pub mod Applies

@@ -4,15 +4,14 @@ use Prim.Native.Nat.{ℕ, _-_}
 use mathlib.Core.Bool.{Bool, true, So}
 use mathlib.Core.List.{List, [], _∷_, _++_, map}
 use mathlib.Core.Option.{none, some}
-use mathlib.Core.Path.{_≡_, refl, sym, _∙_}
+use mathlib.Core.Path.{_≡_, refl}
 use lib.IntN.{pos}
 use lib.ListN.{length, replicate}
 use Rattle.rules.proofs.Open.{everything}
 use Rattle.sameness.proofs.Open.{sheets}
-use Rattle.sameness.proofs.Demand3.{sameness}
 use Rattle.rules.proofs.Tables.{crowd, after}
-use Rattle.sameness.specs.Claims.{Sameness, Agree, observations}
-use Rattle.sameness.specs.Events.{Place, at, Event, inside, outside, sheet-of, inside-calls, happens, answer-of, next-table, next-place}
+use Rattle.sameness.specs.Claims.{observations, place-after}
+use Rattle.sameness.specs.Events.{Place, at, Event, inside, outside, sheet-of, happens, answer-of, next-table, next-place}
 use Rattle.table.specs.Fresh.{fresh}
 use Rattle.rules.specs.Answers.{minus}
 use Rattle.rules.specs.Read.{view, alive}
@@ -30,10 +29,10 @@ use Rattle.table.specs.Traits.{no-traits}
 -- ---- where it applies
 
 -- a namespace in a table with nobody else, and one in a table with three more processes
-abbrev alone : Table
+abbrev pub alone : Table
 alone = after fresh ((0, CloneNew) ∷ [])
 
-abbrev among : Table
+abbrev pub among : Table
 among = after fresh ((0, Clone) ∷ (0, Clone) ∷ (1, Clone) ∷ (1, CloneNew) ∷ [])
 
 -- a row of S, one level below the root
@@ -47,39 +46,32 @@ lone-init = record { level = 1; rows = row-with (1 ∷ []) Running 0 (by-init 1)
 
 -- the same inside calls, by a stopped and by an ended process too, and one by nobody; with other calls between, of which
 -- one is the ordinary end of the outside parent
-abbrev some-calls : List Event
+abbrev pub some-calls : List Event
 some-calls =
     inside 1 Clone ∷ outside 0 Clone ∷ inside 2 Getppid ∷ inside 1 (Kill (pos 2) (pos 19)) ∷ inside 2 Getpid
     ∷ inside 1 (Kill (pos 2) (pos 9)) ∷ inside 2 Getpid ∷ inside 1 Wait ∷ inside 7 Getpid ∷ []
 
-abbrev other-calls : List Event
+abbrev pub other-calls : List Event
 other-calls =
     outside 2 (Exit (pos 3)) ∷ inside 1 Clone ∷ inside 2 Getppid ∷ outside 0 Wait ∷ inside 1 (Kill (pos 2) (pos 19))
     ∷ outside 1 (Exit (pos 4)) ∷ inside 2 Getpid ∷ inside 1 (Kill (pos 2) (pos 9)) ∷ outside 200 Clone ∷ inside 2 Getpid
     ∷ inside 1 Wait ∷ inside 7 Getpid ∷ outside 0 Clone ∷ []
 
-sound : SoundTable alone × SoundTable among
+pub sound : SoundTable alone × SoundTable among
 unfolding everything sheets
 sound = (record { shape = refl; rules = refl }, record { shape = refl; rules = refl })
 
-lives : So (alive (view alone) 1) × So (alive (view among) 1)
+pub lives : So (alive (view alone) 1) × So (alive (view among) 1)
 unfolding everything sheets
 lives = (refl, refl)
 
-same-sheets : (sheet (view alone) 1 ≡ lone-init) × (sheet (view among) 1 ≡ lone-init)
+pub same-sheets : (sheet (view alone) 1 ≡ lone-init) × (sheet (view among) 1 ≡ lone-init)
 unfolding everything sheets
 same-sheets = (refl, refl)
 
-untouching : So (untouched alone (at 1) some-calls) × So (untouched among (at 1) other-calls)
+pub untouching : So (untouched alone (at 1) some-calls) × So (untouched among (at 1) other-calls)
 unfolding everything sheets
 untouching = (refl, refl)
-
--- All that demand 3 asks is met, on two tables of which one has twice as many processes.
-pub applies : Agree (observations alone (at 1) some-calls) (observations among (at 1) other-calls)
-unfolding Sameness inside-calls
-applies =
-    sameness alone among 1 1 (sound .0) (sound .1) (lives .0) (lives .1) (same-sheets .0 ∙ sym (same-sheets .1)) some-calls other-calls refl
-    (untouching .0) (untouching .1)
 
 -- what is answered inside; at the end of the list nothing is
 pub answered :
@@ -88,6 +80,16 @@ pub answered :
     ∷ some (minus 1001, none) ∷ some (pos 2, some (Signaled 9)) ∷ none ∷ none ∷ []
 unfolding everything sheets
 answered = refl
+
+-- S ended, with its init in the table: that one is refused, and S stays where it was
+abbrev ends : List Event
+ends = inside 1 (Exit (pos 4)) ∷ outside 0 Clone ∷ inside 1 Getpid ∷ []
+
+pub ended :
+    (map (λ o. o .answer) (observations alone (at 1) ends) ≡ some (pos 0, none) ∷ some (minus 1001, none) ∷ none ∷ [])
+    × (place-after alone (at 1) ends ≡ at 1)
+unfolding everything sheets
+ended = (refl, refl)
 
 -- ---- how a row names a namespace
 
