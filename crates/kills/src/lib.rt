@@ -68,8 +68,8 @@ fn kill_one(t: Table, caller: ProcSlot, n: i32, s: i32) -> Outcome
 fn send_all(t: Table, caller: ProcSlot, found: Targets, s: u8) -> Outcome
     ensures { λ r. ⌜ (Lists found (others-of (view t) (caller .0)) → Sends t (caller .0) (others-of (view t) (caller .0)) s r) ⌝ }
 {
-    let p = t.process(caller);
-    let own = p.own;
+    let sender = t.process(caller);
+    let own = sender.own;
     answers(free_unheld(deliver_all(t, own, found, s)), 0)
 }
 
