@@ -34,11 +34,11 @@ delivers-start t from s len l =
     record {
       within = omega arith;
       always = ap (λ is. deliver-all-by t from is s) (rest-all len l);
-      going = λ l k h. rw rest-all (record { sane = k; safe = h; left = refl });
+      going = λ low k h. rw rest-all (record { sane = k; safe = h; left = refl });
     }
 
 module _ {Y : Type 0} (g : ProcSlot → Y) (n : ℕ) (t : Table) (from s len : ℕ) (l : List ProcSlot) (u : Table) (i : ℕ) (w : Delivering t from s len l u i) where
-  -- m is the table after the delivery to the slot at i
+  -- count is the one that was given, and len that many slots at most; m is the table after the delivery to the slot at i
   pub delivers-one : (count : ℕ) (m : Table) → i < len → len ≡ min count n → length (map g l) ≡ n → Delivers u from (getD l i no-one .0) s m → Delivering t from s len l m (i + 1)
   unfolding deliver-all deliver-all-by
   delivers-one count m h k e d =
@@ -60,7 +60,6 @@ module _ {Y : Type 0} (g : ProcSlot → Y) (n : ℕ) (t : Table) (from s len : �
             });
       })
 
-  -- count is the one that was given, and len that many slots at most
   pub delivers-all : (count : ℕ) → len ≤ i → len ≡ min count n → length (map g l) ≡ n → DeliversAll t from (numbers (take count l)) s u
   unfolding deliver-all deliver-all-by
   delivers-all count h k e =
