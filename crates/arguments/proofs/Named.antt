@@ -1,5 +1,6 @@
 -- What callers ask of the tests: whom a number names, and that a signal that passed one is below 32.
-use Prim.Native.Nat.{ℕ, zero, suc, _<_}
+use Prim.Native.Nat.{ℕ, zero, suc, _<_, _%_}
+use native.Mathlib.Nat.{mod-eq-of-lt}
 use native.Mathlib.Omega.{arith}
 use mathlib.Core.Bool.{Bool, true, false, not, true≢false, false≢true}
 use mathlib.Core.List.{[], _∷_}
@@ -58,3 +59,7 @@ within-below a b (negsuc n) h = absurd (false≢true h)
 
 pub handled-below : (z : ℤ) → (not (within 1 signals z) or eqb (natural z) sigkill or eqb (natural z) sigstop) ≡ false → natural z < signals
 handled-below z h = within-below 1 signals z (not-false (within 1 signals z) (or-left _ _ (or-left _ _ h)))
+
+-- a signal that passed a test fits: k is what `signal_of` gives
+pub signal-is : (k : ℕ) (z : ℤ) → k ≡ natural z % 256 → natural z < signals → k ≡ natural z
+signal-is k z e h = e ∙ mod-eq-of-lt (omega arith)

@@ -1,7 +1,7 @@
 // Arguments of calls: whole 32-bit numbers are crossed to unsigned ones here, and nowhere else.
 ghost use mathlib.Core.Bool.{not};
 ghost use mathlib.Core.Path.{_≡_};
-ghost use Prim.Native.Nat.{_<_};
+ghost use Prim.Native.Nat.{_%_};
 ghost use lib.Dec.{eqb, ltb};
 ghost use Rattle.rules.specs.Calls.{within, natural, status, names-group};
 ghost use Rattle.table.specs.Limits.{signals, sigkill, sigstop};
@@ -83,10 +83,9 @@ pub fn cannot_handle(s: i32) -> bool
     k == SIGSTOP
 }
 
-// The signal itself, once it has passed one of the two tests.
+// The signal itself, once it has passed one of the two tests; of another number the low eight bits.
 pub fn signal_of(s: i32) -> u8
-    requires { ⌜ natural s < signals ⌝ }
-    ensures { λ r. ⌜ r ≡ natural s ⌝ }
+    ensures { λ r. ⌜ r ≡ natural s % 256 ⌝ }
 {
-    natural_of(s) as u8
+    (natural_of(s) % 256) as u8
 }

@@ -1,34 +1,28 @@
 -- What the calls read of the caller, of its parent and of its namespace, against the definitions, and how a caller is
 -- changed.
-use Prim.Native.Nat.{ℕ, _<_, _≤_}
+use Prim.Native.Nat.{ℕ, _<_}
 use native.Mathlib.Decide.{decLt}
 use native.Mathlib.Omega.{arith}
-use mathlib.Core.Bool.{Bool, not, So}
+use mathlib.Core.Bool.{Bool, not}
 use mathlib.Core.List.{List, map}
 use mathlib.Core.Path.{_≡_, refl, sym, ap, ap₂, _∙_}
-use borrow.Author.Tests.{eq-eqb, le-leb, leb-false, lt-leb, ne-eqb}
-use denote.Laws.{Is}
+use borrow.Author.Tests.{leb-false}
 use lib.Dec.{eqb, leb}
 use lib.ListN.{length, getD}
-use mir.Val.{Val}
-use Rattle.callers.proofs.Fits.{facts-of}
-use Rattle.outcomes.proofs.Verdicts.{one-more, passed}
+use Rattle.outcomes.proofs.Verdicts.{none-holds, one-more}
 use Rattle.outcomes.specs.Verdicts.{verdict}
 use Rattle.outcomes.specs.declared.Verdict.the-variants.{Granted, Refused}
 use Rattle.outcomes.specs.declared.Verdict.{Verdict}
 use Rattle.table.proofs.Slots.{put-past, process-within}
-use Rattle.table.proofs.Table as T
-use Rattle.rules.proofs.Laws.Below.{level-deepest}
+use Rattle.rules.proofs.Laws.Judged.{place}
 use Rattle.rules.proofs.Laws.ReadAt.{read-at}
-use Rattle.rules.proofs.Laws.Tests.{left}
+use Rattle.callers.specs.Making.{refusals-at}
 use Rattle.rules.specs.Answers.{answers}
-use Rattle.rules.specs.Calls.{own-level, elsewhere, making-refusals, getpid, getppid}
+use Rattle.rules.specs.Calls.{own-level, elsewhere, getpid, getppid}
 use Rattle.table.specs.Limits.{deepest}
 use Rattle.table.specs.Fresh.{empty-process}
 use Rattle.table.specs.Slots.{process, namespace, pid-at, put}
-use Rattle.rules.specs.Read.{view, pid-seen, pid-in}
-use Rattle.rules.specs.Sound.{sound}
-use Rattle.rules.specs.Step.{runs}
+use Rattle.rules.specs.Read.{View, view, pid-seen, pid-in}
 use Rattle.table.specs.Tests.{if_then_else_}
 use Rattle.table.specs.declared.Namespace.{Namespace}
 use Rattle.table.specs.declared.NsSlot.{NsSlot}
@@ -81,28 +75,14 @@ module _ (t : Table) (c : ℕ) (p : Process) (e : p ≡ getD (t .processes) c em
       ∙ ap (λ n. pid-in (view t) n (p .parent .0)) (read-at t c p e .own)
       ∙ ap (pid-in (view t) (view t .own c)) (read-at t c p e .parent))
 
--- in a sound table no caller's level is past the deepest
-level-low : (t : Table) (c : ℕ) (vs : List Val) → Is T.the-row t vs → So (sound t) → So (runs (view t) c) → own-level (view t) c ≤ deepest
-unfolding runs
-level-low t c vs is s h =
-    let f = facts-of t vs is s in
-    level-deepest (view t) f (view t .own c) (f .members c (left _ _ h) .0 .0)
+-- ---- a call that makes a namespace, by a caller at the level l
 
--- a and b are the verdicts on the last refusals of a call that makes a namespace, and x is what `is_elsewhere` gives
-module _ (t : Table) (c l : ℕ) (full x : Bool) (a b r : Verdict) (last : a ≡ (if full then Refused Eagain else Granted)) (deep : b ≡ (if leb deepest l then Refused Enospc else a)) (all : r ≡ (if x then Refused Einval else b)) where
-  pub may-make-is : (vs : List Val) → Is T.the-row t vs → x ≡ elsewhere (view t) c → l ≡ own-level (view t) c → So (sound t) → So (runs (view t) c) → r ≡ verdict (making-refusals (view t) c full)
-  may-make-is vs is away k s h =
-      one-more Einval x _ b _ r all away (one-more Enospc _ _ a _ b deep as-deepest last)
-    where
-      low : own-level (view t) c ≤ deepest
-      low = level-low t c vs is s h
+-- a and b are the verdicts on the last refusals, and x is what `is_elsewhere` gives
+pub may-make-is : (t : Table) (c l : ℕ) (full x : Bool) (a b r : Verdict) → x ≡ elsewhere (view t) c → a ≡ (if full then Refused Eagain else Granted) → b ≡ (if leb deepest l then Refused Enospc else a) → r ≡ (if x then Refused Einval else b)
+    → r ≡ verdict (refusals-at (view t) c l full)
+may-make-is t c l full x a b r away last deep all = one-more Einval x _ b _ r all away (one-more Enospc (leb deepest l) (leb deepest l) a _ b deep refl last)
 
-      as-deepest : leb deepest l ≡ eqb (own-level (view t) c) deepest
-      as-deepest = go (decLt l deepest)
-        where
-          go : Dec (l < deepest) → leb deepest l ≡ eqb (own-level (view t) c) deepest
-          go (yes d) = lt-leb deepest l d ∙ sym (ne-eqb (own-level (view t) c) deepest (λ q. omega arith))
-          go (no d) = le-leb deepest l (omega arith) ∙ sym (eq-eqb (own-level (view t) c) deepest (omega (arith, low)))
-
-  pub may-make-low : r ≡ Granted → l < deepest
-  may-make-low g = leb-false deepest l (passed Enospc _ a b deep (passed Einval x b r all g .1) .0)
+-- r is the verdict of `may_make`
+pub may-make-low : (v : View) (c l : ℕ) (full : Bool) (r : Verdict) → r ≡ verdict (refusals-at v c l full) → r ≡ Granted → l < deepest
+unfolding place
+may-make-low v c l full r q g = leb-false deepest l (none-holds (refusals-at v c l full) r q g Enospc)

@@ -16,15 +16,11 @@ use tree::find;
 use tree::levels;
 use tree::pid_in;
 use tree::ups;
-ghost use Prim.Native.Nat.{_<_};
-ghost use mathlib.Core.Bool.{So};
 ghost use mathlib.Core.Path.{_≡_};
 ghost use Rattle.outcomes.specs.Verdicts.{verdict};
-ghost use Rattle.rules.specs.Calls.{own-level, elsewhere, making-refusals, named as named-in, getpid as getpid-of, getppid as getppid-of};
+ghost use Rattle.rules.specs.Calls.{own-level, elsewhere, named as named-in, getpid as getpid-of, getppid as getppid-of};
 ghost use Rattle.rules.specs.Read.{view};
-ghost use Rattle.rules.specs.Sound.{sound};
-ghost use Rattle.rules.specs.Step.{runs};
-ghost use Rattle.table.specs.Limits.{deepest};
+ghost use Rattle.callers.specs.Making.{refusals-at};
 
 // The slot that says that a number names nobody.
 pub const NOBODY: u8 = PROCESS_SLOTS as u8;
@@ -40,7 +36,7 @@ pub fn own_level(t: Table, caller: ProcSlot) -> u8
 }
 
 // Whether the children's namespace is not the caller's own.
-pub fn is_elsewhere(t: Table, caller: ProcSlot) -> bool
+fn is_elsewhere(t: Table, caller: ProcSlot) -> bool
     ensures { λ r. ⌜ r ≡ elsewhere (view t) (caller .0) ⌝ }
 {
     let p = t.process(caller);
@@ -50,11 +46,13 @@ pub fn is_elsewhere(t: Table, caller: ProcSlot) -> bool
 // Whether the caller may make a namespace, given its own level and whether there is no room: the refusals of clone new and of
 // unshare, the last one first.
 pub fn may_make(t: Table, caller: ProcSlot, level: u8, full: bool) -> Verdict
-    ensures { λ r. ⌜ ((level ≡ own-level (view t) (caller .0) → So (sound t) → So (runs (view t) (caller .0)) → r ≡ verdict (making-refusals (view t) (caller .0) full)) × (r ≡ Verdict.Granted → level < deepest)) ⌝ }
+    ensures { λ r. ⌜ r ≡ verdict (refusals-at (view t) (caller .0) level full) ⌝ }
 {
+    let away = is_elsewhere(t, caller);
+    let deep = DEEPEST <= level;
     let room = refuse_if(full, Refusal::Eagain, Verdict::Granted);
-    let deep = refuse_if(DEEPEST <= level, Refusal::Enospc, room);
-    refuse_if(is_elsewhere(t, caller), Refusal::Einval, deep)
+    let rest = refuse_if(deep, Refusal::Enospc, room);
+    refuse_if(away, Refusal::Einval, rest)
 }
 
 // The slot of the process that a number names in the caller's namespace. Nobody has a number of 0 or below, or one

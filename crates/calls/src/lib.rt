@@ -50,10 +50,12 @@ pub fn step(t: Table, caller: ProcSlot, call: Call) -> Outcome
         return refused(t, Refusal::Unsound);
     }
     let p = t.process(caller);
-    if !p.is_taken() {
+    let taken = p.is_taken();
+    if !taken {
         return refused(t, Refusal::NotRunning);
     }
-    if !p.is_running() {
+    let running = p.is_running();
+    if !running {
         return refused(t, Refusal::NotRunning);
     }
     make(t, caller, call)

@@ -1,11 +1,12 @@
 -- clone in both kinds: the refusals, a new namespace and a birth.
-use Prim.Native.Nat.{ℕ, _<_, _+_}
-use mathlib.Core.Bool.{Bool, _||_, So}
+use Prim.Native.Nat.{ℕ, _+_}
+use mathlib.Core.Bool.{Bool, _||_}
 use mathlib.Core.Path.{_≡_, refl, ap, ap₂, _∙_}
 use lib.Dec.{eqb}
 use lib.ListN.{getD}
 use Rattle.births.proofs.Given.{birth-given, clone-new-given}
 use Rattle.births.specs.Births.{birth-at, namespace-at}
+use Rattle.callers.specs.Making.{refusals-at}
 use Rattle.outcomes.proofs.Verdicts.{either, judged-grants, judged-refuses, one-more}
 use Rattle.outcomes.specs.Verdicts.{verdict}
 use Rattle.outcomes.specs.declared.Verdict.the-variants.{Granted, Refused}
@@ -14,14 +15,12 @@ use Rattle.rules.proofs.Laws.ReadAt.{read-at}
 use Rattle.table.proofs.Table as T
 use Rattle.rules.specs.Answers.{refused}
 use Rattle.rules.specs.Births.{birth}
-use Rattle.rules.specs.Calls.{own-level, born, clone-refusals, clone-gives, clone, making-refusals, clone-new-refusals, clone-new-gives, clone-new}
+use Rattle.rules.specs.Calls.{own-level, born, clone-refusals, clone-gives, clone, clone-new-refusals, clone-new-gives, clone-new}
 use Rattle.table.specs.Fresh.{empty-process}
-use Rattle.table.specs.Limits.{process-slots, namespace-slots, deepest}
+use Rattle.table.specs.Limits.{process-slots, namespace-slots}
 use Rattle.rules.specs.Pids.{next-pid, free-slot, free-namespace-slot}
 use Rattle.table.specs.Slots.{namespace, is-dead}
 use Rattle.rules.specs.Read.{view}
-use Rattle.rules.specs.Sound.{sound}
-use Rattle.rules.specs.Step.{runs}
 use Rattle.table.specs.Tests.{_or_, if_then_else_}
 use Rattle.table.specs.declared.Answer.the-variants.{Number}
 use Rattle.table.specs.declared.Namespace.{Namespace}
@@ -67,9 +66,9 @@ module _ (t : Table) (c i : ℕ) (v : Verdict) (r : Outcome) (f : i ≡ free-slo
 -- ---- new: l is the caller's level as `own_level` gives it, i and n are what `free_slot` and `free_namespace_slot` give, and
 -- v is the verdict of `may_make`
 
-module _ (t : Table) (c l i n : ℕ) (v : Verdict) (r : Outcome) (k : l ≡ own-level (view t) c) (f : i ≡ free-slot (view t)) (g : n ≡ free-namespace-slot (view t)) (m : (l ≡ own-level (view t) c → So (sound t) → So (runs (view t) c) → v ≡ verdict (making-refusals (view t) c (eqb i process-slots || eqb n namespace-slots))) × (v ≡ Granted → l < deepest)) (s : So (sound t)) (h : So (runs (view t) c)) where
+module _ (t : Table) (c l i n : ℕ) (v : Verdict) (r : Outcome) (k : l ≡ own-level (view t) c) (f : i ≡ free-slot (view t)) (g : n ≡ free-namespace-slot (view t)) (m : v ≡ verdict (refusals-at (view t) c l (eqb i process-slots || eqb n namespace-slots))) where
   ruled : v ≡ verdict (clone-new-refusals (view t) c)
-  ruled = m .0 k s h ∙ ap (λ b. verdict (making-refusals (view t) c b)) (either _ _ ∙ ap₂ (λ x y. eqb x process-slots or eqb y namespace-slots) f g)
+  ruled = m ∙ ap₂ (λ j b. verdict (refusals-at (view t) c j b)) k (either _ _ ∙ ap₂ (λ x y. eqb x process-slots or eqb y namespace-slots) f g)
 
   pub clone-new-refused : (e : Refusal) → v ≡ Refused e → r ≡ refused t e → r ≡ clone-new t c
   unfolding clone-new

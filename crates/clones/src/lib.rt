@@ -17,14 +17,11 @@ use table::Reply;
 use table::Table;
 use tree::free_namespace_slot;
 use tree::free_slot;
-ghost use mathlib.Core.Bool.{So};
 ghost use mathlib.Core.Path.{_≡_};
 ghost use Rattle.outcomes.specs.Verdicts.{verdict};
 ghost use Rattle.rules.specs.Calls.{born as born-of, clone-refusals, clone as clone-of, clone-new as clone-new-of};
 ghost use Rattle.rules.specs.Pids.{free-slot};
 ghost use Rattle.rules.specs.Read.{view};
-ghost use Rattle.rules.specs.Sound.{sound};
-ghost use Rattle.rules.specs.Step.{runs};
 
 // What says that no slot is free, of processes and of namespaces.
 const FULL: u8 = PROCESS_SLOTS as u8;
@@ -54,8 +51,10 @@ fn may_clone(t: Table, caller: ProcSlot, slot: ProcSlot) -> Verdict
 {
     let p = t.process(caller);
     let home = t.namespace(p.children);
-    let room = refuse_if(slot.0 == FULL, Refusal::Eagain, Verdict::Granted);
-    refuse_if(home.is_dead(), Refusal::Enomem, room)
+    let dead = home.is_dead();
+    let full = slot.0 == FULL;
+    let room = refuse_if(full, Refusal::Eagain, Verdict::Granted);
+    refuse_if(dead, Refusal::Enomem, room)
 }
 
 pub fn clone(t: Table, caller: ProcSlot) -> Outcome
@@ -72,7 +71,7 @@ pub fn clone(t: Table, caller: ProcSlot) -> Outcome
 }
 
 pub fn clone_new(t: Table, caller: ProcSlot) -> Outcome
-    ensures { λ r. ⌜ (So (sound t) → So (runs (view t) (caller .0)) → r ≡ clone-new-of t (caller .0)) ⌝ }
+    ensures { λ r. ⌜ r ≡ clone-new-of t (caller .0) ⌝ }
 {
     let level = own_level(t, caller);
     let slot = free_slot(t);

@@ -1,6 +1,6 @@
 -- What a signal does, read off one process, against the view of the table; and the table once it is done.
-use Prim.Native.Nat.{ℕ, _<_}
-use mathlib.Core.Bool.{Bool, not, So}
+use Prim.Native.Nat.{ℕ, _<_, _^_}
+use mathlib.Core.Bool.{Bool, true, false, not, So, false≢true}
 use mathlib.Core.List.{map}
 use mathlib.Core.Path.{_≡_, refl, sym, ap, ap₂, _∙_}
 use lib.Dec.{eqb}
@@ -10,14 +10,17 @@ use native.Mathlib.Omega.{arith}
 use Rattle.ending.specs.Ending.{Ends}
 use Rattle.table.proofs.Chains.{by-bool, pick-yes, or-true-later, not-no}
 use Rattle.rules.proofs.Laws.Facts.{Facts}
+use Rattle.rules.proofs.Laws.Tests.{choose}
+use Rattle.signals.proofs.Sets.{has-low}
 use Rattle.table.proofs.Slots.{process-within, put-past}
 use Rattle.rules.proofs.Laws.ReadAt.{ReadAt, read-at}
-use Rattle.rules.specs.Delivery.{action-on, act, deliver, resumed, with-pending}
+use Rattle.rules.specs.Delivery.{default-action, action-on, act, deliver, resumed, with-pending}
 use Rattle.table.specs.Fresh.{empty-process}
-use Rattle.table.specs.Limits.{process-slots}
+use Rattle.table.specs.Limits.{process-slots, signals, sigcont, sigstop}
 use Rattle.table.specs.Slots.{process, namespace, init-of, put}
 use Rattle.rules.specs.Read.{View, view, is-init, living}
-use Rattle.table.specs.Tests.{_and_, _or_}
+use Rattle.table.specs.SignalSets.{has}
+use Rattle.table.specs.Tests.{_and_, _or_, if_then_else_}
 use Rattle.table.specs.declared.Action.{Action}
 use Rattle.table.specs.declared.Action.the-variants.{Nothing, Resume, Stop, Finish, Pend}
 use Rattle.table.specs.declared.End.the-variants.{Signaled}
@@ -27,7 +30,7 @@ use Rattle.table.specs.declared.State.the-variants.{Stopped}
 use Rattle.table.specs.declared.Table.{Table}
 use Rattle.table.specs.Records.{with-state}
 use Rattle.table.specs.declared.Traits.{Traits}
-use Rattle.delivery.specs.Actions.{lives, action-by}
+use Rattle.delivery.specs.Actions.{lives, is-forced, action-by}
 use Rattle.delivery.specs.Delivery.{act-by, deliver-by, Delivers}
 
 -- ---- reading
@@ -38,13 +41,51 @@ unfolding is-init
 init-read t i k p s e q h =
     ap (λ m. eqb m i) (h ∙ ap (λ (x : Namespace). init-of (x .life)) q ∙ ap (λ m. init-of (namespace t m .life)) (read-at t i p e .own))
 
+-- a signal that pends is one that a set can hold
+module _ (s : ℕ) where
+  abbrev Low : Action → Type 0
+  Low a = a ≡ Pend → s < signals
+
+  abbrev pends : Action → Bool
+  pends Nothing = false
+  pends Resume = false
+  pends Stop = false
+  pends Finish = false
+  pends Pend = true
+
+  never : (a : Action) → pends a ≡ false → Low a
+  never a e q = absurd (false≢true (sym e ∙ ap pends q))
+
+  default-low : Low (default-action s)
+  unfolding default-action
+  default-low =
+      choose Low (eqb s 17 or eqb s 23 or eqb s 28) (λ z. never Nothing refl)
+      (λ z. choose Low (eqb s sigcont) (λ y. never Resume refl)
+      (λ y. choose Low (eqb s sigstop or eqb s 20 or eqb s 21 or eqb s 22) (λ x. never Stop refl) (λ x. never Finish refl)))
+
+  unless-init : (init : Bool) → Low (if init then Nothing else default-action s)
+  unless-init init = choose Low init (λ z. never Nothing refl) (λ z. default-low)
+
+  action-low : (living init : Bool) (own handled from : ℕ) → handled < 2 ^ signals → Low (action-by living init own handled from s)
+  action-low living init own handled from h =
+      choose Low (eqb s 0 or not living) (λ z. never Nothing refl)
+      (λ z. choose Low (eqb s sigcont) (λ y. never Resume refl)
+      (λ y. choose Low (is-forced s) (λ x. unless-init (init and eqb own from))
+      (λ x. choose Low (has handled s) (λ k q. has-low signals handled s h k) (λ k. unless-init init))))
+
 -- what is read of the target decides; r is what the tests on the way came to
-pub action-read : (v : View) (i : ℕ) (p : Process) (b : Bool) (from s : ℕ) (r : Action) → r ≡ action-by (lives p) b (p .own .0) (p .traits .handled) from s → ReadAt v i p → b ≡ is-init v i → r ≡ action-on v from i s
+action-read : (v : View) (i : ℕ) (p : Process) (b : Bool) (from s : ℕ) (r : Action) → r ≡ action-by (lives p) b (p .own .0) (p .traits .handled) from s → ReadAt v i p → b ≡ is-init v i → r ≡ action-on v from i s
 unfolding action-on living
 action-read v i p b from s r q at e =
     q
     ∙ ap₂ (λ (l c : Bool). action-by l c (p .own .0) (p .traits .handled) from s) (ap₂ (λ (x y : Bool). x and not y) (at .taken) (at .ended)) e
     ∙ ap₂ (λ (o h : ℕ). action-by (living v i) (is-init v i) o h from s) (at .own) (ap (λ (x : Traits). x .handled) (at .traits))
+
+-- all that `action_on` ensures
+pub action-told : (p : Process) (b : Bool) (from s : ℕ) (r : Action) → p .traits .handled < 2 ^ signals → r ≡ action-by (lives p) b (p .own .0) (p .traits .handled) from s
+    → ((v : View) (i : ℕ) → ReadAt v i p → b ≡ is-init v i → r ≡ action-on v from i s) × (r ≡ Pend → s < signals)
+action-told p b from s r h q =
+    (λ v i. action-read v i p b from s r q, λ e. action-low s (lives p) b (p .own .0) (p .traits .handled) from h (sym q ∙ e))
 
 -- only a process that lives is ended
 finish-lives : (v : View) (from i s : ℕ) → action-on v from i s ≡ Finish → So (living v i)

@@ -59,7 +59,7 @@ gathers-start t c p up levels pids l r e u v h k z =
       ups = u;
       level = v;
       keys = k ∙ ap (pids-of (t .processes)) deep;
-      lists = record { fits = omega arith; count = z; list = ap (λ n. listed (record { slots = r .slots; len = n })) z };
+      lists = record { count = z; list = ap (λ n. listed (record { slots = r .slots; len = n })) z };
     }
 
 module _ (t : Table) (c n : ℕ) (up : List NsSlot) (levels : List ℕ) (pids : List Pid) (r : Targets) (i : ℕ) (w : Gathering t c n up levels pids r i) where
@@ -88,7 +88,6 @@ module _ (t : Table) (c n : ℕ) (up : List NsSlot) (levels : List ℕ) (pids : 
         level = w .level;
         keys = w .keys;
         lists = record {
-          fits = omega (arith, gathers-room h, x .0);
           count = x .0 ∙ add-one _ ∙ ap suc (w .lists .count) ∙ sym (insert-length (pid-to (view t) c) i (others-below (view t) c i)) ∙ ap length (sym more);
           list = x .1 ∙ ap₂ (λ (g : ℕ → ℕ) l. insert g i l) (w .keys) (w .lists .list) ∙ sym more;
         };

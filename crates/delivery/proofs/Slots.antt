@@ -1,9 +1,10 @@
 -- The first len slots of an array as a list of numbers.
-use Prim.Native.Nat.{ℕ, suc, _<_, _≤_}
+use Prim.Native.Nat.{ℕ, suc, _<_, _≤_, min}
 use mathlib.Core.List.{List, [], _∷_, _++_, append-assoc}
 use mathlib.Core.Path.{_≡_, refl, sym, ap, _∙_}
 use lib.ListN.{length, getD, set, take, drop}
-use lib.Seq.{take-suc, take-suc-set, drop-cons, getD-take, length-take-le, drop-length}
+use lib.Seq.{take-all, take-suc, take-suc-set, drop-cons, getD-take, length-take-le, drop-length}
+use native.Mathlib.Decide.{decLt}
 use native.Mathlib.Omega.{arith}
 use Rattle.table.specs.declared.ProcSlot.{ProcSlot}
 use Rattle.delivery.specs.Targets.{numbers}
@@ -45,3 +46,11 @@ rest-cons len l i h k =
 pub rest-none : (len : ℕ) (l : List ProcSlot) → len ≤ length l → rest len l len ≡ []
 unfolding rest
 rest-none len l k = ap numbers (ap (λ n. drop n (take len l)) (sym (length-take-le len l k)) ∙ drop-length (take len l))
+
+-- a count past the array's end takes the whole array: len is what `count_of` gives
+pub take-clamped : (l : List ProcSlot) (k n len : ℕ) → length l ≡ n → len ≡ min k n → take len l ≡ take k l
+take-clamped l k n len e q = go (decLt k n)
+  where
+    go : Dec (k < n) → take len l ≡ take k l
+    go (yes h) = let same : len ≡ k = omega arith in ap (λ j. take j l) same
+    go (no h) = take-all len l (omega arith) ∙ sym (take-all k l (omega arith))

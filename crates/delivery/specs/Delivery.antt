@@ -1,12 +1,13 @@
 -- A delivery as the code brings it about: the definitions', but for an end, which is that of `ending`. Where the facts of a sound
 -- table hold, but for namespaces that nobody holds, it is the definitions' own.
-use Prim.Native.Nat.{ℕ}
+use Prim.Native.Nat.{ℕ, _<_}
 use mathlib.Core.List.{List, [], _∷_}
 use mathlib.Core.Path.{_≡_}
 use Rattle.ending.specs.Ending.{end-process}
 use Rattle.rules.proofs.Keeps.Deliver.{Safe}
 use Rattle.rules.proofs.Laws.Facts.{Facts, Sane}
 use Rattle.rules.specs.Delivery.{action-on, resumed, with-pending, deliver, deliver-all}
+use Rattle.table.specs.Limits.{signals}
 use Rattle.table.specs.Slots.{process, put}
 use Rattle.rules.specs.Read.{view}
 use Rattle.table.specs.declared.Action.{Action}
@@ -39,7 +40,7 @@ unfoldable pub deliver-all-by : Table → ℕ → List ℕ → ℕ → Table
 deliver-all-by t from [] s = t
 deliver-all-by t from (i ∷ is) s = deliver-all-by (deliver-by t from i s) from is s
 
--- the same of a list; the root init is on it only where the root sends
+-- the same of a list; the root init is on it only where the root sends, and the signal is one of document 01's
 pub record DeliversAll (t : Table) (from : ℕ) (is : List ℕ) (s : ℕ) (r : Table) : Type 0 where
   pub always : r ≡ deliver-all-by t from is s
-  pub as-defined : Sane t → Safe from is → r ≡ deliver-all t from is s
+  pub as-defined : s < signals → Sane t → Safe from is → r ≡ deliver-all t from is s

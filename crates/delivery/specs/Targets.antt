@@ -1,11 +1,10 @@
 -- A list of slots as an array and a count, and the numbers by which it is put in order.
-use Prim.Native.Nat.{ℕ, _≤_}
+use Prim.Native.Nat.{ℕ}
 use mathlib.Core.Bool.{Bool, not}
 use mathlib.Core.List.{List, map}
 use mathlib.Core.Path.{_≡_}
 use lib.Dec.{eqb}
 use lib.ListN.{getD, length, take}
-use Rattle.table.specs.Limits.{process-slots}
 use Rattle.table.specs.Slots.{no-pid, no-process, pid-at}
 use Rattle.table.specs.Tests.{_and_}
 use Rattle.table.specs.declared.Pid.{Pid}
@@ -32,7 +31,6 @@ listed r = numbers (take (r .len) (r .slots))
 
 -- it is this list
 pub record Lists (r : Targets) (l : List ℕ) : Type 0 where
-  pub fits : r .len ≤ process-slots
   pub count : r .len ≡ length l
   pub list : listed r ≡ l
 

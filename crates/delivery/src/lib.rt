@@ -21,7 +21,7 @@ use tree::levels;
 use tree::seen;
 use tree::ups;
 ghost use mathlib.Core.Path.{_≡_};
-ghost use Prim.Native.Nat.{ℕ, _<_, _≤_, _+_};
+ghost use Prim.Native.Nat.{ℕ, _<_, _+_, min};
 ghost use lib.Dec.{ltb};
 ghost use Rattle.rules.proofs.Laws.ReadAt.{ReadAt};
 ghost use Rattle.rules.specs.Calls.{others as others-of};
@@ -82,9 +82,10 @@ fn plain_action(p: Process, init: bool, s: u8) -> Action
     default_action(s)
 }
 
-// What a signal does to a process, sent from a namespace; init says whether it is the init of its own.
-pub fn action_on(p: Process, init: bool, from: NsSlot, s: u8) -> Action
-    ensures { λ r. ⌜ ((v : View) (i : ℕ) → ReadAt v i p → init ≡ is-init-in v i → r ≡ action-in v (from .0) i s) ⌝ }
+// What a signal does to a process, sent from a namespace; init says whether it is the init of its own. Only a signal
+// that a set can hold pends.
+fn action_on(p: Process, init: bool, from: NsSlot, s: u8) -> Action
+    ensures { λ r. ⌜ (((v : View) (i : ℕ) → ReadAt v i p → init ≡ is-init-in v i → r ≡ action-in v (from .0) i s) × (r ≡ Action.Pend → s < signals)) ⌝ }
 {
     if s == 0 {
         return Action::Nothing;
@@ -154,7 +155,6 @@ fn is_init(t: Table, slot: ProcSlot) -> bool
 
 // Delivers a signal that a process of the namespace `from` sends. An empty slot is passed over, as an ended target is.
 pub fn deliver(t: Table, from: NsSlot, slot: ProcSlot, s: u8) -> Table
-    requires { ⌜ s < signals ⌝ }
     ensures { λ r. ⌜ Delivers t (from .0) (slot .0) s r ⌝ }
 {
     let p = t.process(slot);
@@ -290,13 +290,23 @@ pub fn others(t: Table, caller: ProcSlot) -> Targets
 
 // ---- several targets
 
+// The count of a list, which is no more than there are slots.
+fn count_of(found: Targets) -> usize
+    ensures { λ r. ⌜ r ≡ min (found .len) process-slots ⌝ }
+{
+    let len = found.len;
+    if PROCESS_SLOTS < len {
+        return PROCESS_SLOTS;
+    }
+    len
+}
+
 // Delivers a signal to each of a list, one after the other. One that has ended or been removed by then is passed over.
 pub fn deliver_all(t: Table, from: NsSlot, found: Targets, s: u8) -> Table
-    requires { ⌜ (s < signals) × (found .len ≤ process-slots) ⌝ }
     ensures { λ r. ⌜ DeliversAll t (from .0) (listed found) s r ⌝ }
 {
     let slots = found.slots;
-    let count = found.len;
+    let count = count_of(found);
     let mut u = t;
     let mut turn: usize = 0;
     while turn < count {

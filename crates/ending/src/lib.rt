@@ -146,7 +146,7 @@ fn falls_with(
 }
 
 // Ends the namespace n, with that many levels left below it: it is dead, and each process that falls with it ends.
-pub fn end_namespace(t: Table, n: NsSlot, left: u8) -> Table
+fn end_namespace(t: Table, n: NsSlot, left: u8) -> Table
     ensures { λ r. ⌜ r ≡ end-namespace left t (n .0) ⌝ }
 {
     let mut u = mark_dead(t, n);
@@ -164,7 +164,7 @@ pub fn end_namespace(t: Table, n: NsSlot, left: u8) -> Table
 
 // Ends the process at i, which falls with n. A member of n is ended by signal 9; the init of a namespace right below
 // takes its own namespace down.
-pub fn end_member(t: Table, n: NsSlot, i: usize, left: u8) -> Table
+fn end_member(t: Table, n: NsSlot, i: usize, left: u8) -> Table
     requires { ⌜ i < process-slots ⌝ }
     ensures { λ r. ⌜ r ≡ end-member left t (n .0) i ⌝ }
 {

@@ -1,20 +1,21 @@
 -- handle and poll: the caller's signals are changed.
-use Prim.Native.Nat.{ℕ, _<_}
+use Prim.Native.Nat.{ℕ, _<_, _%_}
 use mathlib.Core.Bool.{Bool, true, false, not}
 use mathlib.Core.Path.{_≡_, refl, sym, ap, subst, _∙_}
 use borrow.Author.Tests.{eq-eqb, ne-eqb}
-use lib.Dec.{eqb}
+use lib.Dec.{eqb, ltb}
 use lib.IntN.{ℤ}
 use lib.ListN.{getD}
 use mir.Syntax.{w32}
 use mir.Val.{SFits, toZ, ofZ}
 use mir.ValLaws.{toZ-ofZ}
-use Rattle.arguments.proofs.Named.{handled-below}
+use Rattle.arguments.proofs.Named.{handled-below, signal-is}
 use Rattle.callers.proofs.Callers.{put-changed}
 use Rattle.outcomes.proofs.Verdicts.{judged-grants, judged-refuses, none-holds, one-more}
 use Rattle.outcomes.specs.Verdicts.{verdict}
 use Rattle.outcomes.specs.declared.Verdict.the-variants.{Granted, Refused}
 use Rattle.outcomes.specs.declared.Verdict.{Verdict}
+use Rattle.signals.proofs.Sets.{with-fitting}
 use Rattle.table.proofs.Chains.{if-yes, if-no}
 use Rattle.rules.proofs.Laws.ReadAt.{read-at}
 use Rattle.rules.specs.Answers.{refused, answers}
@@ -36,9 +37,9 @@ use Rattle.table.specs.Records.{with-traits}
 
 -- what `handling` makes of a process, where h, q and x are the callees' results
 module _ (p : Process) (s h : ℕ) (x : Traits) (on : Bool) where
-  pub handles : on ≡ true → h ≡ with-signal (p .traits .handled) s → x ≡ with-signals (p .traits) h (p .traits .pending) → with-traits p x ≡ (if on then handle-on p s else handle-off p s)
+  pub handles : s < signals → on ≡ true → h ≡ (if ltb s signals then with-signal (p .traits .handled) s else p .traits .handled) → x ≡ with-signals (p .traits) h (p .traits .pending) → with-traits p x ≡ (if on then handle-on p s else handle-off p s)
   unfolding handle-on
-  handles b e z = if-yes on _ _ _ b (rw (z, e))
+  handles l b e z = if-yes on _ _ _ b (rw (z, with-fitting (p .traits .handled) s h l e))
 
   pub ignores : (q : ℕ) → on ≡ false → h ≡ without-signal (p .traits .handled) s → q ≡ without-signal (p .traits .pending) s → x ≡ with-signals (p .traits) h q → with-traits p x ≡ (if on then handle-on p s else handle-off p s)
   unfolding handle-off
@@ -61,23 +62,26 @@ module _ (z : ℤ) (fits : SFits w32 z) (v : Verdict) (e : v ≡ verdict (handle
   unfolding handle
   handle-refused t c on r x h a = judged-refuses t (handle-refusals z) (handle-gives t c z on) v ruled r x h a
 
-  pub handle-asks : v ≡ Granted → natural (toZ w32 (ofZ w32 z)) < signals
+  handle-asks : v ≡ Granted → natural (toZ w32 (ofZ w32 z)) < signals
   unfolding place
   handle-asks g = handled-below (toZ w32 (ofZ w32 z)) (none-holds (handle-refusals (toZ w32 (ofZ w32 z))) v e g Einval)
 
   -- s is what `signal_of` gives
-  pub handle-asks-of : (s : ℕ) → v ≡ Granted → s ≡ natural (toZ w32 (ofZ w32 z)) → s < signals
-  handle-asks-of s g q = subst (λ k. k < signals) (sym q) (handle-asks g)
+  signal-is-it : (s : ℕ) → v ≡ Granted → s ≡ natural (toZ w32 (ofZ w32 z)) % 256 → s ≡ natural (toZ w32 (ofZ w32 z))
+  signal-is-it s g q = signal-is s (toZ w32 (ofZ w32 z)) q (handle-asks g)
+
+  pub handle-asks-of : (s : ℕ) → v ≡ Granted → s ≡ natural (toZ w32 (ofZ w32 z)) % 256 → s < signals
+  handle-asks-of s g q = subst (λ k. k < signals) (sym (signal-is-it s g q)) (handle-asks g)
 
   pub handle-does : (t u : Table) (c s : ℕ) (p q : Process) (on : Bool) (r : Outcome) → v ≡ Granted → p ≡ getD (t .processes) c empty-process
-      → s ≡ natural (toZ w32 (ofZ w32 z)) → q ≡ (if on then handle-on p s else handle-off p s) → u ≡ put t c q → r ≡ answers u 0 → r ≡ handle t c z on
+      → s ≡ natural (toZ w32 (ofZ w32 z)) % 256 → q ≡ (if on then handle-on p s else handle-off p s) → u ≡ put t c q → r ≡ answers u 0 → r ≡ handle t c z on
   unfolding handle
   handle-does t u c s p q on r g d k m w a =
       judged-grants t (handle-refusals z) (handle-gives t c z on) v ruled r g
       (a
       ∙ ap (λ x. answers x 0)
       (w
-      ∙ ap (put t c) (m ∙ ap (λ j. if on then handle-on p j else handle-off p j) (k ∙ ap natural (toZ-ofZ w32 z fits)))
+      ∙ ap (put t c) (m ∙ ap (λ j. if on then handle-on p j else handle-off p j) (signal-is-it s g k ∙ ap natural (toZ-ofZ w32 z fits)))
       ∙ put-changed t c p (λ x. if on then handle-on x (natural z) else handle-off x (natural z)) d))
 
 -- p is the process read at the caller's slot c, and s the lowest of its pending signals

@@ -1,8 +1,8 @@
 -- kill: a signal to one or to many.
-use Prim.Native.Nat.{ℕ, _<_}
-use mathlib.Core.Bool.{Bool, true, false, not, So}
+use Prim.Native.Nat.{ℕ, _<_, _%_}
+use mathlib.Core.Bool.{Bool, true, false, not}
 use mathlib.Core.List.{List, [], _∷_}
-use mathlib.Core.Path.{_≡_, refl, sym, ap, ap₂, subst, subst₂, _∙_}
+use mathlib.Core.Path.{_≡_, refl, sym, ap, subst, subst₂, _∙_}
 use borrow.Author.Tests.{not-false}
 use denote.Laws.{Is}
 use lib.Dec.{eqb}
@@ -11,14 +11,14 @@ use lib.ListN.{getD, length}
 use mir.Syntax.{w32}
 use mir.Val.{Val, SFits, toZ, ofZ}
 use mir.ValLaws.{toZ-ofZ}
-use Rattle.arguments.proofs.Named.{targets-everyone, targets-one, within-below}
+use Rattle.arguments.proofs.Named.{targets-everyone, targets-one, within-below, signal-is}
 use Rattle.arguments.specs.Arguments.{names-everyone}
 use Rattle.callers.proofs.Fits.{sound-table}
 use Rattle.delivery.proofs.Kills.{kills-one, kills-others}
-use Rattle.delivery.specs.Delivery.{Delivers, DeliversAll}
+use Rattle.delivery.specs.Delivery.{deliver-by, deliver-all-by, Delivers, DeliversAll}
 use Rattle.delivery.specs.Targets.{Lists, listed}
 use Rattle.delivery.specs.declared.Targets.{Targets}
-use Rattle.kills.specs.Kills.{sends}
+use Rattle.kills.specs.Kills.{sends, sends-by, Sends, kill-with, kill-by, Kills}
 use Rattle.outcomes.proofs.Verdicts.{judged-grants, judged-refuses, none-holds, one-more, one-more-where, passed}
 use Rattle.outcomes.specs.Verdicts.{verdict}
 use Rattle.outcomes.specs.declared.Verdict.the-variants.{Granted, Refused}
@@ -28,13 +28,12 @@ use Rattle.rules.proofs.Laws.Judged.{None, place}
 use Rattle.rules.proofs.Laws.ReadAt.{read-at}
 use Rattle.table.proofs.Table as T
 use Rattle.rules.specs.Answers.{refused, answers}
-use Rattle.rules.specs.Calls.{within, natural, named, others, targets, names-group, kill-refusals, kill-gives, kill}
+use Rattle.rules.specs.Calls.{within, natural, named, others, targets, names-group, kill-refusals, kill}
 use Rattle.rules.specs.Delivery.{deliver-all}
 use Rattle.rules.specs.Freeing.{freed}
 use Rattle.table.specs.Fresh.{empty-process}
 use Rattle.table.specs.Limits.{process-slots, signals}
 use Rattle.rules.specs.Read.{View, view}
-use Rattle.rules.specs.Sound.{sound}
 use Rattle.table.specs.Tests.{if_then_else_}
 use Rattle.table.specs.declared.Outcome.{Outcome}
 use Rattle.table.specs.declared.Process.{Process}
@@ -65,25 +64,29 @@ module _ (t : Table) (c k : ℕ) (p : Process) (u w : Table) (r : Outcome) (vs :
   own : p .own .0 ≡ view t .own c
   own = read-at t c p d .own
 
-  pub sent-one : (i : ℕ) → Delivers t (p .own .0) i k u → So (sound t) → r ≡ sends t c (i ∷ []) k
-  unfolding sends
-  sent-one i y h =
-      a ∙ ap (λ x. answers x 0) (f ∙ ap freed (kills-one t (p .own .0) i k u (sound-table t vs is h) y ∙ ap (λ b. deliver-all t b (i ∷ []) k) own))
+  -- by what the deliveries make of the table, sent from a namespace
+  by : (sent : ℕ → Table) → u ≡ sent (p .own .0) → r ≡ answers (freed (sent (view t .own c))) 0
+  by sent e = a ∙ ap (λ x. answers x 0) (f ∙ ap freed (e ∙ ap sent own))
+
+  pub sent-one : (i : ℕ) → Delivers t (p .own .0) i k u → Sends t c (i ∷ []) k r
+  unfolding sends sends-by deliver-all-by
+  sent-one i y =
+      record {
+        always = by (λ x. deliver-by t x i k) (y .always);
+        as-defined = λ low h. by (λ x. deliver-all t x (i ∷ []) k) (kills-one t (p .own .0) i k u (sound-table t vs is h) y);
+      }
 
   -- l lists the others
-  pub sent-all : (l : Targets) → DeliversAll t (p .own .0) (listed l) k u → Lists l (others (view t) c) → So (sound t) → r ≡ sends t c (others (view t) c) k
-  unfolding sends
-  sent-all l y x h =
-      a
-      ∙ ap (λ b. answers b 0)
-      (f
-      ∙ ap freed
-      (kills-others t c (p .own .0) k 0 l u (sound-table t vs is h) own x y
-      ∙ ap₂ (λ b js. deliver-all t b js k) own (targets-everyone (view t) c (negsuc 0) refl)))
-
--- k is what `signal_of` gives
-pub asks-of : (k j : ℕ) → k ≡ j → j < signals → k < signals
-asks-of k j q l = subst (λ i. i < signals) (sym q) l
+  pub sent-all : (l : Targets) → DeliversAll t (p .own .0) (listed l) k u → Lists l (others (view t) c) → Sends t c (others (view t) c) k r
+  unfolding sends sends-by
+  sent-all l y x =
+      record {
+        always = by (λ b. deliver-all-by t b (others (view t) c) k) (y .always ∙ ap (λ js. deliver-all-by t (p .own .0) js k) (x .list));
+        as-defined = λ low h.
+            by (λ b. deliver-all t b (others (view t) c) k)
+            (kills-others t c (p .own .0) k 0 l u low (sound-table t vs is h) own x y
+            ∙ ap (λ js. deliver-all t (p .own .0) js k) (targets-everyone (view t) c (negsuc 0) refl));
+      }
 
 -- ---- what is given by it: v is the verdict of `may_kill`, of the arguments as they came
 
@@ -96,16 +99,30 @@ module _ (t : Table) (c : ℕ) (n z : ℤ) (fits-n : SFits w32 n) (fits : SFits 
     ruled : v ≡ verdict (kill-refusals (view t) c n z)
     ruled = subst₂ (λ a b. Told v a b nobody) (toZ-ofZ w32 n fits-n) (toZ-ofZ w32 z fits) m .0 (view t) c found
 
-    refuses : (x : Refusal) → v ≡ Refused x → r ≡ refused t x → r ≡ kill t c n z
-    unfolding kill
-    refuses x h a = judged-refuses t (kill-refusals (view t) c n z) (kill-gives t c n z) v ruled r x h a
+    -- in both ways: by what is sent to a list
+    refuses : (send : List ℕ → ℕ → Outcome) (x : Refusal) → v ≡ Refused x → r ≡ refused t x → r ≡ kill-with send t c n z
+    refuses send x h a = judged-refuses t (kill-refusals (view t) c n z) (λ y. send (targets (view t) c n) (natural z)) v ruled r x h a
+
+    refused-so : (x : Refusal) → v ≡ Refused x → r ≡ refused t x → Kills t c n z r
+    unfolding kill kill-by sends
+    refused-so x h a = record { always = refuses (sends-by t c) x h a; as-defined = λ s. refuses (sends t c) x h a }
 
     -- k is what `signal_of` gives
-    comes : (k : ℕ) → v ≡ Granted → k ≡ natural (toZ w32 (ofZ w32 z)) → r ≡ sends t c (targets (view t) c n) k → r ≡ kill t c n z
-    unfolding kill sends
-    comes k h q a =
-        judged-grants t (kill-refusals (view t) c n z) (kill-gives t c n z) v ruled r h
-        (a ∙ ap (sends t c (targets (view t) c n)) (q ∙ ap natural (toZ-ofZ w32 z fits)))
+    module _ (k : ℕ) (g : v ≡ Granted) (q : k ≡ natural (toZ w32 (ofZ w32 z)) % 256) where
+      signal-sent : k ≡ natural (toZ w32 (ofZ w32 z))
+      signal-sent = signal-is k (toZ w32 (ofZ w32 z)) q (m .1 g)
+
+      low : k < signals
+      low = subst (λ j. j < signals) (sym signal-sent) (m .1 g)
+
+      comes : (send : List ℕ → ℕ → Outcome) → r ≡ send (targets (view t) c n) k → r ≡ kill-with send t c n z
+      comes send a =
+          judged-grants t (kill-refusals (view t) c n z) (λ y. send (targets (view t) c n) (natural z)) v ruled r g
+          (a ∙ ap (send (targets (view t) c n)) (signal-sent ∙ ap natural (toZ-ofZ w32 z fits)))
+
+      sent-so : Sends t c (targets (view t) c n) k r → Kills t c n z r
+      unfolding kill kill-by sends
+      sent-so a = record { always = comes (sends-by t c) (a .always); as-defined = λ s. comes (sends t c) (a .as-defined low s) }
 
     passes : v ≡ Granted → None (kill-refusals (view t) c n z)
     passes = none-holds (kill-refusals (view t) c n z) v ruled
@@ -127,15 +144,15 @@ module _ (t : Table) (c i : ℕ) (n z : ℤ) (fits-n : SFits w32 n) (fits : SFit
   found : names-group n ≡ false → eqb i process-slots ≡ eqb (length (targets (view t) c n)) 0
   found g = counts (eqb i process-slots) ∙ ap (λ l. eqb (length l) 0) (sym (the-one g))
 
-  pub one-refused : (x : Refusal) → v ≡ Refused x → r ≡ refused t x → r ≡ kill t c n z
-  one-refused = refuses t c n z fits-n fits (eqb i process-slots) v r m found
+  pub one-refused : (x : Refusal) → v ≡ Refused x → r ≡ refused t x → Kills t c n z r
+  one-refused = refused-so t c n z fits-n fits (eqb i process-slots) v r m found
 
-  pub one-comes : (k : ℕ) → v ≡ Granted → k ≡ natural (toZ w32 (ofZ w32 z)) → (So (sound t) → r ≡ sends t c (i ∷ []) k) → So (sound t) → r ≡ kill t c n z
+  pub one-comes : (k : ℕ) → v ≡ Granted → k ≡ natural (toZ w32 (ofZ w32 z)) % 256 → Sends t c (i ∷ []) k r → Kills t c n z r
   unfolding place
-  one-comes k g q a h =
+  one-comes k g q a =
       let none = passes t c n z fits-n fits (eqb i process-slots) v r m found g in
-      comes t c n z fits-n fits (eqb i process-slots) v r m found k g q
-      (a h ∙ ap (λ l. sends t c l k) (sym (the-one (none Enosys) ∙ pick-no _ [] (i ∷ []) (found (none Enosys) ∙ none Esrch))))
+      let only = sym (the-one (none Enosys) ∙ pick-no _ [] (i ∷ []) (found (none Enosys) ∙ none Esrch)) in
+      sent-so t c n z fits-n fits (eqb i process-slots) v r m found k g q (subst (λ l. Sends t c l k r) only a)
 
 -- ---- to many: f lists the others
 
@@ -146,18 +163,16 @@ module _ (t : Table) (c : ℕ) (n z : ℤ) (fits-n : SFits w32 n) (fits : SFits 
   counted : names-group n ≡ false → eqb (f .len) 0 ≡ eqb (length (targets (view t) c n)) 0
   counted g = ap (λ k. eqb k 0) (l .count ∙ ap length (sym all-others))
 
-  pub others-refused : (x : Refusal) → v ≡ Refused x → r ≡ refused t x → r ≡ kill t c n z
-  others-refused = refuses t c n z fits-n fits (eqb (f .len) 0) v r m counted
+  pub others-refused : (x : Refusal) → v ≡ Refused x → r ≡ refused t x → Kills t c n z r
+  others-refused = refused-so t c n z fits-n fits (eqb (f .len) 0) v r m counted
 
-  pub others-come : (k : ℕ) → v ≡ Granted → k ≡ natural (toZ w32 (ofZ w32 z)) → (Lists f (others (view t) c) → So (sound t) → r ≡ sends t c (others (view t) c) k) → So (sound t) → r ≡ kill t c n z
-  others-come k g q a h =
-      comes t c n z fits-n fits (eqb (f .len) 0) v r m counted k g q (a l h ∙ ap (λ is. sends t c is k) (sym all-others))
+  pub others-come : (k : ℕ) → v ≡ Granted → k ≡ natural (toZ w32 (ofZ w32 z)) % 256 → (Lists f (others (view t) c) → Sends t c (others (view t) c) k r) → Kills t c n z r
+  others-come k g q a =
+      sent-so t c n z fits-n fits (eqb (f .len) 0) v r m counted k g q (subst (λ is. Sends t c is k r) (sym all-others) (a l))
 
 -- ---- kill itself: b is what `names_everyone` gives of the first argument
 
-module _ (t : Table) (c : ℕ) (n z : ℤ) (fits-n : SFits w32 n) (fits : SFits w32 z) (b : Bool) (r : Outcome) (e : b ≡ names-everyone (toZ w32 (ofZ w32 n))) where
-  crossed : kill t c (toZ w32 (ofZ w32 n)) (toZ w32 (ofZ w32 z)) ≡ kill t c n z
-  crossed = ap₂ (kill t c) (toZ-ofZ w32 n fits-n) (toZ-ofZ w32 z fits)
-
-  pub kill-goes : (x : Bool) → b ≡ x → (names-everyone (toZ w32 (ofZ w32 n)) ≡ x → So (sound t) → r ≡ kill t c (toZ w32 (ofZ w32 n)) (toZ w32 (ofZ w32 z))) → So (sound t) → r ≡ kill t c n z
-  kill-goes x h a s = a (sym e ∙ h) s ∙ crossed
+pub kill-goes : (t : Table) (c : ℕ) (n z : ℤ) (fits-n : SFits w32 n) (fits : SFits w32 z) (b : Bool) (r : Outcome) → b ≡ names-everyone (toZ w32 (ofZ w32 n))
+    → (x : Bool) → b ≡ x → (names-everyone (toZ w32 (ofZ w32 n)) ≡ x → Kills t c (toZ w32 (ofZ w32 n)) (toZ w32 (ofZ w32 z)) r) → Kills t c n z r
+kill-goes t c n z fits-n fits b r e x h a =
+    subst₂ (λ i j. Kills t c i j r) (toZ-ofZ w32 n fits-n) (toZ-ofZ w32 z fits) (a (sym e ∙ h))

@@ -18,35 +18,34 @@ use table::Outcome;
 use table::ProcSlot;
 use table::Refusal;
 use table::Table;
-ghost use mathlib.Core.Bool.{true, false, So};
+ghost use mathlib.Core.Bool.{true, false};
 ghost use mathlib.Core.List.{[], _∷_};
 ghost use mathlib.Core.Path.{_≡_};
 ghost use lib.Dec.{eqb};
 ghost use lib.ListN.{length};
-ghost use Prim.Native.Nat.{ℕ, _<_, _≤_};
+ghost use Prim.Native.Nat.{ℕ, _<_};
 ghost use Rattle.arguments.specs.Arguments.{names-everyone};
 ghost use Rattle.delivery.specs.Targets.{Lists};
-ghost use Rattle.kills.specs.Kills.{sends};
+ghost use Rattle.kills.specs.Kills.{Sends, Kills};
 ghost use Rattle.outcomes.specs.Verdicts.{verdict};
-ghost use Rattle.rules.specs.Calls.{natural, others as others-of, names-group, targets, kill-refusals, kill as kill-of};
-ghost use Rattle.table.specs.Limits.{process-slots, signals};
+ghost use Rattle.rules.specs.Calls.{natural, others as others-of, names-group, targets, kill-refusals};
+ghost use Rattle.table.specs.Limits.{signals};
 ghost use Rattle.rules.specs.Read.{View, view};
-ghost use Rattle.rules.specs.Sound.{sound};
 
 // Whether signal s may be sent to those that the number n means, who are nobody or not: the last refusal first.
 fn may_kill(n: i32, s: i32, nobody: bool) -> Verdict
     ensures { λ r. ⌜ (((v : View) (c : ℕ) → (names-group n ≡ false → nobody ≡ eqb (length (targets v c n)) 0) → r ≡ verdict (kill-refusals v c n s)) × (r ≡ Verdict.Granted → natural s < signals)) ⌝ }
 {
+    let bad = !is_signal(s);
     let group = names_group(n);
     let found = refuse_if(nobody, Refusal::Esrch, Verdict::Granted);
     let meant = refuse_if(group, Refusal::Enosys, found);
-    refuse_if(!is_signal(s), Refusal::Einval, meant)
+    refuse_if(bad, Refusal::Einval, meant)
 }
 
 // A signal to the process at a slot.
 fn send_one(t: Table, caller: ProcSlot, slot: ProcSlot, s: u8) -> Outcome
-    requires { ⌜ s < signals ⌝ }
-    ensures { λ r. ⌜ (So (sound t) → r ≡ sends t (caller .0) (slot .0 ∷ []) s) ⌝ }
+    ensures { λ r. ⌜ Sends t (caller .0) (slot .0 ∷ []) s r ⌝ }
 {
     let p = t.process(caller);
     let own = p.own;
@@ -55,7 +54,7 @@ fn send_one(t: Table, caller: ProcSlot, slot: ProcSlot, s: u8) -> Outcome
 
 // A signal to the one that a number names.
 fn kill_one(t: Table, caller: ProcSlot, n: i32, s: i32) -> Outcome
-    ensures { λ r. ⌜ (names-everyone n ≡ false → So (sound t) → r ≡ kill-of t (caller .0) n s) ⌝ }
+    ensures { λ r. ⌜ (names-everyone n ≡ false → Kills t (caller .0) n s r) ⌝ }
 {
     let slot = named(t, caller, n);
     let verdict = may_kill(n, s, slot.0 == NOBODY);
@@ -67,17 +66,16 @@ fn kill_one(t: Table, caller: ProcSlot, n: i32, s: i32) -> Outcome
 
 // A signal to all of a list, the others that the caller sees.
 fn send_all(t: Table, caller: ProcSlot, found: Targets, s: u8) -> Outcome
-    requires { ⌜ (s < signals) × (found .len ≤ process-slots) ⌝ }
-    ensures { λ r. ⌜ (Lists found (others-of (view t) (caller .0)) → So (sound t) → r ≡ sends t (caller .0) (others-of (view t) (caller .0)) s) ⌝ }
+    ensures { λ r. ⌜ (Lists found (others-of (view t) (caller .0)) → Sends t (caller .0) (others-of (view t) (caller .0)) s r) ⌝ }
 {
-    let p = t.process(caller);
-    let own = p.own;
+    let sender = t.process(caller);
+    let own = sender.own;
     answers(free_unheld(deliver_all(t, own, found, s)), 0)
 }
 
 // A signal to all that the caller sees but itself and number 1.
 fn kill_others(t: Table, caller: ProcSlot, n: i32, s: i32) -> Outcome
-    ensures { λ r. ⌜ (names-everyone n ≡ true → So (sound t) → r ≡ kill-of t (caller .0) n s) ⌝ }
+    ensures { λ r. ⌜ (names-everyone n ≡ true → Kills t (caller .0) n s r) ⌝ }
 {
     let found = others(t, caller);
     let verdict = may_kill(n, s, found.len == 0);
@@ -88,7 +86,7 @@ fn kill_others(t: Table, caller: ProcSlot, n: i32, s: i32) -> Outcome
 }
 
 pub fn kill(t: Table, caller: ProcSlot, n: i32, s: i32) -> Outcome
-    ensures { λ r. ⌜ (So (sound t) → r ≡ kill-of t (caller .0) n s) ⌝ }
+    ensures { λ r. ⌜ Kills t (caller .0) n s r ⌝ }
 {
     if names_everyone(n) {
         return kill_others(t, caller, n, s);

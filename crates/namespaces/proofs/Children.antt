@@ -1,7 +1,7 @@
 -- unshare and setns: the children's namespace of the caller is set.
-use Prim.Native.Nat.{ℕ, _<_, _+_}
-use mathlib.Core.Bool.{Bool, _||_, So}
-use mathlib.Core.Path.{_≡_, refl, ap, _∙_}
+use Prim.Native.Nat.{ℕ, _+_}
+use mathlib.Core.Bool.{Bool, _||_}
+use mathlib.Core.Path.{_≡_, refl, ap, ap₂, _∙_}
 use lib.Dec.{eqb}
 use lib.IntN.{ℤ}
 use lib.ListN.{getD}
@@ -11,6 +11,7 @@ use mir.ValLaws.{toZ-ofZ}
 use Rattle.births.proofs.Given.{namespace-given}
 use Rattle.births.specs.Births.{namespace-at}
 use Rattle.callers.proofs.Callers.{put-changed}
+use Rattle.callers.specs.Making.{refusals-at}
 use Rattle.outcomes.proofs.Verdicts.{either, judged-grants, judged-refuses, one-more}
 use Rattle.outcomes.specs.Verdicts.{verdict}
 use Rattle.outcomes.specs.declared.Verdict.the-variants.{Granted, Refused}
@@ -18,15 +19,13 @@ use Rattle.outcomes.specs.declared.Verdict.{Verdict}
 use Rattle.table.proofs.Table as T
 use Rattle.rules.proofs.Laws.ReadAt.{read-at}
 use Rattle.rules.specs.Answers.{refused, answers}
-use Rattle.rules.specs.Calls.{own-level, new-namespace, set-children, making-refusals, unshare-refusals, unshare-gives, unshare, named, setns-refusals, setns-gives, setns}
+use Rattle.rules.specs.Calls.{own-level, new-namespace, set-children, unshare-refusals, unshare-gives, unshare, named, setns-refusals, setns-gives, setns}
 use Rattle.rules.specs.Freeing.{freed}
 use Rattle.table.specs.Fresh.{empty-process}
-use Rattle.table.specs.Limits.{process-slots, namespace-slots, deepest}
+use Rattle.table.specs.Limits.{process-slots, namespace-slots}
 use Rattle.rules.specs.Pids.{free-namespace-slot}
 use Rattle.table.specs.Slots.{is-ended, put}
 use Rattle.rules.specs.Read.{view}
-use Rattle.rules.specs.Sound.{sound}
-use Rattle.rules.specs.Step.{runs}
 use Rattle.table.specs.Tests.{_or_, if_then_else_}
 use Rattle.table.specs.declared.Outcome.{Outcome}
 use Rattle.table.specs.declared.Process.{Process}
@@ -67,9 +66,9 @@ module _ (t : Table) (c i : ℕ) (z : ℤ) (fits : SFits w32 z) (v : Verdict) (r
 -- ---- unshare: l is the caller's level as `own_level` gives it, n is what `free_namespace_slot` gives, and v is the verdict of
 -- `may_make`
 
-module _ (t : Table) (c l n : ℕ) (v : Verdict) (r : Outcome) (k : l ≡ own-level (view t) c) (g : n ≡ free-namespace-slot (view t)) (m : (l ≡ own-level (view t) c → So (sound t) → So (runs (view t) c) → v ≡ verdict (making-refusals (view t) c (eqb n namespace-slots))) × (v ≡ Granted → l < deepest)) (s : So (sound t)) (h : So (runs (view t) c)) where
+module _ (t : Table) (c l n : ℕ) (v : Verdict) (r : Outcome) (k : l ≡ own-level (view t) c) (g : n ≡ free-namespace-slot (view t)) (m : v ≡ verdict (refusals-at (view t) c l (eqb n namespace-slots))) where
   ruled : v ≡ verdict (unshare-refusals (view t) c)
-  ruled = m .0 k s h ∙ ap (λ j. verdict (making-refusals (view t) c (eqb j namespace-slots))) g
+  ruled = m ∙ ap₂ (λ i j. verdict (refusals-at (view t) c i (eqb j namespace-slots))) k g
 
   pub unshare-refused : (e : Refusal) → v ≡ Refused e → r ≡ refused t e → r ≡ unshare t c
   unfolding unshare

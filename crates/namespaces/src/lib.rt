@@ -18,14 +18,11 @@ use table::Refusal;
 use table::Table;
 use tree::free_namespace_slot;
 ghost use Prim.Native.Nat.{ℕ};
-ghost use mathlib.Core.Bool.{So};
 ghost use mathlib.Core.Path.{_≡_};
 ghost use lib.IntN.{ℤ};
 ghost use Rattle.outcomes.specs.Verdicts.{verdict};
 ghost use Rattle.rules.specs.Calls.{unshare as unshare-of, set-children, named as named-in, setns-refusals, setns as setns-of};
 ghost use Rattle.rules.specs.Read.{view};
-ghost use Rattle.rules.specs.Sound.{sound};
-ghost use Rattle.rules.specs.Step.{runs};
 
 // What says that no slot of namespaces is free.
 const FULL: u8 = NAMESPACE_SLOTS as u8;
@@ -40,7 +37,7 @@ fn set_children(t: Table, caller: ProcSlot, n: NsSlot) -> Table
 }
 
 pub fn unshare(t: Table, caller: ProcSlot) -> Outcome
-    ensures { λ r. ⌜ (So (sound t) → So (runs (view t) (caller .0)) → r ≡ unshare-of t (caller .0)) ⌝ }
+    ensures { λ r. ⌜ r ≡ unshare-of t (caller .0) ⌝ }
 {
     let level = own_level(t, caller);
     let n = free_namespace_slot(t);

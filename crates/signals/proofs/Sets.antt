@@ -1,16 +1,19 @@
 -- The definitions of sets of signals against shifts, masks and counts of bits, for sets of any width w.
 use Prim.Native.Nat.{ℕ, zero, suc, _+_, _-_, _*_, _/_, _%_, _^_, _<_, _≤_, max, min}
 use native.Mathlib.Nat.{not-suc-le-zero, le-of-suc-le-suc, div-one, add-zero, zero-add, max-eq-right, max-zero, min-eq-left, min-zero, mod-eq-of-lt}
+use native.Mathlib.Decide.{decLt}
 use native.Mathlib.Omega.{arith}
-use mathlib.Core.Bool.{Bool, false}
+use mathlib.Core.Bool.{Bool, true, false, false≢true}
 use mathlib.Core.Path.{_≡_, refl, sym, ap, ap₂, _∙_}
+use borrow.Author.Tests.{lt-ltb}
 use lib.Bits.{bitAnd, bitOr, or-step, and-step, or-zero-r, and-mask, shifted-half, shifted-even}
 use lib.Count.{trailingZeros, under}
-use lib.Dec.{eqb, lit<}
+use lib.Dec.{eqb, ltb, lit<}
 use lib.Pow.{shr-shr, shl-exact, pow-pos, pow-lt}
+use Rattle.table.proofs.Chains.{pick-yes}
 use Rattle.table.specs.Limits.{signals}
 use Rattle.table.specs.SignalSets.{has, with-signal, without-signal, lowest-signal}
-use Rattle.table.specs.Tests.{lowest}
+use Rattle.table.specs.Tests.{if_then_else_, lowest}
 
 -- ---- shifts and masks
 
@@ -54,6 +57,11 @@ with-is w m s l = ap (bitOr m) (one-bit w s l) ∙ or-is m s
 pub without-is : (w m s : ℕ) → m < 2 ^ w → s < w → bitAnd m (2 ^ w - 1 - 1 * 2 ^ s % 2 ^ w) ≡ without-signal m s
 without-is w m s h l = ap (λ b. bitAnd m (2 ^ w - 1 - b)) (one-bit w s l) ∙ and-is w m s h l
 
+-- ---- a signal that has a bit: r is what `with_signal` gives
+
+pub with-fitting : (m s r : ℕ) → s < signals → r ≡ (if ltb s signals then with-signal m s else m) → r ≡ with-signal m s
+with-fitting m s r l e = e ∙ pick-yes (ltb s signals) _ m (lt-ltb s signals l)
+
 -- ---- from w on a set of w bits has no signal
 
 has-none : (s : ℕ) → false ≡ has 0 s
@@ -66,6 +74,13 @@ unfolding has
 has-past zero m s h l = let e : 0 ≡ m = omega arith in has-none s ∙ ap (λ x. has x s) e
 has-past (suc w) m zero h l = absurd (not-suc-le-zero l)
 has-past (suc w) m (suc s) h l = has-past w (m / 2) s (omega arith) (le-of-suc-le-suc l)
+
+pub has-low : (w m s : ℕ) → m < 2 ^ w → has m s ≡ true → s < w
+has-low w m s h e = go (decLt s w)
+  where
+    go : Dec (s < w) → s < w
+    go (yes l) = l
+    go (no o) = absurd (false≢true (has-past w m s h (omega arith) ∙ e))
 
 without-none : (s : ℕ) → 0 ≡ without-signal 0 s
 unfolding without-signal

@@ -1,9 +1,10 @@
 // Signals by number: sets of them, and what an unhandled one does.
 ghost use mathlib.Core.Path.{_≡_};
-ghost use Prim.Native.Nat.{_<_};
+ghost use lib.Dec.{ltb};
 ghost use Rattle.rules.specs.Delivery.{default-action};
 ghost use Rattle.table.specs.Limits.{signals};
 ghost use Rattle.table.specs.SignalSets.{has, with-signal, without-signal, lowest-signal};
+ghost use Rattle.table.specs.Tests.{if_then_else_};
 use table::Action;
 use table::SIGNALS;
 
@@ -21,10 +22,12 @@ pub fn has_signal(set: u32, s: u8) -> bool
 
 // A signal from 32 on has no bit to set.
 pub fn with_signal(set: u32, s: u8) -> u32
-    requires { ⌜ s < signals ⌝ }
-    ensures { λ r. ⌜ r ≡ with-signal set s ⌝ }
+    ensures { λ r. ⌜ r ≡ (if ltb s signals then with-signal set s else set) ⌝ }
 {
-    set | 1u32 << s
+    if s < SIGNALS {
+        return set | 1u32 << s;
+    }
+    set
 }
 
 pub fn without_signal(set: u32, s: u8) -> u32

@@ -1,6 +1,6 @@
 -- exit; and wait: the search for the ended child with the lowest number, by turns over the slots, and what becomes of it.
 use Prim.Native.Nat.{ℕ, _<_, _≤_, _+_}
-use mathlib.Core.Bool.{Bool, true, false, not, true≢false, So}
+use mathlib.Core.Bool.{Bool, true, false, not, true≢false}
 use mathlib.Core.List.{List}
 use mathlib.Core.Path.{_≡_, refl, sym, ap, _∙_}
 use borrow.Author.Tests.{eq-eqb, ne-eqb}
@@ -12,6 +12,7 @@ use mir.Syntax.{w32}
 use mir.Val.{Val, SFits, toZ, ofZ}
 use mir.ValLaws.{toZ-ofZ}
 use Rattle.callers.proofs.Fits.{facts-of}
+use Rattle.ending.specs.Ending.{end-process, Ends}
 use Rattle.outcomes.proofs.Verdicts.{judged-grants, judged-refuses, one-more}
 use Rattle.outcomes.specs.Verdicts.{verdict}
 use Rattle.outcomes.specs.declared.Verdict.the-variants.{Granted, Refused}
@@ -19,10 +20,9 @@ use Rattle.outcomes.specs.declared.Verdict.{Verdict}
 use Rattle.table.proofs.Chains.{by-bool, if-yes, if-no, and-true, and-goes, or-goes, told-yes}
 use Rattle.table.proofs.FoldLoops.{Turned, better, fold-starts, fold-goes-on, fold-done, least-by-turns}
 use Rattle.table.proofs.Table as T
-use Rattle.rules.proofs.Laws.Facts.{Facts}
 use Rattle.rules.proofs.Laws.ReadAt.{read-at}
 use Rattle.rules.proofs.Laws.Steps.{runs-lives}
-use Rattle.rules.specs.Answers.{refused, granted, answers}
+use Rattle.rules.specs.Answers.{judged, refused, granted, answers}
 use Rattle.rules.specs.Calls.{own-level, status, exit-refusals, exit-gives, exit, first-ended, reap, wait-refusals, wait-gives, wait}
 use Rattle.rules.specs.Ends.{end}
 use Rattle.rules.specs.Freeing.{freed}
@@ -46,6 +46,7 @@ use Rattle.table.specs.declared.State.{State}
 use Rattle.table.specs.declared.State.the-variants.{Running, Stopped, Ended}
 use Rattle.table.specs.declared.Table.{Table}
 use Rattle.table.specs.Records.{to-pid}
+use Rattle.waits.specs.Exits.{exit-by-gives, exit-by, Exits}
 
 -- ---- exit, whose argument is z
 
@@ -54,21 +55,27 @@ may-exit-is c r a = a
 
 -- v is the verdict of `may_exit`
 module _ (t : Table) (c : ℕ) (z : ℤ) (fits : SFits w32 z) (v : Verdict) (r : Outcome) (m : v ≡ verdict (exit-refusals c)) where
-  pub exit-refused : (e : Refusal) → v ≡ Refused e → r ≡ refused t e → r ≡ exit t c z
-  unfolding exit
-  exit-refused e h a = judged-refuses t (exit-refusals c) (exit-gives t c z) v m r e h a
+  pub exit-refused : (e : Refusal) → v ≡ Refused e → r ≡ refused t e → Exits t c z r
+  unfolding exit exit-by
+  exit-refused e h a = record { always = by (exit-by-gives t c z); as-defined = λ s q. by (exit-gives t c z) }
+    where
+      by : (o : Unit {0} → Outcome) → r ≡ judged t (exit-refusals c) o
+      by o = judged-refuses t (exit-refusals c) o v m r e h a
 
   -- k is the status that is kept, u the table after the end, and w without what nobody holds
-  pub exit-ends : (k : ℕ) (u w : Table) (vs : List Val) → Is T.the-row t vs → v ≡ Granted → k ≡ status (toZ w32 (ofZ w32 z)) → (Facts (view t) → So (living (view t) c) → u ≡ end t c (Exited k)) → w ≡ freed u → r ≡ answers w 0
-      → So (sound t) → So (runs (view t) c) → r ≡ exit t c z
-  unfolding exit
-  exit-ends k u w vs is o q d f a s h =
-      judged-grants t (exit-refusals c) (exit-gives t c z) v m r o
-      (a
-      ∙ ap (λ x. answers x 0)
-      (f
-      ∙ ap freed
-      (d (facts-of t vs is s) (runs-lives t c h) ∙ ap (λ j. end t c (Exited j)) (q ∙ ap status (toZ-ofZ w32 z fits)))))
+  pub exit-ends : (k : ℕ) (u w : Table) (vs : List Val) → Is T.the-row t vs → v ≡ Granted → k ≡ status (toZ w32 (ofZ w32 z)) → Ends t c (Exited k) u → w ≡ freed u → r ≡ answers w 0 → Exits t c z r
+  unfolding exit exit-by
+  exit-ends k u w vs is o q d f a =
+      record {
+        always = by (end-process t c) (d .always);
+        as-defined = λ s h. by (end t c) (d .as-defined (facts-of t vs is s) (runs-lives t c h));
+      }
+    where
+      -- by what the end of the caller is
+      by : (ends : End → Table) → u ≡ ends (Exited k) → r ≡ judged t (exit-refusals c) (λ (x : Unit {0}). answers (freed (ends (Exited (status z)))) 0)
+      by ends e =
+          judged-grants t (exit-refusals c) (λ (x : Unit {0}). answers (freed (ends (Exited (status z)))) 0) v m r o
+          (a ∙ ap (λ x. answers x 0) (f ∙ ap freed (e ∙ ap (λ j. ends (Exited j)) (q ∙ ap status (toZ-ofZ w32 z fits)))))
 
 -- ---- the search of wait
 

@@ -20,20 +20,19 @@ use table::Refusal;
 use table::State;
 use table::Table;
 use table::empty_process;
-ghost use mathlib.Core.Bool.{So, not};
+ghost use mathlib.Core.Bool.{not};
 ghost use mathlib.Core.Path.{_≡_};
 ghost use lib.Dec.{eqb, ltb};
 ghost use Rattle.outcomes.specs.Verdicts.{verdict};
 ghost use Rattle.rules.specs.Answers.{granted as granted-as};
-ghost use Rattle.rules.specs.Calls.{exit-refusals, exit as exit-of, wait-refusals, wait as wait-of};
+ghost use Rattle.rules.specs.Calls.{exit-refusals, wait-refusals, wait as wait-of};
 ghost use Rattle.rules.specs.Freeing.{freed};
 ghost use Rattle.table.specs.Fresh.{empty-process};
 ghost use Rattle.table.specs.Limits.{process-slots};
 ghost use Rattle.table.specs.Slots.{pid-at, is-ended, put};
 ghost use Rattle.rules.specs.Read.{view, child-of};
-ghost use Rattle.rules.specs.Sound.{sound};
-ghost use Rattle.rules.specs.Step.{runs};
 ghost use Rattle.table.specs.Tests.{_and_, _or_, any, least};
+ghost use Rattle.waits.specs.Exits.{Exits};
 
 // The root init does not end.
 fn may_exit(caller: ProcSlot) -> Verdict
@@ -43,7 +42,7 @@ fn may_exit(caller: ProcSlot) -> Verdict
 }
 
 pub fn exit(t: Table, caller: ProcSlot, s: i32) -> Outcome
-    ensures { λ r. ⌜ (So (sound t) → So (runs (view t) (caller .0)) → r ≡ exit-of t (caller .0) s) ⌝ }
+    ensures { λ r. ⌜ Exits t (caller .0) s r ⌝ }
 {
     let verdict = may_exit(caller);
     if let Verdict::Refused(why) = verdict {

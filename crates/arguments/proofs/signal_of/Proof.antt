@@ -1,5 +1,5 @@
 -- `arguments::signal_of` meets its contract. Assumes nothing.
-use native.Mathlib.Omega.{arith}
+use Prim.Native.Nat.{_%_}
 use mathlib.Core.Path.{ap, _∙_}
 use borrow.Author.Needs.{needs}
 use mir.Syntax.{w32}
@@ -12,12 +12,10 @@ natural-of-requires : tie.Need-natural-of-requires
 natural-of-requires c κs = search needs
 
 cast-result : tie.Need-cast-result
-cast-result c =
-    let e = c .natural-of .ensures ∙ ap natural (toZ-ofZ w32 (c .before .args .s) (c .before .fits .s)) in
-    omega arith
+cast-result c = search needs
 
 returns : tie.Need-returns
-returns c = c .natural-of .ensures ∙ ap natural (toZ-ofZ w32 (c .before .args .s) (c .before .fits .s))
+returns c = ap (λ k. k % 256) (c .natural-of .ensures ∙ ap natural (toZ-ofZ w32 (c .before .args .s) (c .before .fits .s)))
 
 pub signal-of-spec : {M : Type 1} → statement M
 signal-of-spec = tie.close (tie.spec natural-of-requires cast-result returns)

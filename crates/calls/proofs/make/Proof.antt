@@ -78,20 +78,20 @@ returns c = λ s q. made (c .before .before .before .args .t) (c .before .before
 
 returns-2 : tie.Need-returns-2
 unfolding make
-returns-2 c = λ s q. made (c .before .before .before .args .t) (c .before .before .before .args .caller .0) (c .before .before .before .args .call) _ CloneNew (c .before .enum-told2 .given .1) (c .clone-new .ensures s q)
+returns-2 c = λ s q. made (c .before .before .before .args .t) (c .before .before .before .args .caller .0) (c .before .before .before .args .call) _ CloneNew (c .before .enum-told2 .given .1) (c .clone-new .ensures)
 
 returns-3 : tie.Need-returns-3
 unfolding make
-returns-3 c = λ s q. made (c .before .before .before .args .t) (c .before .before .before .args .caller .0) (c .before .before .before .args .call) _ Unshare (c .before .enum-told3 .given .1) (c .unshare .ensures s q)
+returns-3 c = λ s q. made (c .before .before .before .args .t) (c .before .before .before .args .caller .0) (c .before .before .before .args .call) _ Unshare (c .before .enum-told3 .given .1) (c .unshare .ensures)
 
 returns-4 : tie.Need-returns-4
 returns-4 c = λ s q. made-setns (c .before .before .before .before .args .t) (c .before .before .before .before .args .caller .0) (c .before .before .before .before .args .call) _ _ (record { sfits = c .before .known-told .given .0 .1 }) (c .before .before .call .given .1) (c .setns .ensures)
 
 returns-5 : tie.Need-returns-5
-returns-5 c = λ s q. made-kill (c .before .before .before .before .args .t) (c .before .before .before .before .args .caller .0) (c .before .before .before .before .args .call) _ _ (record { sfits = c .before .known-told2 .given .1 .0 .1 }) _ (record { sfits = c .before .known-told2 .given .0 .1 }) (c .before .before .call2 .given .1) (c .kill .ensures s)
+returns-5 c = λ s q. made-kill (c .before .before .before .before .args .t) (c .before .before .before .before .args .caller .0) (c .before .before .before .before .args .call) _ _ (record { sfits = c .before .known-told2 .given .1 .0 .1 }) _ (record { sfits = c .before .known-told2 .given .0 .1 }) (c .before .before .call2 .given .1) (c .kill .ensures .as-defined s)
 
 returns-6 : tie.Need-returns-6
-returns-6 c = λ s q. made-exit (c .before .before .before .before .args .t) (c .before .before .before .before .args .caller .0) (c .before .before .before .before .args .call) _ _ (record { sfits = c .before .known-told3 .given .0 .1 }) (c .before .before .call3 .given .1) (c .exit .ensures s q)
+returns-6 c = λ s q. made-exit (c .before .before .before .before .args .t) (c .before .before .before .before .args .caller .0) (c .before .before .before .before .args .call) _ _ (record { sfits = c .before .known-told3 .given .0 .1 }) (c .before .before .call3 .given .1) (c .exit .ensures .as-defined s q)
 
 returns-7 : tie.Need-returns-7
 unfolding make

@@ -1,6 +1,9 @@
 -- `clone_new` goes by the verdict, and gives birth in the namespace that it made.
+use Prim.Native.Nat.{_<_}
 use borrow.Author.Needs.{needs}
+use Rattle.callers.proofs.Callers.{may-make-low}
 use Rattle.clones.proofs.Clones.{clone-new-refused, clone-new-born}
+use Rattle.table.specs.Limits.{deepest}
 use Rattle.clones.proofs.clone_new.Statement.{statement}
 use Rattle.clones.proofs.clone_new.Tie as tie
 
@@ -23,7 +26,7 @@ refused-requires : tie.Need-refused-requires
 refused-requires c κs = search needs
 
 returns : tie.Need-returns
-returns c = λ s h. search clone-new-refused
+returns c = search clone-new-refused
 
 enum-told : tie.Need-enum-told
 enum-told c = search needs
@@ -33,7 +36,8 @@ process-requires c κs = search needs
 
 add-new-namespace : tie.Need-add-new-namespace
 add-new-namespace c =
-    let low = c .before .before .before .before .may-make .ensures .1 (search needs) in
+    let m = c .before .before .before .before in
+    let low : m .before .before .before .before .before .own-level .result < deepest = search (may-make-low, m .may-make .ensures) in
     search (needs, low)
 
 new-namespace-requires : tie.Need-new-namespace-requires
@@ -47,7 +51,6 @@ born-requires c κs = search needs
 
 returns-2 : tie.Need-returns-2
 returns-2 c =
-    λ s h.
     let m = c .before .before .before .before .before .before .before in
     search (clone-new-born, m .may-make .ensures, m .before .before .before .before .before .own-level .ensures)
 

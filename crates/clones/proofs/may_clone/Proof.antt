@@ -10,11 +10,11 @@ process-requires c κs = search needs
 namespace-requires : tie.Need-namespace-requires
 namespace-requires c κs = search needs
 
-refuse-if-requires : tie.Need-refuse-if-requires
-refuse-if-requires c κs = search needs
-
 is-dead-requires : tie.Need-is-dead-requires
 is-dead-requires c κs = search needs
+
+refuse-if-requires : tie.Need-refuse-if-requires
+refuse-if-requires c κs = search needs
 
 refuse-if-requires-2 : tie.Need-refuse-if-requires-2
 refuse-if-requires-2 c κs = search needs
@@ -28,7 +28,7 @@ may-clone-spec =
     (tie.spec
     process-requires
     namespace-requires
-    refuse-if-requires
     is-dead-requires
+    refuse-if-requires
     refuse-if-requires-2
     returns)

@@ -11,7 +11,7 @@ use Rattle.delivery.proofs.deliver.Tie as tie
 -- what is known once the action is: the target as it was read, and that the table has all its slots
 known : (k : tie.After-action-on) → Target (k .before .before .before .args .t) (k .before .before .before .args .from .0) (k .before .before .before .args .slot .0) (k .before .before .before .args .s) (k .before .before .process .result) (k .action-on .result)
 known k =
-    target _ _ _ _ _ _ _ (k .before .before .process .ensures) (k .before .is-init .ensures) (k .action-on .ensures)
+    target _ _ _ _ _ _ _ (k .before .before .process .ensures) (k .before .is-init .ensures) (k .action-on .ensures .0)
 
 long : (k : tie.After-action-on) → length (k .before .before .before .args .t .processes) ≡ process-slots
 long k = search (length-mapped, k .before .before .before .good .0)
@@ -56,7 +56,7 @@ enum-told-5 : tie.Need-enum-told-5
 enum-told-5 c = search needs
 
 with-pending-requires : tie.Need-with-pending-requires
-with-pending-requires c κs = search needs
+with-pending-requires c κs = c .before .before .action-on .ensures .1 (c .enum-told5 .given .1)
 
 with-process-requires-3 : tie.Need-with-process-requires-3
 with-process-requires-3 c κs = search needs

@@ -12,6 +12,9 @@ Inv-loop from s slots count u₀ turn₀ u turn =
 abbrev μ-loop : tie.MeasureT-loop
 μ-loop from s slots count u₀ turn₀ u turn = count - turn
 
+count-of-requires : tie.Need-count-of-requires Inv-loop μ-loop
+count-of-requires c κs = search needs
+
 loop-holds : tie.Need-loop-holds Inv-loop μ-loop
 loop-holds c = search delivery-loops
 
@@ -39,6 +42,7 @@ deliver-all-spec =
     (tie.spec
     Inv-loop
     μ-loop
+    count-of-requires
     loop-holds
     array-copy-out-slot
     deliver-requires

@@ -1,6 +1,6 @@
 -- `handle` goes by the verdict, and puts the caller back with the sets changed.
 use borrow.Author.Needs.{needs}
-use Rattle.handlers.proofs.Signals.{handle-refused, handle-asks, handle-asks-of, handle-does}
+use Rattle.handlers.proofs.Signals.{handle-refused, handle-asks-of, handle-does}
 use Rattle.handlers.proofs.handle.Statement.{statement}
 use Rattle.handlers.proofs.handle.Tie as tie
 
@@ -23,7 +23,7 @@ process-requires : tie.Need-process-requires
 process-requires c κs = search needs
 
 signal-of-requires : tie.Need-signal-of-requires
-signal-of-requires c κs = search handle-asks
+signal-of-requires c κs = search needs
 
 handling-requires : tie.Need-handling-requires
 handling-requires c κs = search handle-asks-of

@@ -1,6 +1,6 @@
 -- `kill_one` goes by the verdict on the one that it found.
 use borrow.Author.Needs.{needs}
-use Rattle.kills.proofs.Kills.{asks-of, one-refused, one-comes}
+use Rattle.kills.proofs.Kills.{one-refused, one-comes}
 use Rattle.kills.proofs.kill_one.Statement.{statement}
 use Rattle.kills.proofs.kill_one.Tie as tie
 
@@ -17,16 +17,16 @@ refused-requires : tie.Need-refused-requires
 refused-requires c κs = search needs
 
 returns : tie.Need-returns
-returns c = λ o h. search one-refused
+returns c = λ o. search one-refused
 
 enum-told : tie.Need-enum-told
 enum-told c = search needs
 
 signal-of-requires : tie.Need-signal-of-requires
-signal-of-requires c κs = c .before .before .may-kill .ensures .1 (search needs)
+signal-of-requires c κs = search needs
 
 send-one-requires : tie.Need-send-one-requires
-send-one-requires c κs = asks-of _ _ (c .signal-of .ensures) (c .before .before .before .may-kill .ensures .1 (search needs))
+send-one-requires c κs = search needs
 
 returns-2 : tie.Need-returns-2
 returns-2 c = λ o. search one-comes

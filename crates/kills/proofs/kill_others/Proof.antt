@@ -1,6 +1,6 @@
 -- `kill_others` goes by the verdict on those that it found.
 use borrow.Author.Needs.{needs}
-use Rattle.kills.proofs.Kills.{asks-of, others-refused, others-come}
+use Rattle.kills.proofs.Kills.{others-refused, others-come}
 use Rattle.kills.proofs.kill_others.Statement.{statement}
 use Rattle.kills.proofs.kill_others.Tie as tie
 
@@ -17,16 +17,16 @@ refused-requires : tie.Need-refused-requires
 refused-requires c κs = search needs
 
 returns : tie.Need-returns
-returns c = λ o h. search others-refused
+returns c = λ o. search others-refused
 
 enum-told : tie.Need-enum-told
 enum-told c = search needs
 
 signal-of-requires : tie.Need-signal-of-requires
-signal-of-requires c κs = c .before .before .may-kill .ensures .1 (search needs)
+signal-of-requires c κs = search needs
 
 send-all-requires : tie.Need-send-all-requires
-send-all-requires c κs = (asks-of _ _ (c .signal-of .ensures) (c .before .before .before .may-kill .ensures .1 (search needs)), c .before .before .before .before .before .others .ensures .fits)
+send-all-requires c κs = search needs
 
 returns-2 : tie.Need-returns-2
 returns-2 c = λ o. search others-come

@@ -1,6 +1,9 @@
 -- `unshare` goes by the verdict, and sets the namespace that it made.
+use Prim.Native.Nat.{_<_}
 use borrow.Author.Needs.{needs}
+use Rattle.callers.proofs.Callers.{may-make-low}
 use Rattle.namespaces.proofs.Children.{unshare-refused, unshare-sets}
+use Rattle.table.specs.Limits.{deepest}
 use Rattle.namespaces.proofs.unshare.Statement.{statement}
 use Rattle.namespaces.proofs.unshare.Tie as tie
 
@@ -20,7 +23,7 @@ refused-requires : tie.Need-refused-requires
 refused-requires c κs = search needs
 
 returns : tie.Need-returns
-returns c = λ s h. search unshare-refused
+returns c = search unshare-refused
 
 enum-told : tie.Need-enum-told
 enum-told c = search needs
@@ -30,7 +33,8 @@ process-requires c κs = search needs
 
 add-new-namespace : tie.Need-add-new-namespace
 add-new-namespace c =
-    let low = c .before .before .before .before .may-make .ensures .1 (search needs) in
+    let m = c .before .before .before .before in
+    let low : m .before .before .before .own-level .result < deepest = search (may-make-low, m .may-make .ensures) in
     search (needs, low)
 
 new-namespace-requires : tie.Need-new-namespace-requires
@@ -43,7 +47,7 @@ answers-requires : tie.Need-answers-requires
 answers-requires c κs = search needs
 
 returns-2 : tie.Need-returns-2
-returns-2 c = λ s h. search unshare-sets
+returns-2 c = search unshare-sets
 
 pub unshare-spec : {M : Type 1} → statement M
 unshare-spec =

@@ -1,4 +1,4 @@
--- `exit` ends the caller, who lives, so the end is the definition's.
+-- `exit` ends the caller; one that runs lives, so its end is the definition's.
 use borrow.Author.Needs.{needs}
 use Rattle.waits.proofs.Waits.{exit-refused, exit-ends}
 use Rattle.waits.proofs.exit.Statement.{statement}
@@ -14,7 +14,7 @@ refused-requires : tie.Need-refused-requires
 refused-requires c κs = search needs
 
 returns : tie.Need-returns
-returns c = λ s q. search exit-refused
+returns c = search exit-refused
 
 enum-told : tie.Need-enum-told
 enum-told c = search needs
@@ -32,7 +32,7 @@ answers-requires : tie.Need-answers-requires
 answers-requires c κs = search needs
 
 returns-2 : tie.Need-returns-2
-returns-2 c = λ s h. search exit-ends
+returns-2 c = search exit-ends
 
 pub exit-spec : {M : Type 1} → statement M
 exit-spec =

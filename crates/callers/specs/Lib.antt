@@ -1,0 +1,2 @@
+-- What the contracts of `callers` cite beside the definitions of `rules`.
+pub mod Making
