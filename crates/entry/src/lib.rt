@@ -1,6 +1,5 @@
 // The thin entry: the table is lent, and what the by-value step makes of it is stored in its place.
 use table::Call;
-use table::Outcome;
 use table::ProcSlot;
 use table::Reply;
 use table::Table;
@@ -14,12 +13,4 @@ pub fn apply(t: &mut Table, caller: ProcSlot, call: Call) -> Reply
     let o = calls::step(*t, caller, call);
     *t = o.table;
     o.reply
-}
-
-// The same for whoever holds the table by value: it is lent to the entry for one call, and handed back.
-pub fn turn(mut t: Table, caller: ProcSlot, call: Call) -> Outcome
-    ensures { λ r. ⌜ r ≡ step-of t (caller .0) call ⌝ }
-{
-    let r = apply(&mut t, caller, call);
-    Outcome { reply: r, table: t }
 }
