@@ -5,12 +5,12 @@ use mathlib.Core.List.{List, [], _∷_, _++_, append-nil, map}
 use mathlib.Core.Path.{_≡_, refl, sym, ap, ap₂, subst, _∙_}
 use lib.ListN.{length, take, drop, length-append}
 use native.Mathlib.Omega.{arith}
+use Rattle.entry.specs.Applied.{Applied}
 use Rattle.lines.proofs.Carrying.{carries-own}
 use Rattle.lines.proofs.Cuts.{ended-count}
 use Rattle.lines.specs.Carried.{carried, Carries}
 use Rattle.lines.specs.Runs.{run-line, run-all}
 use Rattle.lines.specs.Splitting.{ended, left, last-line}
-use Rattle.rules.specs.Step.{step}
 use Rattle.script.specs.Outputs.{answer-line}
 use Rattle.script.specs.Texts.{line-feed}
 use Rattle.script.specs.declared.Parsed.{Parsed}
@@ -37,10 +37,6 @@ pub record Passed (t₀ : Table) (p₀ : Place) (chunk before : List ℕ) (t : T
   pub leaves : (m : List ℕ) → Leaves chunk p₀ m → Leaves chunk p m
   pub room : p .used + 32 * left-at chunk p ≤ length before
 
--- What the entry says of its reply and the table then, for the call that was found at p.
-abbrev pub Made : Table → Place → Reply → Table → Type 0
-Made t p r z = (r ≡ step t (p .slot .0) (p .call) .reply) × (z ≡ step t (p .slot .0) (p .call) .table)
-
 pub passed-starts : (t : Table) (p : Place) (chunk out : List ℕ) → p .used + 32 * left-at chunk p ≤ length out → Passed t p chunk out t p out
 passed-starts t p chunk out h =
     record {
@@ -57,12 +53,12 @@ found-left chunk p f = pick-yes (p .found) (suc (length (lines-after chunk p))) 
 
 -- ---- one call
 
-made-next : (t : Table) (chunk : List ℕ) (p : Place) (r : Reply) (z : Table) → p .found ≡ true → Made t p r z → run-at t chunk p ≡ and-then (answer-line (r .answer)) (run-all z (lines-after chunk p))
+made-next : (t : Table) (chunk : List ℕ) (p : Place) (r : Reply) (z : Table) → p .found ≡ true → Applied t (p .slot) (p .call) r z → run-at t chunk p ≡ and-then (answer-line (r .answer)) (run-all z (lines-after chunk p))
 unfolding run-at run-line
 made-next t chunk p r z f e =
     let o = run-line t (Parsed.Good (p .slot) (p .call)) in
     pick-yes (p .found) (and-then (o .text) (run-all (o .table) (lines-after chunk p))) (run-all t []) f
-    ∙ sym (ap₂ (λ (s : Reply) (u : Table). and-then (answer-line (s .answer)) (run-all u (lines-after chunk p))) (e .0) (e .1))
+    ∙ sym (ap₂ (λ (s : Reply) (u : Table). and-then (answer-line (s .answer)) (run-all u (lines-after chunk p))) (e .reply-is) (e .table-is))
 
 pub passed-length : (t₀ : Table) (p₀ : Place) (chunk before : List ℕ) (t : Table) (p : Place) (out : List ℕ) → Passed t₀ p₀ chunk before t p out → length out ≡ length before
 passed-length t₀ p₀ chunk before t p out w =
@@ -76,7 +72,7 @@ passed-room t₀ p₀ chunk before t p out w f =
     let e = passed-length t₀ p₀ chunk before t p out w in
     omega arith
 
-pub passed-next : (t₀ : Table) (p₀ : Place) (chunk before : List ℕ) (t : Table) (p : Place) (out : List ℕ) (r : Reply) (z : Table) (q : Place) (after : List ℕ) → Passed t₀ p₀ chunk before t p out → p .found ≡ true → Made t p r z → Sought (answer-line (r .answer)) [] chunk (p .at) (p .used) out after q → Passed t₀ p₀ chunk before z q after
+pub passed-next : (t₀ : Table) (p₀ : Place) (chunk before : List ℕ) (t : Table) (p : Place) (out : List ℕ) (r : Reply) (z : Table) (q : Place) (after : List ℕ) → Passed t₀ p₀ chunk before t p out → p .found ≡ true → Applied t (p .slot) (p .call) r z → Sought (answer-line (r .answer)) [] chunk (p .at) (p .used) out after q → Passed t₀ p₀ chunk before z q after
 passed-next t₀ p₀ chunk before t p out r z q after w f e s =
     let a : List ℕ = answer-line (r .answer) in
     let n = found-left chunk p f in

@@ -46,6 +46,7 @@ use denote.Triple.Spec.{Meets, tripleOf}
 use denote.Triple.Table.{entered, cited}
 use denote.Triple.Walked.{says, needs, Stays, stay-none, stay-none-slice, stay-slice, walkOf, goes-none, goes-none-slice, goes-slice, Walks, ends-at, walked, walk-meets}
 use denote.Exit.{yes}
+use Rattle.entry.specs.Applied.{Applied}
 use Rattle.entry.proofs.Values.{mach, mach-s, mach-k}
 use Rattle.entry.proofs.apply as apply
 use Rattle.entry.proofs.apply.Symbol as apply-def
@@ -67,7 +68,7 @@ use Rattle.table.proofs.Reply.Laws as R′
 use Rattle.session.specs.Places.{lines-after, left-at, Sought, Called}
 use Rattle.session.specs.declared.Place.{Place}
 use Rattle.session.specs.declared.Stand.{Stand}
-use Rattle.session.proofs.Calling.{Passed, Made, passed-starts, passed-length, passed-room, passed-next, passed-all, fewer-left}
+use Rattle.session.proofs.Calling.{Passed, passed-starts, passed-length, passed-room, passed-next, passed-all, fewer-left}
 use Rattle.session.proofs.Lending.{lies-in, lies-out, LentAgain, lends-again, comes-back}
 use Rattle.session.proofs.Place as P
 use Rattle.session.proofs.Place.Laws as P′
@@ -264,8 +265,8 @@ module _ {M : Type 1} (𝓤 : URA M) (H : Heap 𝓤) (A : Atoms 𝓤) (W : Given
           -- [what `apply` asks; the lender's part; _12; …; _11; …; _10; …; _9; …; _8; …; _7; …; _6; …; what frees _5; _4; …; the slices]
           calls-at ! fm (Apply 𝓤 H A at-mem run) known-apply (to-apply h d l₅ ν δ) (and-then ! (load ! (from ! (stop !)) (look ! 8 refl)) (and-then ! (load ! (from ! (fld ! refl (stop !))) (look-in ! 14 (sub ! 1 refl (whole !)))) (and-then ! (load ! (from ! (fld ! refl (stop !))) (look-in ! 14 (sub ! 2 refl (whole !)))) (no-more !)))) (λ v.
           use1 W (later (some (λ (r : Reply). ((‵ (flft (ν ∷ []) fullShare) ⊛ ‵ ftrue) ⊛ ‵ (R.the-row .own r (v ∷ []))) ⊛ raw (ensured 𝓤 H A apply.ended (apply.clauses 𝓤 H A at-mem run) (ν ∷ [], tt) (to h l₅ δ, (d .slot, (d .call, tt))) tt r)))) (id⊢ 𝓤 _) $ await ! tt $ pick ! (λ r.
-          split ! $ move ! (1 ∷ []) $ use1 W (some (λ (zs : Table × (Unit {0} × (Unit {0} × Unit {0}))). ‵ (lasts apply.ended (ν ∷ [], tt) (to h l₅ δ, (d .slot, (d .call, tt))) zs) ⊛ raw (fact 𝓤 (Made h d r (zs .0))))) (id⊢ 𝓤 _) $ pick ! (λ zs.
-          split ! $ move ! (1 ∷ []) $ heard ! (Made h d r (zs .0)) (λ e. fsplit ! $
+          split ! $ move ! (1 ∷ []) $ use1 W (some (λ (zs : Table × (Unit {0} × (Unit {0} × Unit {0}))). ‵ (lasts apply.ended (ν ∷ [], tt) (to h l₅ δ, (d .slot, (d .call, tt))) zs) ⊛ raw (fact 𝓤 (Applied h (d .slot) (d .call) r (zs .0))))) (id⊢ 𝓤 _) $ pick ! (λ zs.
+          split ! $ move ! (1 ∷ []) $ heard ! (Applied h (d .slot) (d .call) r (zs .0)) (λ e. fsplit ! $
           -- the lifetime is ended, and the table comes back
           move ! (2 ∷ []) $ split ! $ split ! $ lft-end ! tt $ move ! (0 ∷ 5 ∷ 3 ∷ []) $ use3 W (later (‵ (mem T.the-row .lies (zs .0) l₅ 0))) (ref-back 𝓤 H A W T.the-row (ν ∷ []) δ (zs .0) l₅ 0) $ await ! tt $
           use1 W (‵ (fat fullShare T′.mir l₅ 0 (mach (zs .0))) ⊛ ‵ (T.the-row .own (zs .0) (mach (zs .0) ∷ []))) (lies-out 𝓤 H A W (zs .0) l₅) $ split ! $ move ! (1 ∷ []) $ peeks ! T.the-row (Is T.the-row) (shows 𝓤 H A T.the-row) (zs .0) (mach (zs .0) ∷ []) (λ z-is. drop ! $
@@ -305,7 +306,7 @@ module _ {M : Type 1} (𝓤 : URA M) (H : Heap 𝓤) (A : Atoms 𝓤) (W : Given
           size : length l ≡ length ys
           size = passed-length t p (c .now) ys h d l (y .passed)
 
-          next-state : (r : Reply) (z : Table) (d′ : Place) (w : Val) (l′ : List ℕ) → Made h d r z → Went d r l l′ d′ → Is T.the-row z (mach z ∷ []) → Is P.the-row d′ (w ∷ []) → St′
+          next-state : (r : Reply) (z : Table) (d′ : Place) (w : Val) (l′ : List ℕ) → Applied h (d .slot) (d .call) r z → Went d r l l′ d′ → Is T.the-row z (mach z ∷ []) → Is P.the-row d′ (w ∷ []) → St′
           next-state r z d′ w l′ e s z-is d-is = record {
             tab = z;
             place = d′;
