@@ -6,7 +6,6 @@ use denote.Enum.Laws as EL
 use Rattle.table.specs.declared.Table.{Table}
 use Rattle.table.specs.declared.Call.{Call}
 use Rattle.table.specs.declared.ProcSlot.{ProcSlot}
-use Rattle.table.specs.declared.Outcome.{Outcome}
 use Rattle.table.specs.declared.Reply.{Reply}
 use Rattle.table.proofs.Table as T
 use Rattle.table.proofs.Table.Laws as T′
@@ -14,8 +13,6 @@ use Rattle.table.proofs.ProcSlot as S
 use Rattle.table.proofs.ProcSlot.Laws as S′
 use Rattle.table.proofs.Call as K
 use Rattle.table.proofs.Call.Laws as K′
-use Rattle.table.proofs.Outcome as O
-use Rattle.table.proofs.Outcome.Laws as O′
 use Rattle.table.proofs.Reply as R
 use Rattle.table.proofs.Reply.Laws as R′
 
@@ -30,6 +27,3 @@ mach-k = EL.vals K.the-type K′.the-laws
 
 abbrev pub mach-r : Reply → Val
 mach-r = LL.val R.the-type R′.the-laws
-
-abbrev pub mach-o : Outcome → Val
-mach-o = LL.val O.the-type O′.the-laws

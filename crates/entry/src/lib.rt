@@ -1,25 +1,15 @@
 // The thin entry: the table is lent, and what the by-value step makes of it is stored in its place.
 use table::Call;
-use table::Outcome;
 use table::ProcSlot;
 use table::Reply;
 use table::Table;
-ghost use mathlib.Core.Path.{_≡_};
-ghost use Rattle.rules.specs.Step.{step as step-of};
+ghost use Rattle.entry.specs.Applied.{Applied};
 
 // One call on the table, in place. The host is told the answer, and a child's slot beside it.
 pub fn apply(t: &mut Table, caller: ProcSlot, call: Call) -> Reply
-    ensures { λ r. ⌜ (r ≡ step-of (now (t .entry)) (caller .0) call .reply) × (now (t .exit) ≡ step-of (now (t .entry)) (caller .0) call .table) ⌝ }
+    ensures { λ r. ⌜ Applied (now (t .entry)) caller call r (now (t .exit)) ⌝ }
 {
     let o = calls::step(*t, caller, call);
     *t = o.table;
     o.reply
-}
-
-// The same for whoever holds the table by value: it is lent to the entry for one call, and handed back.
-pub fn turn(mut t: Table, caller: ProcSlot, call: Call) -> Outcome
-    ensures { λ r. ⌜ r ≡ step-of t (caller .0) call ⌝ }
-{
-    let r = apply(&mut t, caller, call);
-    Outcome { reply: r, table: t }
 }

@@ -22,7 +22,7 @@ use Rattle.script.specs.Reading.{read-line}
 use Rattle.script.specs.Texts.{bytes, line-feed, decimal, number}
 use Rattle.script.specs.declared.Parsed.{Parsed}
 use Rattle.session.proofs.Writing.{nothing-last, wrote-length}
-use Rattle.session.specs.Sessions.{Open, Wrote, Feeds}
+use Rattle.session.specs.Sessions.{Wrote, Feeds}
 use Rattle.session.specs.declared.Fed.{Fed}
 use Rattle.session.specs.declared.Session.{Session}
 use Rattle.table.proofs.Chains.{if-yes, if-no}
@@ -162,7 +162,7 @@ fed-whole script before mid n s r e h b f =
 
 last-one : (k : Line) (l : List ℕ) → Carries k l → (k .len ≡ 0 → ⊥) → length (last-line l) ≡ 1
 unfolding last-line
-last-one k [] c z = absurd (z (c .size))
+last-one k [] c z = let s = c .size in absurd (z (omega arith))
 last-one k (x ∷ xs) c z = refl
 
 -- what was written fits into the room for the lines that ended
@@ -213,12 +213,12 @@ rest-back u mid part =
     ap (λ l. take u mid ++ l)
     (ap (λ l. part ++ l) (drop-of-length-le (drop u mid) {i = length mid - u} (omega arith)) ∙ append-nil part)
 
-pub last-asks : (script before mid : List ℕ) (r : Fed) → Fed-whole script before mid r → (r .session .line .len ≡ 0 → ⊥) → Open (r .session .line) × (32 ≤ length (take (length mid - r .used) (drop (r .used) mid)))
+pub last-asks : (script before mid : List ℕ) (r : Fed) → Fed-whole script before mid r → (r .session .line .len ≡ 0 → ⊥) → 32 ≤ length (take (length mid - r .used) (drop (r .used) mid))
 last-asks script before mid r w z =
     let h = room-left script before mid r w z in
     let d = length-drop (r .used) mid in
     let e = ap length (rest-lent (r .used) mid) in
-    (record { line = left [] script; carries = w .carries }, omega arith)
+    omega arith
 
 -- the last line's answers in the rest of the buffer
 abbrev pub Last-wrote : (mid part : List ℕ) → Fed → ℕ → Type 0

@@ -1,11 +1,11 @@
 -- The line that is carried, byte by byte and through a chunk.
-use Prim.Native.Nat.{ℕ, _<_, _≤_, _+_}
+use Prim.Native.Nat.{ℕ, _<_, _≤_, _+_, min, max}
 use mathlib.Core.Bool.{true, false, true≢false, false≢true}
 use mathlib.Core.List.{List, [], _∷_, _++_, map}
 use mathlib.Core.Path.{_≡_, refl, sym, ap, subst, _∙_}
 use borrow.Author.Tests.{eq-eqb, ne-eqb, ltb-true, ltb-false}
 use lib.Dec.{ltb}
-use lib.ListN.{length, getD, take, drop, set, length-append, length-map, drop-of-length-le}
+use lib.ListN.{length, getD, take, drop, set, length-append, length-map, length-take, drop-of-length-le}
 use lib.Seq.{take-all, take-suc-set, take-append-le, length-take-le, drop-cons}
 use native.Mathlib.Numerals.{add-one}
 use native.Mathlib.Omega.{arith}
@@ -54,12 +54,14 @@ pub record Going (l chunk : List ℕ) (from : ℕ) (t : Line) (i : ℕ) : Type 0
 
 pub record Taking (chunk : List ℕ) (first t : Line) (from i : ℕ) : Type 0 where
   pub start : from ≤ i
+  pub within : i ≤ max from (length chunk)
   pub so-far : (l : List ℕ) → Carries first l → Going l chunk from t i
 
 pub taking-starts : (chunk : List ℕ) (first : Line) (from : ℕ) → Taking chunk first first from from
 taking-starts chunk first from =
     record {
       start = omega arith;
+      within = omega arith;
       so-far = λ l k. record { line = l; carries = k; lines-are = refl; left-is = refl };
     }
 
@@ -78,7 +80,7 @@ going-next l chunk from t u i g h n a =
 pub taking-next : (chunk : List ℕ) (first t u : Line) (from i : ℕ) → Taking chunk first t from i → i < length chunk → (getD chunk i 0 ≡ line-feed → ⊥) → ((m : List ℕ) → Carries t m → Carries u (m ++ getD chunk i 0 ∷ [])) → Taking chunk first u from (i + 1)
 taking-next chunk first t u from i k h n a =
     let s = k .start in
-    record { start = omega arith; so-far = λ l c. going-next l chunk from t u i (k .so-far l c) h n a }
+    record { start = omega arith; within = omega arith; so-far = λ l c. going-next l chunk from t u i (k .so-far l c) h n a }
 
 at-end : (l chunk : List ℕ) (from : ℕ) (t : Line) (i : ℕ) → Going l chunk from t i → from ≤ i → i < length chunk → getD chunk i 0 ≡ line-feed → Line-ended l chunk from (record { line = t; ended = true; at = i + 1 })
 at-end l chunk from t i g s h f =
@@ -101,19 +103,23 @@ taking-ends chunk first t from i k h f l c =
       on-more = λ e. absurd (true≢false e);
     }
 
-at-close : (l chunk : List ℕ) (from : ℕ) (t : Line) (i : ℕ) → Going l chunk from t i → length chunk ≤ i → Still-open l chunk from (record { line = t; ended = false; at = i })
-at-close l chunk from t i g h =
+at-close : (l chunk : List ℕ) (from : ℕ) (t : Line) (i : ℕ) → Going l chunk from t i → i ≡ max from (length chunk) → Still-open l chunk from (record { line = t; ended = false; at = i })
+at-close l chunk from t i g e =
+    let h : length chunk ≤ i = omega arith in
     let d = drop-of-length-le chunk h in
     record {
       lines-are = g .lines-are ∙ ap (ended (g .line)) d ∙ ended-none (g .line);
       carries = subst (Carries t) (sym (g .left-is ∙ ap (left (g .line)) d ∙ left-none (g .line))) (g .carries);
+      at-is = e;
     }
 
 pub taking-over : (chunk : List ℕ) (first t : Line) (from i : ℕ) → Taking chunk first t from i → length chunk ≤ i → (l : List ℕ) → Carries first l → Took l chunk from (record { line = t; ended = false; at = i })
 taking-over chunk first t from i k h l c =
+    let s = k .start in
+    let w = k .within in
     record {
       on-end = λ e. absurd (false≢true e);
-      on-more = λ e. at-close l chunk from t i (k .so-far l c) h;
+      on-more = λ e. at-close l chunk from t i (k .so-far l c) (omega arith);
     }
 
 pub ruleset take-loop = (taking-starts, taking-next, taking-ends, taking-over)
@@ -132,14 +138,34 @@ cut-read l =
     let h = ltb-false longest-line (length l) e in
     ap read-line (take-all carried l (omega arith)))
 
--- the part of the array that is read
-pub part-within : {Y : Type 0} (g : ℕ → Y) (t : Line) → length (map g (t .bytes)) ≡ carried → t .len ≤ carried → t .len ≤ length (t .bytes)
-part-within g t e h = let m = length-map (t .bytes) g in omega arith
+-- ---- what any line carries
 
-pub part-length : {Y : Type 0} (g : ℕ → Y) (t : Line) → length (map g (t .bytes)) ≡ carried → t .len ≤ carried → t .len ≡ length (take (t .len) (t .bytes))
-part-length g t e h = sym (length-take-le (t .len) (t .bytes) (part-within g t e h))
+short-own : {Y : Type 0} (g : ℕ → Y) (t : Line) → length (map g (t .bytes)) ≡ carried → length (take (t .len) (t .bytes)) ≡ min carried (t .len)
+short-own g t e =
+    let m = length-map (t .bytes) g in
+    let n = length-take (t .len) (t .bytes) in
+    omega arith
+
+pub carries-own : {Y : Type 0} (g : ℕ → Y) (t : Line) → length (map g (t .bytes)) ≡ carried → Carries t (take (t .len) (t .bytes))
+carries-own g t e =
+    let n = short-own g t e in
+    record { size = omega arith; holds = sym (take-all carried (take (t .len) (t .bytes)) (omega arith)) }
+
+-- ---- reading
 
 pub carried-read : (t : Line) (r : Parsed) → r ≡ read-line (take (t .len) (t .bytes)) → (l : List ℕ) → Carries t l → r ≡ read-line l
 carried-read t r e l k = e ∙ ap read-line (k .holds) ∙ cut-read l
 
-pub ruleset read-laws = (part-within, part-length, carried-read)
+pub full-read : {Y : Type 0} (g : ℕ → Y) (t : Line) → length (map g (t .bytes)) ≡ carried → longest-line < t .len → Parsed.Bad ≡ read-line (take (t .len) (t .bytes))
+full-read g t e h =
+    let n = short-own g t e in
+    sym (too-long (take (t .len) (t .bytes)) (omega arith))
+
+-- the part of the array that is read
+pub part-within : {Y : Type 0} (g : ℕ → Y) (t : Line) → length (map g (t .bytes)) ≡ carried → t .len ≤ longest-line → t .len ≤ length (t .bytes)
+part-within g t e h = let m = length-map (t .bytes) g in omega arith
+
+pub part-length : {Y : Type 0} (g : ℕ → Y) (t : Line) → length (map g (t .bytes)) ≡ carried → t .len ≤ longest-line → t .len ≡ length (take (t .len) (t .bytes))
+part-length g t e h = sym (length-take-le (t .len) (t .bytes) (part-within g t e h))
+
+pub ruleset read-laws = (full-read, part-within, part-length)

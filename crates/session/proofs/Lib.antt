@@ -1,5 +1,7 @@
 -- What belongs to no one function.
 pub mod Writing
-pub mod Feeding
+pub mod Seeking
+pub mod Calling
+pub mod Lending
 pub mod Using
 pub mod Whole

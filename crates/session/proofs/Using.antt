@@ -1,21 +1,41 @@
--- What whoever feeds a session must know: that there is room, that what was written lies within the buffer, and that the session goes on.
+-- What whoever feeds a session must know: that there is room, and that what was written lies within the buffer.
 use Prim.Native.Nat.{ℕ, _≤_, _*_}
-use mathlib.Core.List.{List, [], _++_}
-use mathlib.Core.Path.{_≡_, sym, ap, _∙_}
+use mathlib.Core.List.{List, [], _∷_, _++_}
+use mathlib.Core.Path.{_≡_, sym, ap}
 use lib.ListN.{length, take, drop, length-append}
 use lib.Seq.{length-take-le}
 use native.Mathlib.Omega.{arith}
+use denote.Laws.{Is}
+use denote.Struct.Laws as LL
+use Rattle.lines.proofs.Carrying.{carries-own}
 use Rattle.lines.proofs.Cuts.{ended-few}
 use Rattle.lines.specs.Carried.{Carries}
 use Rattle.lines.specs.Runs.{run-all}
-use Rattle.lines.specs.Splitting.{ended, left, last-line}
-use Rattle.session.specs.Sessions.{Open, Wrote, Feeds}
+use Rattle.lines.specs.Splitting.{ended, last-line}
+use Rattle.lines.proofs.Line as L
+use Rattle.lines.proofs.Line.Laws as L′
+use Rattle.session.proofs.Session as S
+use Rattle.session.proofs.Session.Laws as S′
+use Rattle.session.specs.Sessions.{Wrote, Feeds}
 use Rattle.session.specs.declared.Fed.{Fed}
 use Rattle.session.specs.declared.Session.{Session}
 
 -- A chunk of n bytes asks for at most 32 n bytes of room.
-pub enough-room : (s : Session) (chunk out : List ℕ) → Open (s .line) → 32 * length chunk ≤ length out → Open (s .line) × (32 * length (ended [] chunk) ≤ length out)
-enough-room s chunk out o h = let f = ended-few [] chunk in (o, omega arith)
+pub enough-room : (chunk out : List ℕ) → 32 * length chunk ≤ length out → 32 * length (ended [] chunk) ≤ length out
+enough-room chunk out h = let f = ended-few [] chunk in omega arith
+
+-- What is known of every session that is passed or returned: that it is one of the declared type.
+abbrev pub Good : Session → Type 0
+Good s = Is S.the-row s (LL.val S.the-type S′.the-laws s ∷ [])
+
+-- So its line carries something.
+abbrev own : Session → List ℕ
+own s = take (s .line .len) (s .line .bytes)
+
+own-carried : (s : Session) → Good s → Carries (s .line) (own s)
+own-carried s g =
+    let is = LL.owed S.the-type S′.the-laws s _ g .1 .0 in
+    carries-own _ (s .line) (LL.owed L.the-type L′.the-laws (s .line) _ is .0 .1 .0 .1)
 
 wrote-within : (text before after : List ℕ) (used : ℕ) → Wrote text before after used → used ≤ length after
 wrote-within text before after used w =
@@ -26,21 +46,18 @@ wrote-within text before after used w =
 
 -- ---- after a chunk
 
-pub fed-within : (s : Session) (chunk before after : List ℕ) (r : Fed) → Open (s .line) → ((l : List ℕ) → Carries (s .line) l → Feeds s l chunk before after r) → r .used ≤ length after
-fed-within s chunk before after r o f =
-    wrote-within (run-all (s .table) (ended (o .line) chunk) .text) before after (r .used) (f (o .line) (o .carries) .wrote)
+pub fed-within : (s : Session) (chunk before after : List ℕ) (r : Fed) → Good s → ((l : List ℕ) → Carries (s .line) l → Feeds s l chunk before after r) → r .used ≤ length after
+fed-within s chunk before after r g f =
+    wrote-within (run-all (s .table) (ended (own s) chunk) .text) before after (r .used) (f (own s) (own-carried s g) .wrote)
 
-pub fed-part : (s : Session) (chunk before after : List ℕ) (r : Fed) → Open (s .line) → ((l : List ℕ) → Carries (s .line) l → Feeds s l chunk before after r) → r .used ≡ length (take (r .used) after)
-fed-part s chunk before after r o f = sym (length-take-le (r .used) after (fed-within s chunk before after r o f))
-
-pub fed-open : (s : Session) (chunk before after : List ℕ) (r : Fed) → Open (s .line) → ((l : List ℕ) → Carries (s .line) l → Feeds s l chunk before after r) → Open (r .session .line)
-fed-open s chunk before after r o f = record { line = left (o .line) chunk; carries = f (o .line) (o .carries) .carries }
+pub fed-part : (s : Session) (chunk before after : List ℕ) (r : Fed) → Good s → ((l : List ℕ) → Carries (s .line) l → Feeds s l chunk before after r) → r .used ≡ length (take (r .used) after)
+fed-part s chunk before after r g f = sym (length-take-le (r .used) after (fed-within s chunk before after r g f))
 
 -- ---- at the end
 
-pub last-within : (s : Session) (before after : List ℕ) (used : ℕ) → Open (s .line) → ((l : List ℕ) → Carries (s .line) l → Wrote (run-all (s .table) (last-line l) .text) before after used) → used ≤ length after
-last-within s before after used o f =
-    wrote-within (run-all (s .table) (last-line (o .line)) .text) before after used (f (o .line) (o .carries))
+pub last-within : (s : Session) (before after : List ℕ) (used : ℕ) → Good s → ((l : List ℕ) → Carries (s .line) l → Wrote (run-all (s .table) (last-line l) .text) before after used) → used ≤ length after
+last-within s before after used g f =
+    wrote-within (run-all (s .table) (last-line (own s)) .text) before after used (f (own s) (own-carried s g))
 
-pub last-part : (s : Session) (before after : List ℕ) (used : ℕ) → Open (s .line) → ((l : List ℕ) → Carries (s .line) l → Wrote (run-all (s .table) (last-line l) .text) before after used) → used ≡ length (take used after)
-last-part s before after used o f = sym (length-take-le used after (last-within s before after used o f))
+pub last-part : (s : Session) (before after : List ℕ) (used : ℕ) → Good s → ((l : List ℕ) → Carries (s .line) l → Wrote (run-all (s .table) (last-line l) .text) before after used) → used ≡ length (take used after)
+last-part s before after used g f = sym (length-take-le used after (last-within s before after used g f))

@@ -1,106 +1,87 @@
--- One line run, and what is written of it into a lent buffer.
-use Prim.Native.Nat.{ℕ, zero, _≤_, _+_}
-use mathlib.Core.List.{List, [], _∷_, _++_, append-nil}
-use mathlib.Core.Path.{_≡_, refl, sym, ap, ap₂, subst, _∙_}
-use lib.ListN.{length, take, drop, length-append, length-drop}
+-- What is written into a lent buffer, piece by piece.
+use Prim.Native.Nat.{ℕ, _≤_, _+_}
+use mathlib.Core.List.{List, [], _∷_, _++_, append-nil, append-assoc}
+use mathlib.Core.Path.{_≡_, refl, sym, ap, ap₂, _∙_}
+use lib.ListN.{length, take, drop, length-append, length-take, length-drop, take-append-drop}
 use lib.Seq.{take-append-seam, drop-append-add, drop-drop}
 use native.Mathlib.Omega.{arith}
 use Rattle.lines.specs.Carried.{Carries}
-use Rattle.lines.specs.Runs.{run-line, run-all}
+use Rattle.lines.specs.Runs.{run-all}
 use Rattle.lines.specs.Splitting.{last-line}
 use Rattle.lines.specs.declared.Line.{Line}
-use Rattle.script.specs.Outputs.{answer-line, bad-line, Written, Copied}
-use Rattle.script.specs.Reading.{read-line}
-use Rattle.script.specs.declared.Parsed.{Parsed}
+use Rattle.script.specs.Outputs.{Written, Copied}
 use Rattle.script.specs.declared.Text.{Text}
-use Rattle.session.specs.Sessions.{Open, Gives, Wrote}
-use Rattle.session.specs.declared.Given.{Given}
-use Rattle.rules.specs.Step.{step}
-use Rattle.table.specs.declared.Call.{Call}
-use Rattle.table.specs.declared.Outcome.{Outcome}
-use Rattle.table.specs.declared.ProcSlot.{ProcSlot}
+use Rattle.session.specs.Places.{Puts}
+use Rattle.session.specs.Sessions.{Wrote}
 use Rattle.table.specs.declared.Table.{Table}
 
--- ---- a line
+-- ---- from a place on
 
-pub bad-gives : (t : Table) (line : Parsed) (u : Text) → line ≡ Parsed.Bad → Written u bad-line → Gives t line (record { text = u; table = t })
-unfolding run-line
-bad-gives t line u e w = subst (λ p. Gives t p (record { text = u; table = t })) (sym e) (record { writes = w; table-is = refl })
+pub puts-none : (at : ℕ) (out : List ℕ) → Puts [] at out out at
+puts-none at out =
+    record {
+      place = omega arith;
+      holds = sym (ap (λ l. l ++ drop at out) (append-nil (take at out)) ∙ take-append-drop at out);
+    }
 
-pub good-gives : (t : Table) (line : Parsed) (slot : ProcSlot) (c : Call) (o : Outcome) (u : Text) → line ≡ Parsed.Good slot c → o ≡ step t (slot .0) c → Written u (answer-line (o .reply .answer)) → Gives t line (record { text = u; table = o .table })
-unfolding run-line
-good-gives t line slot c o u e q w =
-    subst (λ p. Gives t p (record { text = u; table = o .table })) (sym e)
-    (record {
-      writes = subst (λ (v : Outcome). Written u (answer-line (v .reply .answer))) q w;
-      table-is = ap (λ (v : Outcome). v .table) q;
-    })
+pub puts-text : (t : Text) (l : List ℕ) (at next : ℕ) (before after : List ℕ) → Written t l → Copied t at before after next → Puts l at before after next
+puts-text t l at next before after w c =
+    record {
+      place = c .place ∙ ap (λ n. at + n) (w .size);
+      holds = c .holds ∙ ap (λ u. take at before ++ u ++ drop next before) (w .holds);
+    }
 
-pub ruleset line-gives = (bad-gives, good-gives)
+pub puts-more : (a b : List ℕ) (at mid-at next : ℕ) (before mid after : List ℕ) → at ≤ length before → Puts a at before mid mid-at → Puts b mid-at mid after next → Puts (a ++ b) at before after next
+puts-more a b at mid-at next before mid after h p q =
+    let front : List ℕ = take at before ++ a in
+    let n = p .place in
+    let m = q .place in
+    let s = length-append a b in
+    let f = length-append (take at before) a in
+    let t = length-take at before in
+    let size : mid-at ≡ length front = omega arith in
+    let x : take mid-at mid ≡ front = ap₂ (λ i l. take i l) size (p .holds) ∙ take-append-seam front (drop mid-at before) in
+    let y : drop next mid ≡ drop next before =
+    ap₂ (λ i l. drop i l) (m ∙ ap (λ i. i + length b) size) (p .holds)
+    ∙ drop-append-add front (drop mid-at before) (length b)
+    ∙ drop-drop (length b) mid-at before
+    ∙ ap (λ i. drop i before) (sym m) in
+    record {
+      place = omega arith;
+      holds =
+          q .holds ∙ ap₂ (λ u v. u ++ b ++ v) x y
+          ∙ ap (λ u. u ++ drop next before) (append-assoc (take at before) a b);
+    }
 
--- what a line gives that is carried and read
-pub line-text : (t : Table) (k : Line) (l : List ℕ) (p : Parsed) (g : Given) → Carries k l → ((m : List ℕ) → Carries k m → p ≡ read-line m) → Gives t p g → Written (g .text) (run-line t (read-line l) .text)
-line-text t k l p g c r v = subst (λ q. Written (g .text) (run-line t q .text)) (r l c) (v .writes)
+pub puts-length : (text : List ℕ) (at next : ℕ) (before after : List ℕ) → Puts text at before after next → next ≤ length before → length after ≡ length before
+puts-length text at next before after p h =
+    let n = p .place in
+    let e = ap length (p .holds) in
+    let a = length-append (take at before ++ text) (drop next before) in
+    let b = length-append (take at before) text in
+    let t = length-take at before in
+    let d = length-drop next before in
+    omega arith
 
-pub line-table : (t : Table) (k : Line) (l : List ℕ) (p : Parsed) (g : Given) → Carries k l → ((m : List ℕ) → Carries k m → p ≡ read-line m) → Gives t p g → g .table ≡ run-line t (read-line l) .table
-line-table t k l p g c r v = v .table-is ∙ ap (λ q. run-line t q .table) (r l c)
-
-pub line-short : (k : Line) (l : List ℕ) → Carries k l → k .len ≤ 65
-line-short k l c = let s = c .size in omega arith
-
--- ---- a lent buffer
+-- ---- from the start on
 
 pub wrote-none : (out : List ℕ) → Wrote [] out out 0
 wrote-none out = record { size = refl; holds = refl }
+
+pub puts-wrote : (text before after : List ℕ) (used : ℕ) → Puts text 0 before after used → Wrote text before after used
+puts-wrote text before after used p = let n = p .place in record { size = omega arith; holds = p .holds }
 
 -- the part that was written
 pub written : (text before after : List ℕ) (used : ℕ) → Wrote text before after used → take used after ≡ text
 written text before after used w =
     ap₂ (λ i l. take i l) (w .size) (w .holds) ∙ take-append-seam text (drop used before)
 
-pub wrote-more : (text more before out after : List ℕ) (used next : ℕ) (t : Text) → Wrote text before out used → Written t more → Copied t used out after next → Wrote (text ++ more) before after next
-wrote-more text more before out after used next t w m c =
-    let s = w .size in
-    let n = m .size in
-    let p = c .place in
-    let a = length-append text more in
-    let x = written text before out used w in
-    let y : drop next out ≡ drop next before =
-    ap₂ (λ i l. drop i l) (p ∙ ap (λ i. i + t .len) s) (w .holds)
-    ∙ drop-append-add text (drop used before) (t .len)
-    ∙ drop-drop (t .len) used before
-    ∙ ap (λ i. drop i before) (sym p) in
-    record {
-      size = omega arith;
-      holds = c .holds ∙ ap₂ (λ u v. u ++ v) (ap₂ (λ u v. u ++ v) x (m .holds)) y;
-    }
-
 pub wrote-length : (text before after : List ℕ) (used : ℕ) → Wrote text before after used → used ≤ length before → length after ≡ length before
 wrote-length text before after used w h =
-    let s = w .size in
-    let e : length after ≡ length text + length (drop used before) = ap length (w .holds) ∙ length-append text (drop used before) in
-    let d = length-drop used before in
-    omega arith
+    puts-length text 0 used before after (let n = w .size in record { place = omega arith; holds = w .holds }) h
 
--- ---- the last line
-
+-- Where there is no byte on the last line nothing is written.
 pub nothing-last : (t : Table) (k : Line) (out : List ℕ) → k .len ≡ 0 → (l : List ℕ) → Carries k l → Wrote (run-all t (last-line l) .text) out out 0
 unfolding last-line run-all
 nothing-last t k out z [] c = wrote-none out
 nothing-last t k out z (b ∷ bs) c = let s = c .size in absurd (omega arith)
-
-pub last-room : (k : Line) (out : List ℕ) (t : Table) (p : Parsed) (g : Given) → Open k × (32 ≤ length out) → ((m : List ℕ) → Carries k m → p ≡ read-line m) → Gives t p g → (g .text .len ≤ 32) × (0 + g .text .len ≤ length out)
-last-room k out t p g h r v =
-    let room = v .writes .room in
-    let o = h .1 in
-    (room, omega arith)
-
-pub one-last : (t : Table) (k : Line) (p : Parsed) (g : Given) (out after : List ℕ) (used : ℕ) → (k .len ≡ 0 → ⊥) → ((m : List ℕ) → Carries k m → p ≡ read-line m) → Gives t p g → Copied (g .text) 0 out after used → (l : List ℕ) → Carries k l → Wrote (run-all t (last-line l) .text) out after used
-unfolding last-line run-all
-one-last t k p g out after used n r v c [] h = absurd (n (h .size))
-one-last t k p g out after used n r v c (b ∷ bs) h =
-    subst (λ s. Wrote s out after used) (sym (append-nil (run-line t (read-line (b ∷ bs)) .text)))
-    (wrote-more [] (run-line t (read-line (b ∷ bs)) .text) out out after 0 used (g .text) (wrote-none out)
-    (line-text t k (b ∷ bs) p g h r v) c)
-
-pub ruleset last-gives = (nothing-last, last-room, one-last)

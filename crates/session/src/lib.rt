@@ -1,25 +1,29 @@
 // A session: the table and the open line, carried on from each chunk of the input to the next.
-use entry::turn;
+use entry::apply;
 use lines::Line;
 use lines::empty;
 use lines::read;
 use lines::take_line;
 use script::Parsed;
-use script::Text;
 use script::answer_text;
 use script::bad_text;
 use script::put;
+use table::Call;
+use table::ProcSlot;
+use table::Reply;
 use table::Table;
 use table::fresh;
 ghost use mathlib.Core.Path.{_≡_};
 ghost use mathlib.Core.List.{List, []};
-ghost use Prim.Native.Nat.{ℕ, _≤_, _*_};
-ghost use lib.ListN.{length};
+ghost use Prim.Native.Nat.{ℕ, suc, _≤_, _+_, _*_};
+ghost use lib.ListN.{length, drop};
 ghost use Rattle.lines.specs.Carried.{Carries};
 ghost use Rattle.lines.specs.Runs.{run-all};
 ghost use Rattle.lines.specs.Splitting.{ended, last-line};
+ghost use Rattle.script.specs.Outputs.{answer-line};
 ghost use Rattle.table.specs.Fresh.{fresh as fresh-table};
-ghost use Rattle.session.specs.Sessions.{Open, Gives, Wrote, Feeds};
+ghost use Rattle.session.specs.Places.{left-at, Sought, Called};
+ghost use Rattle.session.specs.Sessions.{Wrote, Feeds};
 
 pub struct Session {
     pub table: Table,
@@ -35,33 +39,84 @@ pub fn start() -> Session
     }
 }
 
-// What a line gave: the text that it writes, and the table then.
-struct Given {
-    text: Text,
-    table: Table,
+// ---- through a chunk, from call to call
+
+// Where the reading of a chunk stands: whether a call was found, and that call; the line that was read last, the place after it, and
+// how many bytes were written.
+struct Place {
+    found: bool,
+    slot: ProcSlot,
+    call: Call,
+    line: Line,
+    at: usize,
+    used: usize,
 }
 
-// Runs a line on the table, which is lent for the call.
-fn run_line(t: Table, line: Parsed) -> Given
-    ensures { λ r. ⌜ Gives t line r ⌝ }
+// Reads lines up to the first that is a call, and answers those that are none.
+fn seek(line: Line, from: usize, start: usize, chunk: &[u8], out: &mut [u8]) -> Place
+    requires { ⌜ start + 32 * length (ended [] (drop from (now chunk))) ≤ length (now out) ⌝ }
+    ensures { λ r. ⌜ ((l : List ℕ) → Carries line l → Sought [] l (now (chunk .entry)) from start (now (out .entry)) (now (out .exit)) r) ⌝ }
 {
-    match line {
-        Parsed::Bad => Given {
-            text: bad_text(),
-            table: t,
-        },
-        Parsed::Good(slot, call) => {
-            let o = turn(t, slot, call);
-            let u = o.table;
-            let reply = o.reply;
-            let answer = reply.answer;
-            Given {
-                text: answer_text(answer),
-                table: u,
-            }
-        },
+    let mut used = start;
+    let mut taken = take_line(line, chunk, from);
+    while taken.ended {
+        let whole = taken.line;
+        let at = taken.at;
+        let parsed = read(whole);
+        if let Parsed::Good(slot, call) = parsed {
+            return Place {
+                found: true,
+                slot: slot,
+                call: call,
+                line: whole,
+                at: at,
+                used: used,
+            };
+        }
+        used = put(bad_text(), out, used);
+        taken = take_line(empty(), chunk, at);
+    }
+    let left = taken.line;
+    Place {
+        found: false,
+        slot: ProcSlot(0),
+        call: Call::Poll,
+        line: left,
+        at: taken.at,
+        used: used,
     }
 }
+
+// Answers the call that was found, and reads on.
+fn go_on(p: Place, reply: Reply, chunk: &[u8], out: &mut [u8]) -> Place
+    requires { ⌜ p .used + 32 * suc (length (ended [] (drop (p .at) (now chunk)))) ≤ length (now out) ⌝ }
+    ensures { λ r. ⌜ Sought (answer-line (reply .answer)) [] (now (chunk .entry)) (p .at) (p .used) (now (out .entry)) (now (out .exit)) r ⌝ }
+{
+    let answer = reply.answer;
+    let used = put(answer_text(answer), out, p.used);
+    seek(empty(), p.at, used, chunk, out)
+}
+
+// The table and the place after the calls of a chunk.
+struct Stand {
+    table: Table,
+    place: Place,
+}
+
+// Makes the calls of a chunk one by one, on one table that is lent for each.
+fn run_calls(mut t: Table, p: Place, chunk: &[u8], out: &mut [u8]) -> Stand
+    requires { ⌜ p .used + 32 * left-at (now chunk) p ≤ length (now out) ⌝ }
+    ensures { λ r. ⌜ Called t p (now (chunk .entry)) (now (out .entry)) (now (out .exit)) r ⌝ }
+{
+    let mut q = p;
+    while q.found {
+        let r = apply(&mut t, q.slot, q.call);
+        q = go_on(q, r, chunk, out);
+    }
+    Stand { table: t, place: q }
+}
+
+// ---- a chunk, and the end
 
 // What a chunk gave: the session then, and how many bytes were written.
 pub struct Fed {
@@ -71,42 +126,34 @@ pub struct Fed {
 
 // Runs the lines that end in a chunk, and writes what they give from the start of `out`. An answer has at most 32 bytes.
 pub fn feed(s: Session, chunk: &[u8], out: &mut [u8]) -> Fed
-    requires { ⌜ Open (s .line) × (32 * length (ended [] (now chunk)) ≤ length (now out)) ⌝ }
+    requires { ⌜ 32 * length (ended [] (now chunk)) ≤ length (now out) ⌝ }
     ensures { λ r. ⌜ ((l : List ℕ) → Carries (s .line) l → Feeds s l (now (chunk .entry)) (now (out .entry)) (now (out .exit)) r) ⌝ }
 {
-    let mut table = s.table;
-    let mut used: usize = 0;
     let line = s.line;
-    let mut taken = take_line(line, chunk, 0);
-    while taken.ended {
-        let whole = taken.line;
-        let given = run_line(table, read(whole));
-        table = given.table;
-        let text = given.text;
-        used = put(text, out, used);
-        taken = take_line(empty(), chunk, taken.at);
-    }
-    let left = taken.line;
+    let t = s.table;
+    let p = seek(line, 0, 0, chunk, out);
+    let done = run_calls(t, p, chunk, out);
+    let table = done.table;
+    let place = done.place;
+    let left = place.line;
     Fed {
         session: Session {
             table: table,
             line: left,
         },
-        used: used,
+        used: place.used,
     }
 }
 
 // Runs the last line, if its line feed is missing and there is a byte on it. Gives how many bytes were written.
 pub fn finish(s: Session, out: &mut [u8]) -> usize
-    requires { ⌜ Open (s .line) × (32 ≤ length (now out)) ⌝ }
+    requires { ⌜ 32 ≤ length (now out) ⌝ }
     ensures { λ r. ⌜ ((l : List ℕ) → Carries (s .line) l → Wrote (run-all (s .table) (last-line l) .text) (now (out .entry)) (now (out .exit)) r) ⌝ }
 {
     let line = s.line;
     if line.len == 0 {
         return 0;
     }
-    let t = s.table;
-    let given = run_line(t, read(line));
-    let text = given.text;
-    put(text, out, 0)
+    let fed = feed(s, b"\n", out);
+    fed.used
 }

@@ -96,7 +96,7 @@ module _ {M : Type 1} (𝓤 : URA M) (H : Heap 𝓤) (A : Atoms 𝓤) (W : Given
   exits r e is =
       qed W (‵ (fobs γ (T.the-row .coded .code (r .table))) ∷ ‵ (fbor κ (Body (mem T.the-row) b o γ)) ∷ ‵ (flft κ q) ∷ []) ∵
       suffices ! _ (ends-at 𝓤 H A apply.ended stayed (apply.clauses 𝓤 H A at-mem run) W (((κ, tt), (q, tt), tt, x, at), tt) (mach-r (r .reply)) (r .reply) (r .table, (tt, (tt, tt))) (tt, (tt, (tt, tt)))) $
-      says ! (ap (λ (s : Outcome). s .reply) e, ap (λ (s : Outcome). s .table) e) $ nothing ! $ move ! (3 ∷ 0 ∷ []) $ join ! $
+      says ! (record { reply-is = ap (λ (s : Outcome). s .reply) e; table-is = ap (λ (s : Outcome). s .table) e }) $ nothing ! $ move ! (3 ∷ 0 ∷ []) $ join ! $
       frame ! $ feqI ! (List Val) (vptr b o ∷ []) (vptr b o ∷ []) refl $ fjoin3 ! $ nothing ! $ owned ! K.the-row (Is K.the-row) (EL.makes K.the-type K′.the-plain 𝓤 H A) k _ k-is $ fjoin ! $ owned ! S.the-row (Is S.the-row) (LL.makes S.the-type S′.the-plain 𝓤 H A) n _ n-is $ fjoin ! $ move ! (1 ∷ 0 ∷ []) $ fjoin ! $
       frame ! $ owned ! R.the-row (Is R.the-row) (LL.makes R.the-type R′.the-plain 𝓤 H A) (r .reply) _ is $ done !
 

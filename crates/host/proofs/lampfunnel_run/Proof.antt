@@ -1,5 +1,4 @@
 -- `lampfunnel_run` feeds the script whole, and runs the last line if its line feed is missing.
-use mathlib.Core.List.{[]}
 use native.Mathlib.Omega.{arith}
 use borrow.Author.Needs.{needs}
 use Rattle.host.proofs.Running.{short-told, short-filled, room-for-ended, Fed-whole, fed-whole, room-left, all-ended, last-asks, last-fits, last-run}
@@ -19,10 +18,8 @@ start-requires : tie.Need-start-requires
 start-requires c κs = search needs
 
 feed-requires : tie.Need-feed-requires
-feed-requires c κs = (
-  record { line = []; carries = c .before .start .ensures .1 },
-  room-for-ended _ _ _ (c .before .before .before .line-count .ensures) (c .before .before .if1 .left),
-)
+feed-requires c κs =
+    room-for-ended _ _ _ (c .before .before .before .line-count .ensures) (c .before .before .if1 .left)
 
 fed : (c : tie.After-feed) → Fed-whole (c .before .before .before .before .before .before .before .args .script .now) (c .before .before .before .before .before .before .before .args .out .now) (c .feed .last .1 .1 .0) (c .feed .result)
 fed c =

@@ -4,6 +4,9 @@ use borrow.Author.Needs.{needs}
 use Rattle.lines.proofs.read.Statement.{statement}
 use Rattle.lines.proofs.read.Tie as tie
 
+returns : tie.Need-returns
+returns c = search read-laws
+
 array-share-prefix-bytes : tie.Need-array-share-prefix-bytes
 array-share-prefix-bytes c = search read-laws
 
@@ -13,9 +16,10 @@ slice-aggregate-parse c = search read-laws
 parse-requires : tie.Need-parse-requires
 parse-requires c κs = search needs
 
-returns : tie.Need-returns
-returns c = search read-laws
+returns-2 : tie.Need-returns-2
+returns-2 c = search needs
 
 pub read-spec : {M : Type 1} → statement M
 read-spec =
-    tie.close (tie.spec array-share-prefix-bytes slice-aggregate-parse parse-requires returns)
+    tie.close
+    (tie.spec returns array-share-prefix-bytes slice-aggregate-parse parse-requires returns-2)

@@ -1,13 +1,11 @@
--- `read_all` keeps a session that is open.
+-- `read_all` ends: the turns count down.
 use borrow.Author.Needs.{needs}
-use mathlib.Core.List.{[]}
 use native.Mathlib.Omega.{arith}
-use Rattle.session.specs.Sessions.{Open}
 use Rattle.recorder.proofs.read_all.Statement.{statement}
 use Rattle.recorder.proofs.read_all.Tie as tie
 
 abbrev Inv-loop : tie.InvT-loop
-Inv-loop read₀ turns₀ read turns = Open (read .session .line)
+Inv-loop read₀ turns₀ read turns = Unit {0}
 
 abbrev μ-loop : tie.MeasureT-loop
 μ-loop read₀ turns₀ read turns = turns
@@ -16,10 +14,10 @@ start-requires : tie.Need-start-requires Inv-loop μ-loop
 start-requires c κs = search needs
 
 loop-holds : tie.Need-loop-holds Inv-loop μ-loop
-loop-holds c = record { line = []; carries = c .start .ensures .1 }
+loop-holds c = tt
 
 read-some-requires : tie.Need-read-some-requires Inv-loop μ-loop
-read-some-requires c κs = c .before .before .loop .inv
+read-some-requires c κs = search needs
 
 sub-turns : tie.Need-sub-turns Inv-loop μ-loop
 sub-turns c = omega arith

@@ -1,5 +1,5 @@
 -- `read_some` lends what there is room for, and writes no more than was written there.
-use Rattle.session.proofs.Using.{enough-room, fed-within, fed-part, fed-open}
+use Rattle.session.proofs.Using.{enough-room, fed-within, fed-part}
 use borrow.Author.Needs.{needs}
 use lib.ListN.{take}
 use native.Mathlib.Omega.{arith}
@@ -35,20 +35,20 @@ slice-aggregate-feed-2 c = search needs
 
 feed-requires : tie.Need-feed-requires
 feed-requires c κs =
-    enough-room (c .before .before .before .before .before .before .before .before .before .args .s) (take (c .before .before .before .count .result) (c .before .before .before .before .before .before .read .last .1 .0)) (c .before .before .before .before .before .before .before .before .large-buffer .result)
-    (c .before .before .before .before .before .before .before .before .before .pre) (omega (arith, c .before .before .before .count .ensures, c .before .before .before .before .before .before .before .before .large-buffer .ensures))
+    enough-room (take (c .before .before .before .count .result) (c .before .before .before .before .before .before .read .last .1 .0)) (c .before .before .before .before .before .before .before .before .large-buffer .result)
+    (omega (arith, c .before .before .before .count .ensures, c .before .before .before .before .before .before .before .before .large-buffer .ensures))
 
 array-share-prefix-out : tie.Need-array-share-prefix-out
-array-share-prefix-out c = fed-within _ _ _ _ _ (c .before .before .before .before .before .before .before .before .before .before .before .before .pre) (c .before .before .feed .ensures)
+array-share-prefix-out c = fed-within _ _ _ _ _ (c .before .before .before .before .before .before .before .before .before .before .before .before .good .0) (c .before .before .feed .ensures)
 
 slice-aggregate-write-all : tie.Need-slice-aggregate-write-all
-slice-aggregate-write-all c = fed-part _ _ _ _ _ (c .before .before .before .before .before .before .before .before .before .before .before .before .before .pre) (c .before .before .before .feed .ensures)
+slice-aggregate-write-all c = fed-part _ _ _ _ _ (c .before .before .before .before .before .before .before .before .before .before .before .before .before .good .0) (c .before .before .before .feed .ensures)
 
 write-all-requires : tie.Need-write-all-requires
 write-all-requires c κs = search needs
 
 returns-2 : tie.Need-returns-2
-returns-2 c = fed-open _ _ _ _ _ (c .before .before .before .before .before .before .before .before .before .before .before .before .before .before .pre) (c .before .before .before .before .feed .ensures)
+returns-2 c = search needs
 
 pub read-some-spec : {M : Type 1} → statement M
 read-some-spec =

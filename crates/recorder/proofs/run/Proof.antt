@@ -14,10 +14,10 @@ finish-requires : tie.Need-finish-requires
 finish-requires c κs = search needs
 
 array-share-prefix-out : tie.Need-array-share-prefix-out
-array-share-prefix-out c = last-within _ _ _ _ (c .before .before .before .read-all .ensures) (c .before .finish .ensures)
+array-share-prefix-out c = last-within _ _ _ _ (c .before .before .before .read-all .ok) (c .before .finish .ensures)
 
 slice-aggregate-write-all : tie.Need-slice-aggregate-write-all
-slice-aggregate-write-all c = last-part _ _ _ _ (c .before .before .before .before .read-all .ensures) (c .before .before .finish .ensures)
+slice-aggregate-write-all c = last-part _ _ _ _ (c .before .before .before .before .read-all .ok) (c .before .before .finish .ensures)
 
 write-all-requires : tie.Need-write-all-requires
 write-all-requires c κs = search needs

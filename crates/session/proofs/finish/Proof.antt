@@ -1,27 +1,23 @@
--- `finish` runs the line that is left open, if there is a byte on it.
-use Rattle.session.proofs.Writing.{last-gives}
+-- `finish` feeds the line feed that is missing, if there is a byte on the line.
 use borrow.Author.Needs.{needs}
+use Rattle.session.proofs.Calling.{last-laws}
 use Rattle.session.proofs.finish.Statement.{statement}
 use Rattle.session.proofs.finish.Tie as tie
 
 returns : tie.Need-returns
-returns c = search last-gives
+returns c = search last-laws
 
-read-requires : tie.Need-read-requires
-read-requires c κs = search needs
+slice-aggregate-feed : tie.Need-slice-aggregate-feed
+slice-aggregate-feed c = search needs
 
-run-line-requires : tie.Need-run-line-requires
-run-line-requires c κs = search needs
-
-put-requires : tie.Need-put-requires
-put-requires c κs = search needs
+feed-requires : tie.Need-feed-requires
+feed-requires c κs = search last-laws
 
 same-length : tie.Need-same-length
 same-length c = search needs
 
 returns-2 : tie.Need-returns-2
-returns-2 c = search last-gives
+returns-2 c = search last-laws
 
 pub finish-spec : {M : Type 1} → statement M
-finish-spec =
-    tie.close (tie.spec returns read-requires run-line-requires put-requires same-length returns-2)
+finish-spec = tie.close (tie.spec returns slice-aggregate-feed feed-requires same-length returns-2)

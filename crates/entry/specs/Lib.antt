@@ -1,0 +1,2 @@
+-- What the entry leaves of a table that is lent to it.
+pub mod Applied
