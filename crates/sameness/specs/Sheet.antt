@@ -20,8 +20,8 @@ pub data Name : Type 0 where
   no-name : Name
 
 -- A row for each process: numbers from S's level down; state; signals (its traits); parent's number in S or 0; own
--- namespace; those that it holds, by their index (its children's); and for a living init, its namespace's last number. No
--- slot appears.
+-- namespace; those that it holds, by their index (its children's); and for a living init, its namespace's last number.
+-- No slot appears.
 pub record Row : Type 0 where
   pub pids : List ℕ
   pub state : State

@@ -6,14 +6,14 @@ use mathlib.Core.Logic.{_⊎_, inl, inr, ⊎-elim}
 use mathlib.Core.Path.{_≡_, refl, sym, _∙_, ap, subst}
 use borrow.Author.Tests.{eq-eqb, eqb-true}
 use lib.Dec.{eqb, leb}
-use Rattle.rules.proofs.Keeps.Changed.{view-changed, shaped-changed}
+use Rattle.rules.proofs.Keeps.Changed.{changed-at, namespace-count, view-changed, shaped-changed}
 use Rattle.rules.proofs.Laws.Below.{below-trans, below-up, last-step, below-hold, up-level, not-root, deep-namespace}
 use Rattle.rules.proofs.Laws.Facts.{Holder, root, member, holder, child, Facts, Held, Holds, Taken, Stands, Lives, Below, Seen, Other, sound-from}
 use Rattle.rules.proofs.Laws.Tests.{alive-unborn, not-iff, or-iff, left, right, both, cases, or-left, or-right, any-elim, any-intro}
 use Rattle.rules.proofs.Laws.Tree.{below-refl}
 use Rattle.rules.specs.Freeing.{kept, freed}
 use Rattle.table.specs.Fresh.{empty-namespace}
-use Rattle.table.specs.Limits.{greatest-pid, hold-slots}
+use Rattle.table.specs.Limits.{greatest-pid, hold-slots, namespace-slots}
 use Rattle.table.specs.Slots.{init-of, is-alive, is-dead, is-unborn, namespace, no-namespace}
 use Rattle.rules.specs.Read.{View, alive, below, climb, living, namespace-taken, pid-seen, seen, taken, unborn, view, children}
 use Rattle.rules.specs.Sound.{zero-namespace, zero-process, SoundTable, shaped}
@@ -219,11 +219,23 @@ module _ (v : View) (p : Facts v) where
 
 -- ---- a table with the facts is sound once freed
 
+-- past the last slot there is nothing to free
+none-freed : (b : Bool) → (if b then no-namespace else empty-namespace) ≡ no-namespace
+none-freed true = refl
+none-freed false = refl
+
+-- what stands at a slot then
+pub freed-space : (t : Table) → So (shaped t) → (n : ℕ) → namespace (freed t) n ≡ (if kept (view t) n then namespace t n else empty-namespace)
+unfolding freed
+freed-space t h =
+    changed-at (λ n s. if kept (view t) n then s else empty-namespace) no-namespace namespace-slots (t .namespaces) (namespace-count t h)
+    (λ n l. none-freed (kept (view t) n))
+
 -- what is read then
 pub freed-view : (t : Table) → So (shaped t) → view (freed t) ≡ restrict (kept (view t)) (view t)
 unfolding freed
 freed-view t h =
-    view-changed t (λ i p. p) (λ n s. if kept (view t) n then s else empty-namespace) h (λ i l. refl) (λ n l. same (kept (view t) n))
+    view-changed t (λ i p. p) (λ n s. if kept (view t) n then s else empty-namespace) h (λ i l. refl) (λ n l. none-freed (kept (view t) n))
     ∙ (λ i. record {
       own = view t .own;
       hold = view t .hold;
@@ -238,10 +250,6 @@ freed-view t h =
       life = λ n. read (λ s. s .life) (kept (view t) n) (namespace t n) i;
     })
   where
-    same : (b : Bool) → (if b then no-namespace else empty-namespace) ≡ no-namespace
-    same true = refl
-    same false = refl
-
     read : {B : Type 0} (g : Namespace → B) (b : Bool) (s : Namespace) → g (if b then s else empty-namespace) ≡ (if b then g s else g empty-namespace)
     read g true s = refl
     read g false s = refl

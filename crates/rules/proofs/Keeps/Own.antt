@@ -7,10 +7,10 @@ use mathlib.Core.Path.{_≡_, refl, sym, _∙_, ap, subst}
 use borrow.Author.Tests.{eq-eqb, eqb-false, ne-eqb}
 use lib.Dec.{eqb}
 use lib.IntN.{ℤ, pos}
-use Rattle.rules.proofs.Keeps.Changed.{changed-at, namespace-count, process-count, stored}
+use Rattle.rules.proofs.Keeps.Changed.{namespace-count, process-count, stored}
 use Rattle.rules.proofs.Keeps.Changes.{setns-sane, unshare-sane}
 use Rattle.rules.proofs.Keeps.Finds.{freed-leaves, named-is}
-use Rattle.rules.proofs.Keeps.Freed.{kept-children}
+use Rattle.rules.proofs.Keeps.Freed.{freed-space, kept-children}
 use Rattle.rules.proofs.Keeps.Premises as K
 use Rattle.rules.proofs.Laws.Below.{not-deepest}
 use Rattle.rules.proofs.Laws.Facts.{Facts, Lives, Sane, Taken, facts, lives-taken}
@@ -97,27 +97,19 @@ signals-only =
 -- ---- unshare and setns: w is t with the caller's children turned to n, before namespaces are freed
 
 module _ (t w : Table) (g : So (shaped w)) (f : Facts (view w)) (c n : ℕ) (here : Taken (view t) c) (self : process w c ≡ with-children (process t c) n) (rest : (i : ℕ) → (i ≡ c → ⊥) → process w i ≡ process t i) (spaces : (m : ℕ) → (m ≡ n → ⊥) → namespace w m ≡ namespace t m) where
-  space : (m : ℕ) → namespace (freed w) m ≡ (if kept (view w) m then namespace w m else empty-namespace)
-  unfolding freed
-  space = changed-at (λ m s. if kept (view w) m then s else empty-namespace) no-namespace namespace-slots (w .namespaces) (namespace-count w g) (λ m l. same (kept (view w) m))
-    where
-      same : (b : Bool) → (if b then no-namespace else empty-namespace) ≡ no-namespace
-      same true = refl
-      same false = refl
-
   -- n has a holder
   stays : namespace (freed w) n ≡ namespace w n
   unfolding taken
   stays =
       let k : So (kept (view w) (children (view w) c)) = kept-children (view w) f c (ap (λ (p : Process). not (eqb (pid-at p 0) 0)) self ∙ here) in
-      space n ∙ rw (subst (λ m. So (kept (view w) m)) (ap (λ (p : Process). p .children .0) self) k)
+      freed-space w g n ∙ rw (subst (λ m. So (kept (view w) m)) (ap (λ (p : Process). p .children .0) self) k)
 
   turned : Turned t (freed w) c n
   turned =
       record {
         caller = freed-leaves w g c ∙ self;
         others = λ i o. freed-leaves w g i ∙ rest i o;
-        namespaces = λ m o. by-kept (kept (view w) m) m o (space m);
+        namespaces = λ m o. by-kept (kept (view w) m) m o (freed-space w g m);
       }
     where
       by-kept : (b : Bool) (m : ℕ) → (m ≡ n → ⊥) → namespace (freed w) m ≡ (if b then namespace w m else empty-namespace)

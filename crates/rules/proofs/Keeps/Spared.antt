@@ -8,10 +8,10 @@ use borrow.Author.Tests.{eq-eqb, eqb-true}
 use lib.IntN.{pos}
 use lib.ListN.{length}
 use lib.Seq.{ext-getD}
-use Rattle.rules.proofs.Keeps.Changed.{changed-at, length-changed, namespace-count, process-count}
+use Rattle.rules.proofs.Keeps.Changed.{length-changed}
 use Rattle.rules.proofs.Keeps.Exact.{kill-answers}
 use Rattle.rules.proofs.Keeps.Finds.{freed-leaves}
-use Rattle.rules.proofs.Keeps.Freed.{kept-hold, kept-own, kept-root, kept-up}
+use Rattle.rules.proofs.Keeps.Freed.{freed-space, kept-hold, kept-own, kept-root, kept-up}
 use Rattle.rules.proofs.Laws.Below.{level-deepest}
 use Rattle.rules.proofs.Laws.Facts.{Facts, Holder, root, member, holder, child, Lives, Other, Stands, is-seen, lives-taken, facts, held-in}
 use Rattle.rules.proofs.Laws.Slots.{init-pid, living-own-alive}
@@ -100,11 +100,7 @@ module _ (t : Table) (h : SoundTable t) where
       same-namespaces : freed t .namespaces ≡ t .namespaces
       same-namespaces =
           ext-getD no-namespace _ _ (length-changed (λ n s. if kept v n then s else empty-namespace) no-namespace namespace-slots (t .namespaces))
-          (λ n l. changed-at (λ n s. if kept v n then s else empty-namespace) no-namespace namespace-slots (t .namespaces) (namespace-count t (h .shape)) (λ m o. same (kept v m)) n ∙ unfreed n)
-        where
-          same : (b : Bool) → (if b then no-namespace else empty-namespace) ≡ no-namespace
-          same true = refl
-          same false = refl
+          (λ n l. freed-space t (h .shape) n ∙ unfreed n)
 
 -- ---- an init and its own signal 9
 
