@@ -12,7 +12,8 @@ use Rattle.lines.specs.declared.Taken.{Taken}
 abbrev pub carried : ℕ
 carried = 65
 
--- t carries the line l. A length above 65 counts as 65, so every t of the declared type carries a line: `Carrying.carries-own`.
+-- t carries the line l. A length above 65 counts as 65, so every t of the declared type carries a line
+-- (`Carrying.carries-own`).
 pub record Carries (t : Line) (l : List ℕ) : Type 0 where
   pub size : min carried (t .len) ≡ min carried (length l)
   pub holds : take (t .len) (t .bytes) ≡ take carried l

@@ -1,9 +1,9 @@
 -- From call to call on one table: the loop of `run_calls`, and the chunk that it goes through.
 use Prim.Native.Nat.{ℕ, suc, _<_, _≤_, _+_, _*_}
-use mathlib.Core.Bool.{Bool, true, false}
+use mathlib.Core.Bool.{true, false}
 use mathlib.Core.List.{List, [], _∷_, _++_, append-nil, map}
 use mathlib.Core.Path.{_≡_, refl, sym, ap, ap₂, subst, _∙_}
-use lib.ListN.{length, take, drop, length-append}
+use lib.ListN.{length, take, length-append}
 use native.Mathlib.Omega.{arith}
 use Rattle.entry.specs.Applied.{Applied}
 use Rattle.lines.proofs.Carrying.{carries-own}
@@ -22,14 +22,14 @@ use Rattle.session.specs.declared.Fed.{Fed}
 use Rattle.session.specs.declared.Place.{Place}
 use Rattle.session.specs.declared.Session.{Session}
 use Rattle.session.specs.declared.Stand.{Stand}
-use Rattle.table.proofs.Chains.{pick-yes, pick-no}
+use Rattle.table.proofs.Chains.{pick-yes}
 use Rattle.table.specs.declared.Reply.{Reply}
 use Rattle.table.specs.declared.Table.{Table}
 
 -- ---- the loop's invariant
 
--- From the table t₀ and the place p₀ on: the lines that were left there give what was written, and then what the lines left at p give
--- on the table t.
+-- From the table t₀ and the place p₀ on: the lines that were left there give what was written, and then what the lines
+-- left at p give on the table t.
 pub record Passed (t₀ : Table) (p₀ : Place) (chunk before : List ℕ) (t : Table) (p : Place) (out : List ℕ) : Type 0 where
   pub text : List ℕ
   pub gives : run-at t₀ chunk p₀ ≡ and-then text (run-at t chunk p)

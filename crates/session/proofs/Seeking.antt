@@ -1,6 +1,6 @@
 -- To the next call of a chunk: the loop of `seek`, and the answer before it.
 use Prim.Native.Nat.{ℕ, suc, _<_, _≤_, _+_, _*_, _-_}
-use mathlib.Core.Bool.{Bool, true, false, true≢false, false≢true}
+use mathlib.Core.Bool.{true, false, true≢false, false≢true}
 use mathlib.Core.List.{List, [], _∷_, _++_, append-assoc, map}
 use mathlib.Core.Path.{_≡_, refl, sym, ap, subst, _∙_}
 use lib.ListN.{length, take, drop}
@@ -17,7 +17,7 @@ use Rattle.script.specs.Reading.{read-line}
 use Rattle.script.specs.declared.Parsed.{Parsed}
 use Rattle.script.specs.declared.Text.{Text}
 use Rattle.session.proofs.Writing.{puts-none, puts-text, puts-more, puts-length}
-use Rattle.session.specs.Places.{left-at, and-then, run-at, Leaves, Puts, Sought}
+use Rattle.session.specs.Places.{left-at, and-then, run-at, Puts, Sought}
 use Rattle.session.specs.declared.Place.{Place}
 use Rattle.table.proofs.Chains.{by-bool, pick-yes, pick-no}
 use Rattle.table.specs.declared.Call.{Call}
@@ -26,8 +26,8 @@ use Rattle.table.specs.declared.Table.{Table}
 
 -- ---- the loop's invariant
 
--- From l and the place `from` on: the line `line` is open at the place `at`, and k was taken in from there. There is room for the
--- lines that are left.
+-- From l and the place `from` on: the line `line` is open at the place `at`, and k was taken in from there. There is room
+-- for the lines that are left.
 pub record Going (l chunk : List ℕ) (from start : ℕ) (before : List ℕ) (k : Taken) (used : ℕ) (out : List ℕ) : Type 0 where
   pub text : List ℕ
   pub line : List ℕ

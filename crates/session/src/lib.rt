@@ -41,8 +41,8 @@ pub fn start() -> Session
 
 // ---- through a chunk, from call to call
 
-// Where the reading of a chunk stands: whether a call was found, and that call; the line that was read last, the place after it, and
-// how many bytes were written.
+// Where the reading of a chunk stands: whether a call was found, and that call; the line that was read last, the place after
+// it, and how many bytes were written.
 struct Place {
     found: bool,
     slot: ProcSlot,
