@@ -51,8 +51,11 @@ born-requires c κs = search needs
 
 returns-2 : tie.Need-returns-2
 returns-2 c =
-    let m = c .before .before .before .before .before .before .before in
-    search (clone-new-born, m .may-make .ensures, m .before .before .before .before .before .own-level .ensures)
+    let read = c .before .before .before .before in
+    let m = read .before .before .before in
+    let found = m .before .before .before in
+    let start = found .before .before .before in
+    clone-new-born (start .args .t) (start .args .caller .0) _ _ _ _ _ (found .before .before .own-level .ensures) (found .before .free-slot .ensures) (found .free-namespace-slot .ensures) (m .may-make .ensures) _ _ _ (read .before .enum-told .given .1) (read .process .ensures) (c .before .before .new-namespace .ensures) (c .before .birth .ensures) (c .born .ensures)
 
 pub clone-new-spec : {M : Type 1} → statement M
 clone-new-spec =

@@ -56,7 +56,9 @@ enum-told-5 : tie.Need-enum-told-5
 enum-told-5 c = search needs
 
 with-pending-requires : tie.Need-with-pending-requires
-with-pending-requires c κs = c .before .before .action-on .ensures .1 (c .enum-told5 .given .1)
+with-pending-requires c κs =
+    let low = c .before .before .action-on .ensures .1 (c .enum-told5 .given .1) in
+    search (needs, low)
 
 with-process-requires-3 : tie.Need-with-process-requires-3
 with-process-requires-3 c κs = search needs

@@ -47,7 +47,11 @@ answers-requires : tie.Need-answers-requires
 answers-requires c κs = search needs
 
 returns-2 : tie.Need-returns-2
-returns-2 c = search unshare-sets
+returns-2 c =
+    let read = c .before .before .before .before in
+    let m = read .before .before .before in
+    let start = m .before .before .before .before in
+    unshare-sets (start .args .t) (start .args .caller .0) _ _ _ _ (m .before .before .before .own-level .ensures) (m .before .before .free-namespace-slot .ensures) (m .may-make .ensures) _ _ _ (read .before .enum-told .given .1) (read .process .ensures) (c .before .before .new-namespace .ensures) (c .before .set-children .ensures) (c .answers .ensures)
 
 pub unshare-spec : {M : Type 1} → statement M
 unshare-spec =
