@@ -22,5 +22,6 @@ pub mod Plain
 -- whom a number names; a call by a running caller
 pub mod Find
 pub mod Steps
--- a call as its refusals and what it gives
+-- a call as its refusals and what it gives; what is shown of its answer
 pub mod Judged
+pub mod Shown
