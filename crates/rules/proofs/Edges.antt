@@ -158,11 +158,13 @@ edges =
           ∷ (0, Unshare, says 0)
           ∷ [],
     )
-    -- unshare: the caller stays where it is, its next child is the init of the new namespace, and the one after a member
+    -- unshare: the caller stays where it is, its next child is the init of the new namespace, and the one after a member;
+    -- handle between them leaves that as it is
     ∷ (
       fresh,
       (0, Unshare, says 0)
           ∷ (0, Getpid, says 1)
+          ∷ (0, Handle (pos 10) true, says 0)
           ∷ (0, Clone, says 2)
           ∷ (1, Getpid, says 1)
           ∷ (1, Getppid, says 0)
