@@ -10,8 +10,9 @@ use lib.Dec.{ltb}
 use lib.ListN.{length, take, drop, length-append, length-drop, take-append-drop, drop-of-length-le}
 use lib.Seq.{take-all, take-append-seam, drop-append-add, drop-drop}
 use borrow.Author.Tests.{lt-ltb, le-ltb}
+use Rattle.lines.proofs.Carrying.{carries-cut}
 use Rattle.lines.proofs.Running.{text-parts}
-use Rattle.lines.specs.Carried.{Carries}
+use Rattle.lines.specs.Carried.{Carries, cut}
 use Rattle.lines.specs.Runs.{run-line, run-all, run}
 use Rattle.lines.specs.Splitting.{ended, left, last-line, lines}
 use Rattle.lines.specs.declared.Line.{Line}
@@ -150,15 +151,18 @@ pub record Fed-whole (script before mid : List ℕ) (r : Fed) : Type 0 where
   pub table-is : r .session .table ≡ run-all fresh (ended [] script) .table
   pub carries : Carries (r .session .line) (left [] script)
 
-pub fed-whole : (script before mid : List ℕ) (n : ℕ) (s : Session) (r : Fed) → n ≡ length (lines script) → n ≤ length before / 32 → (s .table ≡ fresh) × Carries (s .line) [] → ((l : List ℕ) → Carries (s .line) l → Feeds s l script before mid r) → Fed-whole script before mid r
+pub fed-whole : (script before mid : List ℕ) (n : ℕ) (s : Session) (r : Fed) → n ≡ length (lines script) → n ≤ length before / 32 → (s .table ≡ fresh) × Carries (s .line) [] → ((l : List ℕ) → Carries (cut (s .line)) l → Feeds s l script before mid r) → Fed-whole script before mid r
 fed-whole script before mid n s r e h b f =
-    let w : Feeds s [] script before mid r = f [] (b .1) in
+    let w : Feeds s [] script before mid r = f [] (carries-cut (s .line) [] (b .1)) in
     record {
       room = has-room script (length before) n e h;
       wrote = subst (λ t. Wrote (run-all t (ended [] script) .text) before mid (r .used)) (b .0) (w .wrote);
       table-is = w .table-is ∙ ap (λ t. run-all t (ended [] script) .table) (b .0);
       carries = w .carries;
     }
+
+taken-in : (script before mid : List ℕ) (r : Fed) → Fed-whole script before mid r → Carries (cut (r .session .line)) (left [] script)
+taken-in script before mid r w = carries-cut (r .session .line) (left [] script) (w .carries)
 
 last-one : (k : Line) (l : List ℕ) → Carries k l → (k .len ≡ 0 → ⊥) → length (last-line l) ≡ 1
 unfolding last-line
@@ -196,7 +200,7 @@ all-ended script before mid r w z =
     let x = run-all fresh (ended [] script) in
     let y : List ℕ = run-all (x .table) (last-line (left [] script)) .text in
     let n : Wrote y (drop (r .used) mid) (drop (r .used) mid) 0 =
-    nothing-last (x .table) (r .session .line) (drop (r .used) mid) z (left [] script) (w .carries) in
+    nothing-last (x .table) (r .session .line) (drop (r .used) mid) z (left [] script) (taken-in script before mid r w) in
     let v = wrote-parts (x .text) y before mid mid (drop (r .used) mid) (r .used) 0 (w .wrote) n (sym (take-append-drop (r .used) mid)) in
     wrote-told script before mid (r .used) (w .room)
     (subst (λ k. Wrote (run script) before mid k) (add-zero (r .used)) (subst (λ t. Wrote t before mid (r .used + 0)) (sym (run-parts script)) v))
@@ -223,14 +227,14 @@ last-asks script before mid r w z =
 -- the last line's answers in the rest of the buffer
 abbrev pub Last-wrote : (mid part : List ℕ) → Fed → ℕ → Type 0
 Last-wrote mid part r m =
-    (l : List ℕ) → Carries (r .session .line) l →
+    (l : List ℕ) → Carries (cut (r .session .line)) l →
     Wrote (run-all (r .session .table) (last-line l) .text) (take (length mid - r .used) (drop (r .used) mid)) part m
 
 pub last-fits : (script before mid part : List ℕ) (r : Fed) (m : ℕ) → Fed-whole script before mid r → (r .session .line .len ≡ 0 → ⊥) → Last-wrote mid part r m → r .used + m ≤ length before
 last-fits script before mid part r m w z f =
     let h = room-left script before mid r w z in
     let e = fed-length script before mid r w in
-    let s = f (left [] script) (w .carries) .size in
+    let s = f (left [] script) (taken-in script before mid r w) .size in
     let a = answers-short (r .session .table) (last-line (left [] script)) in
     let o = last-one (r .session .line) (left [] script) (w .carries) z in
     omega arith
@@ -241,7 +245,7 @@ last-run script before mid part r m w f =
     let after : List ℕ = take (r .used) mid ++ (part ++ drop (length mid - r .used) (drop (r .used) mid)) in
     let n =
     subst₂ (λ t b. Wrote (run-all t (last-line (left [] script)) .text) b part m) (w .table-is) (rest-lent (r .used) mid)
-    (f (left [] script) (w .carries)) in
+    (f (left [] script) (taken-in script before mid r w)) in
     let v =
     wrote-parts (x .text) (run-all (x .table) (last-line (left [] script)) .text) before mid after part (r .used) m
     (w .wrote) n (rest-back (r .used) mid part) in

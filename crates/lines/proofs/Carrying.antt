@@ -10,7 +10,7 @@ use lib.Seq.{take-all, take-suc-set, take-append-le, length-take-le, drop-cons}
 use native.Mathlib.Numerals.{add-one}
 use native.Mathlib.Omega.{arith}
 use Rattle.lines.proofs.Cuts.{ended-here, ended-later, ended-none, left-here, left-later, left-none}
-use Rattle.lines.specs.Carried.{carried, Carries, Line-ended, Still-open, Took}
+use Rattle.lines.specs.Carried.{carried, Carries, cut, Line-ended, Still-open, Took}
 use Rattle.lines.specs.Splitting.{ended, left}
 use Rattle.lines.specs.declared.Line.{Line}
 use Rattle.script.proofs.Steps.{too-long}
@@ -19,6 +19,20 @@ use Rattle.script.specs.Reading.{read-line}
 use Rattle.script.specs.Texts.{line-feed}
 use Rattle.script.specs.declared.Parsed.{Parsed}
 use Rattle.table.proofs.Chains.{by-bool}
+
+-- ---- a line as it is taken in
+
+pub cut-short : (t : Line) → t .len ≤ carried → t ≡ cut t
+cut-short t h = let e : t .len ≡ min carried (t .len) = omega arith in ap (λ n. record { bytes = t .bytes; len = n }) e
+
+pub cut-long : (t : Line) → carried < t .len → record { bytes = t .bytes; len = carried } ≡ cut t
+cut-long t h = let e : carried ≡ min carried (t .len) = omega arith in ap (λ n. record { bytes = t .bytes; len = n }) e
+
+pub ruleset cut-laws = (cut-short, cut-long)
+
+-- A line that carries something is taken in as it is.
+pub carries-cut : (t : Line) (l : List ℕ) → Carries t l → Carries (cut t) l
+carries-cut t l k = let s = k .size in subst (λ u. Carries u l) (cut-short t (omega arith)) k
 
 -- ---- one byte
 
@@ -96,10 +110,11 @@ at-end l chunk from t i g s h f =
       within = omega arith;
     }
 
-pub taking-ends : (chunk : List ℕ) (first t : Line) (from i : ℕ) → Taking chunk first t from i → i < length chunk → getD chunk i 0 ≡ line-feed → (l : List ℕ) → Carries first l → Took l chunk from (record { line = t; ended = true; at = i + 1 })
-taking-ends chunk first t from i k h f l c =
+pub taking-ends : (chunk : List ℕ) (whole first t : Line) (from i : ℕ) → first ≡ cut whole → Taking chunk first t from i → i < length chunk → getD chunk i 0 ≡ line-feed → (l : List ℕ) → Carries (cut whole) l → Took l chunk from (record { line = t; ended = true; at = i + 1 })
+taking-ends chunk whole first t from i q k h f l c =
+    let w = subst (λ u. Carries u l) (sym q) c in
     record {
-      on-end = λ e. at-end l chunk from t i (k .so-far l c) (k .start) h f;
+      on-end = λ e. at-end l chunk from t i (k .so-far l w) (k .start) h f;
       on-more = λ e. absurd (true≢false e);
     }
 
@@ -113,13 +128,14 @@ at-close l chunk from t i g e =
       at-is = e;
     }
 
-pub taking-over : (chunk : List ℕ) (first t : Line) (from i : ℕ) → Taking chunk first t from i → length chunk ≤ i → (l : List ℕ) → Carries first l → Took l chunk from (record { line = t; ended = false; at = i })
-taking-over chunk first t from i k h l c =
+pub taking-over : (chunk : List ℕ) (whole first t : Line) (from i : ℕ) → first ≡ cut whole → Taking chunk first t from i → length chunk ≤ i → (l : List ℕ) → Carries (cut whole) l → Took l chunk from (record { line = t; ended = false; at = i })
+taking-over chunk whole first t from i q k h l c =
     let s = k .start in
-    let w = k .within in
+    let n = k .within in
+    let w = subst (λ u. Carries u l) (sym q) c in
     record {
       on-end = λ e. absurd (false≢true e);
-      on-more = λ e. at-close l chunk from t i (k .so-far l c) (omega arith);
+      on-more = λ e. at-close l chunk from t i (k .so-far l w) (omega arith);
     }
 
 pub ruleset take-loop = (taking-starts, taking-next, taking-ends, taking-over)
@@ -146,10 +162,10 @@ short-own g t e =
     let n = length-take (t .len) (t .bytes) in
     omega arith
 
-pub carries-own : {Y : Type 0} (g : ℕ → Y) (t : Line) → length (map g (t .bytes)) ≡ carried → Carries t (take (t .len) (t .bytes))
+pub carries-own : {Y : Type 0} (g : ℕ → Y) (t : Line) → length (map g (t .bytes)) ≡ carried → Carries (cut t) (take (cut t .len) (t .bytes))
 carries-own g t e =
-    let n = short-own g t e in
-    record { size = omega arith; holds = sym (take-all carried (take (t .len) (t .bytes)) (omega arith)) }
+    let n = short-own g (cut t) e in
+    record { size = omega arith; holds = sym (take-all carried (take (cut t .len) (t .bytes)) (omega arith)) }
 
 -- ---- reading
 

@@ -12,11 +12,14 @@ use Rattle.lines.specs.declared.Taken.{Taken}
 abbrev pub carried : ℕ
 carried = 65
 
--- t carries the line l. A length above 65 counts as 65, so every t of the declared type carries a line
--- (`Carrying.carries-own`).
+-- t carries the line l
 pub record Carries (t : Line) (l : List ℕ) : Type 0 where
-  pub size : min carried (t .len) ≡ min carried (length l)
+  pub size : t .len ≡ min carried (length l)
   pub holds : take (t .len) (t .bytes) ≡ take carried l
+
+-- A line as it is taken in: a length above 65 counts as 65. So cut, every line carries something (`Carrying.carries-own`).
+abbrev pub cut : Line → Line
+cut t = record { bytes = t .bytes; len = min carried (t .len) }
 
 -- Of the bytes of a chunk after place `from`, with l before them, the first line has ended: it is `line`, and the rest of the lines are
 -- those after place `at`.

@@ -5,7 +5,7 @@ ghost use mathlib.Core.Path.{_≡_};
 ghost use mathlib.Core.List.{List, [], _∷_, _++_};
 ghost use Prim.Native.Nat.{ℕ};
 ghost use lib.ListN.{take};
-ghost use Rattle.lines.specs.Carried.{Carries, Took};
+ghost use Rattle.lines.specs.Carried.{Carries, cut as cut-line, Took};
 ghost use Rattle.script.specs.Reading.{read-line};
 
 // The first bytes of a line: enough to see that it is too long.
@@ -21,6 +21,18 @@ pub fn empty() -> Line
         bytes: [0; 65],
         len: 0,
     }
+}
+
+// A length above 65 counts as 65.
+fn cut(line: Line) -> Line
+    ensures { λ r. ⌜ r ≡ cut-line line ⌝ }
+{
+    if line.len <= 65 {
+        return line;
+    }
+    let mut t = line;
+    t.len = 65;
+    t
 }
 
 // The line with one byte more. What there is no room for is dropped.
@@ -46,9 +58,9 @@ pub struct Taken {
 
 // Takes bytes of a chunk in, from a place on, up to the end of the line that is open.
 pub fn take_line(line: Line, chunk: &[u8], from: usize) -> Taken
-    ensures { λ r. ⌜ ((l : List ℕ) → Carries line l → Took l (now (chunk .entry)) from r) ⌝ }
+    ensures { λ r. ⌜ ((l : List ℕ) → Carries (cut-line line) l → Took l (now (chunk .entry)) from r) ⌝ }
 {
-    let mut t = line;
+    let mut t = cut(line);
     let mut i = from;
     while i < chunk.len() {
         let b = chunk[i];

@@ -8,7 +8,7 @@ use native.Mathlib.Omega.{arith}
 use Rattle.entry.specs.Applied.{Applied}
 use Rattle.lines.proofs.Carrying.{carries-own}
 use Rattle.lines.proofs.Cuts.{ended-count}
-use Rattle.lines.specs.Carried.{carried, Carries}
+use Rattle.lines.specs.Carried.{carried, Carries, cut}
 use Rattle.lines.specs.Runs.{run-line, run-all}
 use Rattle.lines.specs.Splitting.{ended, left, last-line}
 use Rattle.script.specs.Outputs.{answer-line}
@@ -113,16 +113,16 @@ passed-all t₀ p₀ chunk before t p out w f =
 
 -- ---- a whole chunk
 
-pub chunk-room : {Y : Type 0} (y : ℕ → Y) (s : Session) (chunk before mid : List ℕ) (p : Place) → length (map y (s .line .bytes)) ≡ carried → 32 * length (ended [] chunk) ≤ length before → ((l : List ℕ) → Carries (s .line) l → Sought [] l chunk 0 0 before mid p) → p .used + 32 * left-at chunk p ≤ length mid
+pub chunk-room : {Y : Type 0} (y : ℕ → Y) (s : Session) (chunk before mid : List ℕ) (p : Place) → length (map y (s .line .bytes)) ≡ carried → 32 * length (ended [] chunk) ≤ length before → ((l : List ℕ) → Carries (cut (s .line)) l → Sought [] l chunk 0 0 before mid p) → p .used + 32 * left-at chunk p ≤ length mid
 chunk-room y s chunk before mid p e h q =
-    let own : List ℕ = take (s .line .len) (s .line .bytes) in
+    let own : List ℕ = take (cut (s .line) .len) (s .line .bytes) in
     let w = q own (carries-own y (s .line) e) in
     let n = ended-count own [] chunk in
     let m = w .room in
     let k = puts-length (w .text) 0 (p .used) before mid (w .wrote) (omega arith) in
     omega arith
 
-pub chunk-fed : (s : Session) (chunk before mid after : List ℕ) (p : Place) (r : Stand) → ((l : List ℕ) → Carries (s .line) l → Sought [] l chunk 0 0 before mid p) → Called (s .table) p chunk mid after r → (l : List ℕ) → Carries (s .line) l → Feeds s l chunk before after (record { session = record { table = r .table; line = r .place .line }; used = r .place .used })
+pub chunk-fed : (s : Session) (chunk before mid after : List ℕ) (p : Place) (r : Stand) → ((l : List ℕ) → Carries (cut (s .line)) l → Sought [] l chunk 0 0 before mid p) → Called (s .table) p chunk mid after r → (l : List ℕ) → Carries (cut (s .line)) l → Feeds s l chunk before after (record { session = record { table = r .table; line = r .place .line }; used = r .place .used })
 chunk-fed s chunk before mid after p r q c l k =
     let w = q l k in
     let g = w .gives (s .table) in
@@ -147,7 +147,7 @@ one-line l = refl
 pub last-room : (out : List ℕ) → 32 ≤ length out → 32 * length (ended [] (line-feed ∷ [])) ≤ length out
 last-room out h = let n = ap length (one-line []) in omega arith
 
-pub last-fed : (s : Session) (before after : List ℕ) (r : Fed) → (s .line .len ≡ 0 → ⊥) → ((l : List ℕ) → Carries (s .line) l → Feeds s l (line-feed ∷ []) before after r) → (l : List ℕ) → Carries (s .line) l → Wrote (run-all (s .table) (last-line l) .text) before after (r .used)
+pub last-fed : (s : Session) (before after : List ℕ) (r : Fed) → (s .line .len ≡ 0 → ⊥) → ((l : List ℕ) → Carries (cut (s .line)) l → Feeds s l (line-feed ∷ []) before after r) → (l : List ℕ) → Carries (cut (s .line)) l → Wrote (run-all (s .table) (last-line l) .text) before after (r .used)
 unfolding last-line
 last-fed s before after r n f [] k = let e = k .size in absurd (n (omega arith))
 last-fed s before after r n f (b ∷ bs) k =

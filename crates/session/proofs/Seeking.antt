@@ -5,9 +5,9 @@ use mathlib.Core.List.{List, [], _∷_, _++_, append-assoc, map}
 use mathlib.Core.Path.{_≡_, refl, sym, ap, subst, _∙_}
 use lib.ListN.{length, take, drop}
 use native.Mathlib.Omega.{arith}
-use Rattle.lines.proofs.Carrying.{carries-own, carried-read}
+use Rattle.lines.proofs.Carrying.{carries-cut, carries-own, carried-read}
 use Rattle.lines.proofs.Cuts.{ended-count}
-use Rattle.lines.specs.Carried.{carried, Carries, Line-ended, Still-open, Took}
+use Rattle.lines.specs.Carried.{carried, Carries, cut, Line-ended, Still-open, Took}
 use Rattle.lines.specs.Runs.{Ran, run-line, run-all}
 use Rattle.lines.specs.Splitting.{ended, left}
 use Rattle.lines.specs.declared.Line.{Line}
@@ -104,9 +104,9 @@ going-next l chunk from start before k used out p u next k′ after g h r b w c 
 
 -- ---- the loop
 
-pub seeking-starts : {Y : Type 0} (y : ℕ → Y) (line : Line) (k : Taken) (chunk : List ℕ) (from start : ℕ) (out : List ℕ) → length (map y (line .bytes)) ≡ carried → start + 32 * length (ended [] (drop from chunk)) ≤ length out → ((l : List ℕ) → Carries line l → Took l chunk from k) → Seeking k chunk from start out k start out
+pub seeking-starts : {Y : Type 0} (y : ℕ → Y) (line : Line) (k : Taken) (chunk : List ℕ) (from start : ℕ) (out : List ℕ) → length (map y (line .bytes)) ≡ carried → start + 32 * length (ended [] (drop from chunk)) ≤ length out → ((l : List ℕ) → Carries (cut line) l → Took l chunk from k) → Seeking k chunk from start out k start out
 seeking-starts y line k chunk from start out e h q =
-    let own : List ℕ = take (line .len) (line .bytes) in
+    let own : List ℕ = take (cut line .len) (line .bytes) in
     record {
       first = own;
       took = q own (carries-own y line e);
@@ -146,22 +146,22 @@ seeking-room k₀ chunk from start before k used out u w h v =
     let y = seeking-length k₀ chunk from start before k used out w in
     (x, omega arith)
 
-pub seeking-next : (k₀ : Taken) (chunk : List ℕ) (from start : ℕ) (before : List ℕ) (k : Taken) (used : ℕ) (out : List ℕ) (p : Parsed) (u : Text) (next : ℕ) (e : Line) (k′ : Taken) (after : List ℕ) → Seeking k₀ chunk from start before k used out → k .ended ≡ true → Read (k .line) p → p ≡ Parsed.Bad → Written u bad-line → Copied u used out after next → Carries e [] → ((l : List ℕ) → Carries e l → Took l chunk (k .at) k′) → Seeking k₀ chunk from start before k′ next after
+pub seeking-next : (k₀ : Taken) (chunk : List ℕ) (from start : ℕ) (before : List ℕ) (k : Taken) (used : ℕ) (out : List ℕ) (p : Parsed) (u : Text) (next : ℕ) (e : Line) (k′ : Taken) (after : List ℕ) → Seeking k₀ chunk from start before k used out → k .ended ≡ true → Read (k .line) p → p ≡ Parsed.Bad → Written u bad-line → Copied u used out after next → Carries e [] → ((l : List ℕ) → Carries (cut e) l → Took l chunk (k .at) k′) → Seeking k₀ chunk from start before k′ next after
 seeking-next k₀ chunk from start before k used out p u next e k′ after w h r b v c z q =
     record {
       first = w .first;
       took = w .took;
-      going = λ l x. going-next l chunk from start before k used out p u next k′ after (w .going l x) h r b v c (q [] z);
+      going = λ l x. going-next l chunk from start before k used out p u next k′ after (w .going l x) h r b v c (q [] (carries-cut e [] z));
     }
 
-pub seeking-less : (k₀ : Taken) (chunk : List ℕ) (from start : ℕ) (before : List ℕ) (k : Taken) (used : ℕ) (out : List ℕ) (e : Line) (k′ : Taken) → Seeking k₀ chunk from start before k used out → k .ended ≡ true → Carries e [] → ((l : List ℕ) → Carries e l → Took l chunk (k .at) k′) → lines-left chunk k′ < lines-left chunk k
+pub seeking-less : (k₀ : Taken) (chunk : List ℕ) (from start : ℕ) (before : List ℕ) (k : Taken) (used : ℕ) (out : List ℕ) (e : Line) (k′ : Taken) → Seeking k₀ chunk from start before k used out → k .ended ≡ true → Carries e [] → ((l : List ℕ) → Carries (cut e) l → Took l chunk (k .at) k′) → lines-left chunk k′ < lines-left chunk k
 unfolding lines-left
 seeking-less k₀ chunk from start before k used out e k′ w h z q =
     let now = pick-yes (k .ended) (suc (length chunk - k .at)) 0 h in
     by-bool (k′ .ended)
     (λ y.
     let then = pick-yes (k′ .ended) (suc (length chunk - k′ .at)) 0 y in
-    let n = q [] z .on-end y in
+    let n = q [] (carries-cut e [] z) .on-end y in
     let a = n .further in
     let b = n .within in
     omega arith)
@@ -171,7 +171,7 @@ seeking-less k₀ chunk from start before k used out e k′ w h z q =
 
 -- ---- where it stops
 
-pub seeking-found : (line : Line) (k₀ : Taken) (chunk : List ℕ) (from start : ℕ) (before : List ℕ) (k : Taken) (used : ℕ) (out : List ℕ) (p : Parsed) (slot : ProcSlot) (c : Call) → Seeking k₀ chunk from start before k used out → k .ended ≡ true → Read (k .line) p → p ≡ Parsed.Good slot c → ((l : List ℕ) → Carries line l → Took l chunk from k₀) → (l : List ℕ) → Carries line l → Sought [] l chunk from start before out (record { found = true; slot = slot; call = c; line = k .line; at = k .at; used = used })
+pub seeking-found : (line : Line) (k₀ : Taken) (chunk : List ℕ) (from start : ℕ) (before : List ℕ) (k : Taken) (used : ℕ) (out : List ℕ) (p : Parsed) (slot : ProcSlot) (c : Call) → Seeking k₀ chunk from start before k used out → k .ended ≡ true → Read (k .line) p → p ≡ Parsed.Good slot c → ((l : List ℕ) → Carries (cut line) l → Took l chunk from k₀) → (l : List ℕ) → Carries (cut line) l → Sought [] l chunk from start before out (record { found = true; slot = slot; call = c; line = k .line; at = k .at; used = used })
 unfolding left-at
 seeking-found line k₀ chunk from start before k used out p slot c w h r b q l z =
     let g = w .going l (q l z) in
@@ -197,7 +197,7 @@ end-next t chunk p f =
     let r = run-line t (Parsed.Good (p .slot) (p .call)) in
     sym (pick-no (p .found) (and-then (r .text) (run-all (r .table) (ended [] (drop (p .at) chunk)))) (run-all t []) f)
 
-pub seeking-done : (line : Line) (k₀ : Taken) (chunk : List ℕ) (from start : ℕ) (before : List ℕ) (k : Taken) (used : ℕ) (out : List ℕ) (slot : ProcSlot) (c : Call) → Seeking k₀ chunk from start before k used out → k .ended ≡ false → ((l : List ℕ) → Carries line l → Took l chunk from k₀) → (l : List ℕ) → Carries line l → Sought [] l chunk from start before out (record { found = false; slot = slot; call = c; line = k .line; at = k .at; used = used })
+pub seeking-done : (line : Line) (k₀ : Taken) (chunk : List ℕ) (from start : ℕ) (before : List ℕ) (k : Taken) (used : ℕ) (out : List ℕ) (slot : ProcSlot) (c : Call) → Seeking k₀ chunk from start before k used out → k .ended ≡ false → ((l : List ℕ) → Carries (cut line) l → Took l chunk from k₀) → (l : List ℕ) → Carries (cut line) l → Sought [] l chunk from start before out (record { found = false; slot = slot; call = c; line = k .line; at = k .at; used = used })
 unfolding left-at
 seeking-done line k₀ chunk from start before k used out slot c w h q l z =
     let g = w .going l (q l z) in
@@ -221,9 +221,9 @@ pub ruleset seek-loop = (seeking-starts, seeking-length, seeking-next, seeking-l
 
 -- ---- after an answer
 
-pub answer-sought : (u : Text) (a : List ℕ) (chunk before mid after : List ℕ) (from at next : ℕ) (e : Line) (r : Place) → at + 32 * suc (length (ended [] (drop from chunk))) ≤ length before → Written u a → Copied u at before mid next → Carries e [] → ((l : List ℕ) → Carries e l → Sought [] l chunk from next mid after r) → Sought a [] chunk from at before after r
+pub answer-sought : (u : Text) (a : List ℕ) (chunk before mid after : List ℕ) (from at next : ℕ) (e : Line) (r : Place) → at + 32 * suc (length (ended [] (drop from chunk))) ≤ length before → Written u a → Copied u at before mid next → Carries e [] → ((l : List ℕ) → Carries (cut e) l → Sought [] l chunk from next mid after r) → Sought a [] chunk from at before after r
 answer-sought u a chunk before mid after from at next e r h w c z q =
-    let s = q [] z in
+    let s = q [] (carries-cut e [] z) in
     let x = w .room in
     let n = w .size in
     let y = c .place in

@@ -9,7 +9,7 @@ use denote.Laws.{Is}
 use denote.Struct.Laws as LL
 use Rattle.lines.proofs.Carrying.{carries-own}
 use Rattle.lines.proofs.Cuts.{ended-few}
-use Rattle.lines.specs.Carried.{Carries}
+use Rattle.lines.specs.Carried.{Carries, cut}
 use Rattle.lines.specs.Runs.{run-all}
 use Rattle.lines.specs.Splitting.{ended, last-line}
 use Rattle.lines.proofs.Line as L
@@ -28,11 +28,11 @@ enough-room chunk out h = let f = ended-few [] chunk in omega arith
 abbrev pub Good : Session → Type 0
 Good s = Is S.the-row s (LL.val S.the-type S′.the-laws s ∷ [])
 
--- So its line carries something.
+-- So its line, as it is taken in, carries something.
 abbrev own : Session → List ℕ
-own s = take (s .line .len) (s .line .bytes)
+own s = take (cut (s .line) .len) (s .line .bytes)
 
-own-carried : (s : Session) → Good s → Carries (s .line) (own s)
+own-carried : (s : Session) → Good s → Carries (cut (s .line)) (own s)
 own-carried s g =
     let is = LL.owed S.the-type S′.the-laws s _ g .1 .0 in
     carries-own _ (s .line) (LL.owed L.the-type L′.the-laws (s .line) _ is .0 .1 .0 .1)
@@ -46,18 +46,18 @@ wrote-within text before after used w =
 
 -- ---- after a chunk
 
-pub fed-within : (s : Session) (chunk before after : List ℕ) (r : Fed) → Good s → ((l : List ℕ) → Carries (s .line) l → Feeds s l chunk before after r) → r .used ≤ length after
+pub fed-within : (s : Session) (chunk before after : List ℕ) (r : Fed) → Good s → ((l : List ℕ) → Carries (cut (s .line)) l → Feeds s l chunk before after r) → r .used ≤ length after
 fed-within s chunk before after r g f =
     wrote-within (run-all (s .table) (ended (own s) chunk) .text) before after (r .used) (f (own s) (own-carried s g) .wrote)
 
-pub fed-part : (s : Session) (chunk before after : List ℕ) (r : Fed) → Good s → ((l : List ℕ) → Carries (s .line) l → Feeds s l chunk before after r) → r .used ≡ length (take (r .used) after)
+pub fed-part : (s : Session) (chunk before after : List ℕ) (r : Fed) → Good s → ((l : List ℕ) → Carries (cut (s .line)) l → Feeds s l chunk before after r) → r .used ≡ length (take (r .used) after)
 fed-part s chunk before after r g f = sym (length-take-le (r .used) after (fed-within s chunk before after r g f))
 
 -- ---- at the end
 
-pub last-within : (s : Session) (before after : List ℕ) (used : ℕ) → Good s → ((l : List ℕ) → Carries (s .line) l → Wrote (run-all (s .table) (last-line l) .text) before after used) → used ≤ length after
+pub last-within : (s : Session) (before after : List ℕ) (used : ℕ) → Good s → ((l : List ℕ) → Carries (cut (s .line)) l → Wrote (run-all (s .table) (last-line l) .text) before after used) → used ≤ length after
 last-within s before after used g f =
     wrote-within (run-all (s .table) (last-line (own s)) .text) before after used (f (own s) (own-carried s g))
 
-pub last-part : (s : Session) (before after : List ℕ) (used : ℕ) → Good s → ((l : List ℕ) → Carries (s .line) l → Wrote (run-all (s .table) (last-line l) .text) before after used) → used ≡ length (take used after)
+pub last-part : (s : Session) (before after : List ℕ) (used : ℕ) → Good s → ((l : List ℕ) → Carries (cut (s .line)) l → Wrote (run-all (s .table) (last-line l) .text) before after used) → used ≡ length (take used after)
 last-part s before after used g f = sym (length-take-le used after (last-within s before after used g f))

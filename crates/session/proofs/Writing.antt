@@ -5,7 +5,7 @@ use mathlib.Core.Path.{_≡_, refl, sym, ap, ap₂, _∙_}
 use lib.ListN.{length, take, drop, length-append, length-take, length-drop, take-append-drop}
 use lib.Seq.{take-append-seam, drop-append-add, drop-drop}
 use native.Mathlib.Omega.{arith}
-use Rattle.lines.specs.Carried.{Carries}
+use Rattle.lines.specs.Carried.{Carries, cut}
 use Rattle.lines.specs.Runs.{run-all}
 use Rattle.lines.specs.Splitting.{last-line}
 use Rattle.lines.specs.declared.Line.{Line}
@@ -81,7 +81,7 @@ wrote-length text before after used w h =
     puts-length text 0 used before after (let n = w .size in record { place = omega arith; holds = w .holds }) h
 
 -- Where there is no byte on the last line nothing is written.
-pub nothing-last : (t : Table) (k : Line) (out : List ℕ) → k .len ≡ 0 → (l : List ℕ) → Carries k l → Wrote (run-all t (last-line l) .text) out out 0
+pub nothing-last : (t : Table) (k : Line) (out : List ℕ) → k .len ≡ 0 → (l : List ℕ) → Carries (cut k) l → Wrote (run-all t (last-line l) .text) out out 0
 unfolding last-line run-all
 nothing-last t k out z [] c = wrote-none out
 nothing-last t k out z (b ∷ bs) c = let s = c .size in absurd (omega arith)

@@ -17,7 +17,7 @@ ghost use mathlib.Core.Path.{_≡_};
 ghost use mathlib.Core.List.{List, []};
 ghost use Prim.Native.Nat.{ℕ, suc, _≤_, _+_, _*_};
 ghost use lib.ListN.{length, drop};
-ghost use Rattle.lines.specs.Carried.{Carries};
+ghost use Rattle.lines.specs.Carried.{Carries, cut};
 ghost use Rattle.lines.specs.Runs.{run-all};
 ghost use Rattle.lines.specs.Splitting.{ended, last-line};
 ghost use Rattle.script.specs.Outputs.{answer-line};
@@ -55,7 +55,7 @@ struct Place {
 // Reads lines up to the first that is a call, and answers those that are none.
 fn seek(line: Line, from: usize, start: usize, chunk: &[u8], out: &mut [u8]) -> Place
     requires { ⌜ start + 32 * length (ended [] (drop from (now chunk))) ≤ length (now out) ⌝ }
-    ensures { λ r. ⌜ ((l : List ℕ) → Carries line l → Sought [] l (now (chunk .entry)) from start (now (out .entry)) (now (out .exit)) r) ⌝ }
+    ensures { λ r. ⌜ ((l : List ℕ) → Carries (cut line) l → Sought [] l (now (chunk .entry)) from start (now (out .entry)) (now (out .exit)) r) ⌝ }
 {
     let mut used = start;
     let mut taken = take_line(line, chunk, from);
@@ -127,7 +127,7 @@ pub struct Fed {
 // Runs the lines that end in a chunk, and writes what they give from the start of `out`. An answer has at most 32 bytes.
 pub fn feed(s: Session, chunk: &[u8], out: &mut [u8]) -> Fed
     requires { ⌜ 32 * length (ended [] (now chunk)) ≤ length (now out) ⌝ }
-    ensures { λ r. ⌜ ((l : List ℕ) → Carries (s .line) l → Feeds s l (now (chunk .entry)) (now (out .entry)) (now (out .exit)) r) ⌝ }
+    ensures { λ r. ⌜ ((l : List ℕ) → Carries (cut (s .line)) l → Feeds s l (now (chunk .entry)) (now (out .entry)) (now (out .exit)) r) ⌝ }
 {
     let line = s.line;
     let t = s.table;
@@ -148,7 +148,7 @@ pub fn feed(s: Session, chunk: &[u8], out: &mut [u8]) -> Fed
 // Runs the last line, if its line feed is missing and there is a byte on it. Gives how many bytes were written.
 pub fn finish(s: Session, out: &mut [u8]) -> usize
     requires { ⌜ 32 ≤ length (now out) ⌝ }
-    ensures { λ r. ⌜ ((l : List ℕ) → Carries (s .line) l → Wrote (run-all (s .table) (last-line l) .text) (now (out .entry)) (now (out .exit)) r) ⌝ }
+    ensures { λ r. ⌜ ((l : List ℕ) → Carries (cut (s .line)) l → Wrote (run-all (s .table) (last-line l) .text) (now (out .entry)) (now (out .exit)) r) ⌝ }
 {
     let line = s.line;
     if line.len == 0 {

@@ -13,6 +13,9 @@ Inv-loop chunk from t₀ i₀ t i = Taking chunk t₀ t from i
 abbrev μ-loop : tie.MeasureT-loop
 μ-loop chunk from t₀ i₀ t i = length chunk - i
 
+cut-requires : tie.Need-cut-requires Inv-loop μ-loop
+cut-requires c κs = search needs
+
 loop-holds : tie.Need-loop-holds Inv-loop μ-loop
 loop-holds c = search take-loop
 
@@ -46,6 +49,7 @@ take-line-spec =
     (tie.spec
     Inv-loop
     μ-loop
+    cut-requires
     loop-holds
     shared-slice-read-b
     add-t11
