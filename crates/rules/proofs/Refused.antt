@@ -70,8 +70,13 @@ entries =
     ∷ (have-parents, with-child (running 0 5 (2 ∷ [])) ∷ with-child (running 0 no-slot (2 ∷ [])) ∷ [])
     -- the root namespace has a parent
     ∷ (root-namespace, table-of [] (ns 0 0 1 (alive-with 0) ∷ []) ∷ [])
-    -- a namespace's init belongs to another
-    ∷ (inits, table-of (running 1 0 (2 ∷ 2 ∷ []) ∷ []) (root ∷ ns 0 1 2 (alive-with 0) ∷ []) ∷ [])
+    -- a namespace's init belongs to another; has ended
+    ∷ (
+      inits,
+      table-of (running 1 0 (2 ∷ 2 ∷ []) ∷ []) (root ∷ ns 0 1 2 (alive-with 0) ∷ [])
+          ∷ table-of (exited 1 0 (2 ∷ 1 ∷ []) ∷ []) (root ∷ ns 0 1 1 (alive-with 1) ∷ [])
+          ∷ [],
+    )
     -- an empty process slot with a parent, an empty namespace slot with a last number
     ∷ (empty-slots, with-child (with-parent empty-process 7) ∷ table-of [] (root ∷ ns 0 0 5 Unborn ∷ []) ∷ [])
     -- level 2 right below the root; level 33, in a chain of dead namespaces
@@ -94,8 +99,14 @@ entries =
     )
     -- a last number of 32,768
     ∷ (last-pids, table-of [] (root-at 32768 ∷ []) ∷ [])
-    -- a number of 32,768; a number beyond the own level
-    ∷ (pid-range, with-child (running 0 0 (32768 ∷ [])) ∷ with-child (running 0 0 (2 ∷ 5 ∷ [])) ∷ [])
+    -- a number of 32,768; a number beyond the own level; none at the own level
+    ∷ (
+      pid-range,
+      with-child (running 0 0 (32768 ∷ []))
+          ∷ with-child (running 0 0 (2 ∷ 5 ∷ []))
+          ∷ table-of (inner ∷ running 1 1 (3 ∷ []) ∷ []) (root ∷ ns 0 1 1 (alive-with 1) ∷ [])
+          ∷ [],
+    )
     -- two processes with number 2 in the root; in an inner namespace
     ∷ (
       pids-differ,

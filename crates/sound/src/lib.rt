@@ -54,13 +54,13 @@ fn traits_blank(x: Traits) -> bool
 }
 
 // Whether they are what an end leaves.
-fn traits_bare(x: Traits) -> bool
-    ensures { λ r. ⌜ r ≡ bare-traits x ⌝ }
+fn traits_bare(left: Traits) -> bool
+    ensures { λ r. ⌜ r ≡ bare-traits left ⌝ }
 {
-    if x.handled != 0 {
+    if left.handled != 0 {
         return false;
     }
-    x.pending == 0
+    left.pending == 0
 }
 
 // Signals that can be handled, as bits: all but 0, 9 and 19.
@@ -104,10 +104,12 @@ fn living_ok(up: [NsSlot; NAMESPACE_SLOTS], p: Process, home: Namespace, inner: 
 {
     let own = p.own;
     let children = p.children;
-    if home.is_dead() {
+    let gone = home.is_dead();
+    let missing = !holds_namespace(children, inner);
+    if gone {
         return false;
     }
-    if !holds_namespace(children, inner) {
+    if missing {
         return false;
     }
     if !below(up, children, own, inner.level) {
@@ -186,10 +188,12 @@ fn member_ok(up: [NsSlot; NAMESPACE_SLOTS], p: Process, home: Namespace, inner: 
 {
     let own = p.own;
     let state = p.state;
-    if !holds_namespace(own, home) {
+    let missing = !holds_namespace(own, home);
+    let unborn = home.is_unborn();
+    if missing {
         return false;
     }
-    if home.is_unborn() {
+    if unborn {
         return false;
     }
     if !end_ok(state) {
@@ -301,10 +305,12 @@ fn process_ok(
 fn init_ok(n: NsSlot, s: Namespace, init: Process) -> bool
     ensures { λ r. ⌜ r ≡ init-ok (n .0) (namespace-row (n .0) s) (process-row init) ⌝ }
 {
-    if !init.is_taken() {
+    let missing = !init.is_taken();
+    let ended = init.has_ended();
+    if missing {
         return false;
     }
-    if init.has_ended() {
+    if ended {
         return false;
     }
     if init.own.0 != n.0 {
@@ -652,13 +658,13 @@ const PID_VALUES: u32 = 65536;
 fn pid_key(tops: [NsSlot; NAMESPACE_SLOTS], level: u8, p: Process) -> u32
     ensures { λ r. ⌜ r ≡ pid-key (slot-in tops) level (process-row p) ⌝ }
 {
-    let pid = p.pid_at(level);
-    if pid.0 == 0 {
+    let number = p.pid_at(level);
+    if number.0 == 0 {
         return 0;
     }
     let own = p.own;
     let top = parent_of(tops, own);
-    top.0 as u32 * PID_VALUES + pid.0 as u32
+    top.0 as u32 * PID_VALUES + number.0 as u32
 }
 
 // The keys of all processes at a level.

@@ -274,7 +274,7 @@ impl Process {
         let state = self.state;
         match state {
             State::Running => false,
-            State::Stopped => false,
+            State::Stopped => false, // it can be resumed
             State::Ended(_) => true,
         }
     }
@@ -285,7 +285,7 @@ impl Process {
         let state = self.state;
         match state {
             State::Running => true,
-            State::Stopped => false,
+            State::Stopped => false, // it waits for signal 18
             State::Ended(_) => false,
         }
     }
@@ -309,8 +309,8 @@ impl Namespace {
         let life = self.life;
         match life {
             Life::Unborn => true,
-            Life::Alive(_) => false,
-            Life::Dead => false,
+            Life::Alive(_) => false, // it has an init
+            Life::Dead => false, // it has had one
         }
     }
 
@@ -319,9 +319,9 @@ impl Namespace {
     {
         let life = self.life;
         match life {
-            Life::Unborn => false,
+            Life::Unborn => false, // it has no init yet
             Life::Alive(_) => true,
-            Life::Dead => false,
+            Life::Dead => false, // its init has ended
         }
     }
 
@@ -330,8 +330,8 @@ impl Namespace {
     {
         let life = self.life;
         match life {
-            Life::Unborn => false,
-            Life::Alive(_) => false,
+            Life::Unborn => false, // a birth may still come
+            Life::Alive(_) => false, // its init is living
             Life::Dead => true,
         }
     }

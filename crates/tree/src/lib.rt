@@ -20,12 +20,12 @@ pub fn ups(namespaces: [Namespace; NAMESPACE_SLOTS]) -> [NsSlot; NAMESPACE_SLOTS
     ensures { λ r. ⌜ slot-in r ≡ ups-of namespaces ⌝ }
 {
     let mut up = [NsSlot(0); NAMESPACE_SLOTS];
-    let mut i: usize = 0;
-    while i < NAMESPACE_SLOTS {
-        let n = namespaces[i];
+    let mut child: usize = 0;
+    while child < NAMESPACE_SLOTS {
+        let n = namespaces[child];
         let parent = n.parent;
-        up[i] = parent;
-        i += 1;
+        up[child] = parent;
+        child += 1;
     }
     up
 }
@@ -34,11 +34,11 @@ pub fn levels(namespaces: [Namespace; NAMESPACE_SLOTS]) -> [u8; NAMESPACE_SLOTS]
     ensures { λ r. ⌜ level-in r ≡ levels-of namespaces ⌝ }
 {
     let mut levels = [0u8; NAMESPACE_SLOTS];
-    let mut i: usize = 0;
-    while i < NAMESPACE_SLOTS {
-        let n = namespaces[i];
-        levels[i] = n.level;
-        i += 1;
+    let mut n: usize = 0;
+    while n < NAMESPACE_SLOTS {
+        let s = namespaces[n];
+        levels[n] = s.level;
+        n += 1;
     }
     levels
 }
@@ -58,9 +58,9 @@ pub fn parent_of(up: [NsSlot; NAMESPACE_SLOTS], n: NsSlot) -> NsSlot
 pub fn level_of(levels: [u8; NAMESPACE_SLOTS], n: NsSlot) -> u8
     ensures { λ r. ⌜ r ≡ level-in levels (n .0) ⌝ }
 {
-    let i = n.0 as usize;
-    if i < NAMESPACE_SLOTS {
-        return levels[i];
+    let at = n.0 as usize;
+    if at < NAMESPACE_SLOTS {
+        return levels[at];
     }
     0
 }

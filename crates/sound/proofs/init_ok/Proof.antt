@@ -8,12 +8,12 @@ use Rattle.sound.proofs.init_ok.Tie as tie
 is-taken-requires : tie.Need-is-taken-requires
 is-taken-requires c κs = search needs
 
+has-ended-requires : tie.Need-has-ended-requires
+has-ended-requires c κs = search needs
+
 returns : tie.Need-returns
 unfolding init-ok
 returns c = by-row _ _ (search row depth 20)
-
-has-ended-requires : tie.Need-has-ended-requires
-has-ended-requires c κs = search needs
 
 returns-2 : tie.Need-returns-2
 unfolding init-ok
@@ -35,8 +35,8 @@ init-ok-spec =
     tie.close
     (tie.spec
     is-taken-requires
-    returns
     has-ended-requires
+    returns
     returns-2
     returns-3
     pid-at-requires

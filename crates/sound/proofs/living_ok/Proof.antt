@@ -8,12 +8,12 @@ use Rattle.sound.proofs.living_ok.Tie as tie
 is-dead-requires : tie.Need-is-dead-requires
 is-dead-requires c κs = search needs
 
+holds-namespace-requires : tie.Need-holds-namespace-requires
+holds-namespace-requires c κs = search needs
+
 returns : tie.Need-returns
 unfolding living-ok
 returns c = by-row _ _ (search row depth 20)
-
-holds-namespace-requires : tie.Need-holds-namespace-requires
-holds-namespace-requires c κs = search needs
 
 returns-2 : tie.Need-returns-2
 unfolding living-ok
@@ -38,8 +38,8 @@ living-ok-spec =
     tie.close
     (tie.spec
     is-dead-requires
-    returns
     holds-namespace-requires
+    returns
     returns-2
     below-requires
     returns-3

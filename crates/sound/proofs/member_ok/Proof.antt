@@ -8,12 +8,12 @@ use Rattle.sound.proofs.member_ok.Tie as tie
 holds-namespace-requires : tie.Need-holds-namespace-requires
 holds-namespace-requires c κs = search needs
 
+is-unborn-requires : tie.Need-is-unborn-requires
+is-unborn-requires c κs = search needs
+
 returns : tie.Need-returns
 unfolding member-ok
 returns c = by-row _ _ (search row depth 20)
-
-is-unborn-requires : tie.Need-is-unborn-requires
-is-unborn-requires c κs = search needs
 
 returns-2 : tie.Need-returns-2
 unfolding member-ok
@@ -52,8 +52,8 @@ member-ok-spec =
     tie.close
     (tie.spec
     holds-namespace-requires
-    returns
     is-unborn-requires
+    returns
     returns-2
     end-ok-requires
     returns-3

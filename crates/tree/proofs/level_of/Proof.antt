@@ -4,8 +4,8 @@ use Rattle.table.proofs.Slots.{array-past}
 use Rattle.tree.proofs.level_of.Statement.{statement}
 use Rattle.tree.proofs.level_of.Tie as tie
 
-cast-i : tie.Need-cast-i
-cast-i c = search needs
+cast-at : tie.Need-cast-at
+cast-at c = search needs
 
 array-read-result : tie.Need-array-read-result
 array-read-result c = search needs
@@ -17,4 +17,4 @@ returns-2 : tie.Need-returns-2
 returns-2 c = search array-past
 
 pub level-of-spec : {M : Type 1} → statement M
-level-of-spec = tie.close (tie.spec cast-i array-read-result returns returns-2)
+level-of-spec = tie.close (tie.spec cast-at array-read-result returns returns-2)

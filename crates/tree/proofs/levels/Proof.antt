@@ -11,26 +11,26 @@ use Rattle.tree.proofs.levels.Statement.{statement}
 use Rattle.tree.proofs.levels.Tie as tie
 
 abbrev Inv-loop : tie.InvT-loop
-Inv-loop namespaces levels₀ i₀ levels i =
-    Mapped namespace-slots (λ k x. getD namespaces k no-namespace .level) 0 levels₀ levels i
+Inv-loop namespaces levels₀ n₀ levels n =
+    Mapped namespace-slots (λ k x. getD namespaces k no-namespace .level) 0 levels₀ levels n
 
 abbrev μ-loop : tie.MeasureT-loop
-μ-loop namespaces levels₀ i₀ levels i = namespace-slots - i
+μ-loop namespaces levels₀ n₀ levels n = namespace-slots - n
 
 loop-holds : tie.Need-loop-holds Inv-loop μ-loop
 loop-holds c = search map-old-loops
 
-mul-n : tie.Need-mul-n Inv-loop μ-loop
-mul-n c = search needs
+mul-s : tie.Need-mul-s Inv-loop μ-loop
+mul-s c = search needs
 
-array-copy-out-n : tie.Need-array-copy-out-n Inv-loop μ-loop
-array-copy-out-n c = search needs
+array-copy-out-s : tie.Need-array-copy-out-s Inv-loop μ-loop
+array-copy-out-s c = search needs
 
 array-write-levels : tie.Need-array-write-levels Inv-loop μ-loop
 array-write-levels c = search needs
 
-add-i : tie.Need-add-i Inv-loop μ-loop
-add-i c = search needs
+add-n : tie.Need-add-n Inv-loop μ-loop
+add-n c = search needs
 
 loop-less : tie.Need-loop-less Inv-loop μ-loop
 loop-less c = search needs
@@ -50,10 +50,10 @@ levels-spec =
     Inv-loop
     μ-loop
     loop-holds
-    mul-n
-    array-copy-out-n
+    mul-s
+    array-copy-out-s
     array-write-levels
-    add-i
+    add-n
     loop-less
     loop-again
     returns)

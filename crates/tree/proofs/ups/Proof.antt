@@ -12,11 +12,11 @@ use Rattle.tree.proofs.ups.Statement.{statement}
 use Rattle.tree.proofs.ups.Tie as tie
 
 abbrev Inv-loop : tie.InvT-loop
-Inv-loop namespaces up₀ i₀ up i =
-    Mapped namespace-slots (λ k x. getD namespaces k no-namespace .parent) (record { 0 = 0 }) up₀ up i
+Inv-loop namespaces up₀ child₀ up child =
+    Mapped namespace-slots (λ k x. getD namespaces k no-namespace .parent) (record { 0 = 0 }) up₀ up child
 
 abbrev μ-loop : tie.MeasureT-loop
-μ-loop namespaces up₀ i₀ up i = namespace-slots - i
+μ-loop namespaces up₀ child₀ up child = namespace-slots - child
 
 loop-holds : tie.Need-loop-holds Inv-loop μ-loop
 loop-holds c = search map-old-loops
@@ -30,8 +30,8 @@ array-copy-out-n c = search needs
 array-set-from-up : tie.Need-array-set-from-up Inv-loop μ-loop
 array-set-from-up c = search needs
 
-add-i : tie.Need-add-i Inv-loop μ-loop
-add-i c = search needs
+add-child : tie.Need-add-child Inv-loop μ-loop
+add-child c = search needs
 
 loop-less : tie.Need-loop-less Inv-loop μ-loop
 loop-less c = search needs
@@ -54,7 +54,7 @@ ups-spec =
     mul-n
     array-copy-out-n
     array-set-from-up
-    add-i
+    add-child
     loop-less
     loop-again
     returns)
