@@ -11,7 +11,7 @@ use Rattle.session.specs.Sessions.{Wrote, Feeds}
 use Rattle.session.specs.declared.Fed.{Fed}
 use Rattle.session.specs.declared.Session.{Session}
 
--- `finish` of s, as its contract says, writes the text
+-- `finish` of s, as its contract says where the line carries l, writes the text
 pub record Last (s : Session) (text : List ℕ) : Type 0 where
   pub before : List ℕ
   pub after : List ℕ
@@ -19,7 +19,7 @@ pub record Last (s : Session) (text : List ℕ) : Type 0 where
   pub finished : (l : List ℕ) → Carries (s .line) l → Wrote (run-all (s .table) (last-line l) .text) before after used
   pub text-is : text ≡ take used after
 
--- `feed` of a chunk to s, as its contract says, and what is written after it, write the text
+-- `feed` of a chunk to s, as its contract says where the line carries l, and what is written after it, write the text
 pub record Next (s : Session) (chunk : List ℕ) (Later : Session → List ℕ → Type 0) (text : List ℕ) : Type 0 where
   pub before : List ℕ
   pub after : List ℕ
