@@ -53,7 +53,8 @@ fn word_length(s: &[u8]) -> usize
     i
 }
 
-fn same(a: &[u8], b: &[u8]) -> bool
+// Whether two texts are the same.
+pub fn same(a: &[u8], b: &[u8]) -> bool
     ensures { λ r. ⌜ r ≡ same-text (now (a .entry)) (now (b .entry)) ⌝ }
 {
     if a.len() != b.len() {

@@ -1,14 +1,14 @@
 -- `read_all` ends: the turns count down.
 use borrow.Author.Needs.{needs}
 use native.Mathlib.Omega.{arith}
-use Rattle.recorder.proofs.read_all.Statement.{statement}
-use Rattle.recorder.proofs.read_all.Tie as tie
+use Rattle.recorder.proofs.run.read_all.Statement.{statement}
+use Rattle.recorder.proofs.run.read_all.Tie as tie
 
 abbrev Inv-loop : tie.InvT-loop
-Inv-loop read₀ turns₀ read turns = Unit {0}
+Inv-loop fd source read₀ turns₀ read turns = Unit {0}
 
 abbrev μ-loop : tie.MeasureT-loop
-μ-loop read₀ turns₀ read turns = turns
+μ-loop fd source read₀ turns₀ read turns = turns
 
 start-requires : tie.Need-start-requires Inv-loop μ-loop
 start-requires c κs = search needs
@@ -31,6 +31,9 @@ loop-again c = search needs
 returns : tie.Need-returns Inv-loop μ-loop
 returns c = search needs
 
+returns-2 : tie.Need-returns-2 Inv-loop μ-loop
+returns-2 c = search needs
+
 pub read-all-spec : {M : Type 1} → statement M
 read-all-spec =
     tie.close
@@ -43,4 +46,5 @@ read-all-spec =
     sub-turns
     loop-less
     loop-again
-    returns)
+    returns
+    returns-2)
