@@ -1,13 +1,6 @@
 // Reads and writes that fail: which are tried again, and what is said of the others.
-use libc::STDERR_FILENO;
 use libc::STDOUT_FILENO;
 use libc::types::timespec;
-
-// Says on standard error what failed, and why.
-pub fn complain(what: &[u8]) {
-    io::write_all(STDERR_FILENO, b"recorder: ");
-    os::fail(what);
-}
 
 // Lets a millisecond pass.
 fn pause() {
@@ -33,7 +26,7 @@ pub fn may_retry(what: &[u8]) -> bool {
         pause();
         return true;
     }
-    complain(what);
+    os::fail(what);
     false
 }
 
@@ -47,7 +40,7 @@ pub fn write_out(out: &[u8]) -> bool {
             return false;
         }
         let put = libc::write(STDOUT_FILENO, &out[done..]);
-        if put < 0 && !may_retry(b"standard output") {
+        if put < 0 && !may_retry(b"recorder: standard output") {
             return false;
         }
         if put == 0 {

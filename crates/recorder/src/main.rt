@@ -3,23 +3,28 @@ mod faults;
 mod run;
 mod usage;
 
-use faults::complain;
 use libc::STDIN_FILENO;
 use run::run;
 use script::same;
 use usage::misused;
 use usage::print_help;
 use usage::print_version;
+ghost use Prim.Native.Nat.{_≤_};
+ghost use lib.ListN.{length};
 
-// Runs the script in a file.
-fn run_file(name: &[u8]) {
+// Runs the script in a file. `what` is what an error is told of.
+fn run_file(name: &[u8], what: &[u8]) {
     let fd = os::open_read(name);
     if fd < 0 {
-        complain(name);
+        os::fail(what);
         return;
     }
-    run(fd, name);
+    run(fd, what);
     libc::close(fd);
+}
+
+fn run_input() {
+    run(STDIN_FILENO, b"recorder: standard input");
 }
 
 // Whether a word is an option, or would be one.
@@ -30,8 +35,11 @@ fn is_option(word: &[u8]) -> bool {
     word[0] == b'-'
 }
 
-// Does what the one argument asks for.
-fn obey(word: &[u8]) {
+// Does what the one argument asks for: the word that stands behind the program's name, from `start` on.
+fn obey(what: &[u8], start: usize)
+    requires { ⌜ start ≤ length (now what) ⌝ }
+{
+    let word = &what[start..];
     if same(word, b"--help") {
         print_help();
         return;
@@ -41,31 +49,39 @@ fn obey(word: &[u8]) {
         return;
     }
     if same(word, b"-") {
-        run(STDIN_FILENO, b"standard input");
+        run_input();
         return;
     }
     if is_option(word) {
-        misused(word);
+        misused(what);
         return;
     }
-    run_file(word);
+    run_file(word, what);
+}
+
+// The argument is read behind the program's name, so that an error can be told of both at once.
+fn take_argument(text: &mut [u8])
+    requires { ⌜ 10 ≤ length (now text) ⌝ }
+{
+    let start = bytes::copy(b"recorder: ", text);
+    let n = os::arg(1, &mut text[start..]);
+    if os::errno() != 0 {
+        os::fail(b"recorder: the argument");
+        return;
+    }
+    obey(&text[..start + n], start);
 }
 
 fn main() {
     let count = os::arg_count();
     if count < 2 {
-        run(STDIN_FILENO, b"standard input");
+        run_input();
         return;
     }
     if count > 2 {
-        misused(b"more than one argument");
+        misused(b"recorder: more than one argument");
         return;
     }
-    let mut word = io::buffer();
-    let n = os::arg(1, &mut word);
-    if os::errno() != 0 {
-        complain(b"the argument");
-        return;
-    }
-    obey(&word[..n]);
+    let mut text = io::buffer();
+    take_argument(&mut text);
 }

@@ -3,9 +3,8 @@ use crate::faults::write_out;
 use libc::STDERR_FILENO;
 
 // Of an argument that it does not take.
-pub fn misused(word: &[u8]) {
-    io::write_all(STDERR_FILENO, b"recorder: ");
-    io::write_all(STDERR_FILENO, word);
+pub fn misused(what: &[u8]) {
+    io::write_all(STDERR_FILENO, what);
     io::write_all(STDERR_FILENO, b": not understood; see recorder --help\n");
 }
 
@@ -47,8 +46,9 @@ fn print_refusals() -> bool {
     write_out(
         b"\n\
           Each line gives one line: the answer, ? where it is no call, or a refusal:\n\
+          \x20 -1000  the table is not sound (no script brings that about)\n\
           \x20 -1001  the caller's slot is beyond 63, empty, ended or stopped\n\
-          \x20   -22  kill, handle: no such signal, or one that nobody handles;\n\
+          \x20   -22  kill: S is not 0 to 31; handle: S is not 1 to 31, or it is 9 or 19;\n\
           \x20        clone new, unshare: the children's namespace is not the caller's own\n\
           \x20   -38  kill: N is 0 or below -1\n\
           \x20    -3  kill, setns: no such process is seen; setns: it has ended;\n\
