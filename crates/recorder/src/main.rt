@@ -82,6 +82,6 @@ fn main() {
         misused(b"recorder: more than one argument");
         return;
     }
-    let mut text = io::buffer();
+    let mut text = io::large_buffer();
     take_argument(&mut text);
 }
