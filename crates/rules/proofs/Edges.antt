@@ -129,6 +129,19 @@ edges =
     ∷ (fresh, (0, Exit (pos 0), refuses 16) ∷ (1, Getpid, refuses 1001) ∷ (64, Getpid, refuses 1001) ∷ (255, Clone, refuses 1001) ∷ [])
     -- kill -1 on the fresh table: -3; kill 0: -38; kill 5 32: -22
     ∷ (fresh, (0, Kill (minus 1) (pos 9), refuses 3) ∷ (0, Kill (pos 0) (pos 9), refuses 38) ∷ (0, Kill (pos 5) (pos 32), refuses 22) ∷ (0, Kill (pos 0) (pos 32), refuses 22) ∷ [])
+    -- one that has ended is found by kill and kill -1 until it is removed, and setns refuses it
+    ∷ (
+      fresh,
+      (0, Clone, says 2)
+          ∷ (1, Exit (pos 3), says 0)
+          ∷ (0, Kill (pos 2) (pos 9), says 0)
+          ∷ (0, Kill (minus 1) (pos 9), says 0)
+          ∷ (0, Setns (pos 2), refuses 3)
+          ∷ (0, Wait, gave 2 3)
+          ∷ (0, Kill (pos 2) (pos 9), refuses 3)
+          ∷ (0, Kill (minus 1) (pos 9), refuses 3)
+          ∷ [],
+    )
     -- unshare, clone, child exits, clone: -12
     ∷ (fresh, (0, Unshare, says 0) ∷ (0, Clone, says 2) ∷ (1, Exit (pos 0), says 0) ∷ (0, Clone, refuses 12) ∷ [])
     -- unshare and clone new give -22 while the children's namespace isn't the own one (W-203): an unborn one; after setns
