@@ -180,6 +180,21 @@ fn a_closed_descriptor_takes_no_answer() {
 }
 
 #[test]
+fn a_message_is_whole_where_its_writes_are_short() {
+    let ended = recorder().reads(&[EIO]).tells(&[1, 3, 20]).run();
+    assert_eq!(ended, stopped(b"", "standard input: Input/output error"));
+}
+
+/// Part of it may be missing then: the toolchain writes it, and does not try again.
+#[test]
+fn a_message_tells_the_right_reason_where_writing_it_fails_too() {
+    for error in [EINTR, EAGAIN] {
+        let ended = recorder().reads(&[EIO]).tells(&[error]).run();
+        assert!(ended.errors.ends_with(": Input/output error\n"), "{ended:?}");
+    }
+}
+
+#[test]
 fn a_message_that_nobody_takes_changes_nothing() {
     let ended = recorder().script(SCRIPT).closed(2).reads(&[12, EIO]).run();
     assert_eq!(ended, answered(whole_lines(&SCRIPT[..12])));
