@@ -1,7 +1,7 @@
 // Preloaded before the recorder, this makes its reads, its writes to standard output and those to standard error follow
 // a plan each. FAULTS_READ, FAULTS_WRITE and FAULTS_TELL are lists with a number for each call in turn: the most bytes
-// that it moves, or, below 0, the error that it gives, as -4 for EINTR. After the list come true calls. An error that no
-// call came to is told on standard error, so that no test passes without the fault that it asks for.
+// that it moves, or, below 0, the error that it gives, as -4 for EINTR. After the list come true calls. An error that
+// no call came to is told on standard error, so that no test passes without the fault that it asks for.
 #define _DEFAULT_SOURCE
 #include <errno.h>
 #include <stdio.h>
