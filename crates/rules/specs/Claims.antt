@@ -222,28 +222,29 @@ pub record SignalFinds : Type 0 where
       (t : Table) (c i : ℕ) (n s : ℤ) → SoundTable t → (So (seen (view t) (view t .own c) i) → ⊥)
       → process (after t c (Kill n s)) i ≡ process t i
 
--- the parent of the process at i once t has become u: as before, or where that one ended the init of its namespace
-unfoldable pub heir : Table → Table → ℕ → ℕ
-heir t u i =
+-- the parent of the process at i once t has become u: the one it had or, if that one has ended meanwhile, the init of
+-- that one's namespace
+unfoldable pub parent-after : Table → Table → ℕ → ℕ
+parent-after t u i =
     let p = view t .parent i in
     if living (view t) p and not (living (view u) p) then init (view t) (view t .own p) else p
 
--- what a signal's action makes of a record by itself
-unfoldable pub struck : Process → ℕ → Action → Process
-struck q s Nothing = q
-struck q s Resume = resumed q
-struck q s Stop = with-state q Stopped
-struck q s Finish = as-ended q (Signaled s)
-struck q s Pend = with-pending q s
+-- the record after the action of signal s on it, all else left as it is
+unfoldable pub after-action : Process → ℕ → Action → Process
+after-action q s Nothing = q
+after-action q s Resume = resumed q
+after-action q s Stop = with-state q Stopped
+after-action q s Finish = as-ended q (Signaled s)
+after-action q s Pend = with-pending q s
 
 -- the process at j is an init that the kill ends: by 9, from a namespace above
-unfoldable pub felled : View → ℕ → ℤ → ℤ → ℕ → Bool
-felled v c n s j =
+unfoldable pub ends-init : View → ℕ → ℤ → ℤ → ℕ → Bool
+ends-init v c n s j =
     meant v c n j and living v j and is-init v j and not (eqb (v .own j) (v .own c)) and eqb (natural s) sigkill
 
--- the process at i lies in the subtree of such an init
+-- the process at i falls with such an init: it lies in the init's subtree
 abbrev pub Falls : View → ℕ → ℤ → ℤ → ℕ → Type 0
-Falls v c n s i = (j : ℕ) × So (felled v c n s j) × So (seen v (v .own j) i)
+Falls v c n s i = (j : ℕ) × So (ends-init v c n s j) × So (seen v (v .own j) i)
 
 -- A granted kill n s by the process at c.
 pub record SignalDone (t u : Table) (c : ℕ) (n s : ℤ) : Type 0 where
@@ -251,21 +252,21 @@ pub record SignalDone (t u : Table) (c : ℕ) (n s : ℤ) : Type 0 where
   pub removed :
       (i : ℕ) → So (taken (view t) i)
       → (So (taken (view u) i) → ⊥)
-      ↔ ((j : ℕ) × So (felled (view t) c n s j) × So (seen (view t) (view t .own j) i) × So (seen (view t) (view t .own j) (view t .parent i)))
+      ↔ ((j : ℕ) × So (ends-init (view t) c n s j) × So (seen (view t) (view t .own j) i) × So (seen (view t) (view t .own j) (view t .parent i)))
   -- The others of such a subtree stay for their outside parent, ended: by 9, if not before.
   pub swept :
       (i : ℕ) → Falls (view t) c n s i → So (taken (view u) i)
       → process u i
-      ≡ with-parent (if view t .ended i then process t i else as-ended (process t i) (Signaled sigkill)) (heir t u i)
+      ≡ with-parent (if view t .ended i then process t i else as-ended (process t i) (Signaled sigkill)) (parent-after t u i)
   -- Who is meant, in no such subtree, gets what the signal does to it.
   pub reached :
       (i : ℕ) → (Falls (view t) c n s i → ⊥) → So (meant (view t) c n i)
       → process u i
-      ≡ with-parent (struck (process t i) (natural s) (action-on (view t) (view t .own c) i (natural s))) (heir t u i)
+      ≡ with-parent (after-action (process t i) (natural s) (action-on (view t) (view t .own c) i (natural s))) (parent-after t u i)
   -- Nobody else's record changes, but that orphans are handed over.
   pub spared :
       (i : ℕ) → (Falls (view t) c n s i → ⊥) → (So (meant (view t) c n i) → ⊥)
-      → process u i ≡ with-parent (process t i) (heir t u i)
+      → process u i ≡ with-parent (process t i) (parent-after t u i)
 
 -- Each kill that is granted does so; the answer is 0.
 unfoldable pub SignalExact : Type 0

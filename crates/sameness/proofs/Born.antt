@@ -9,7 +9,7 @@ use lib.Dec.{eqb, leb}
 use Rattle.rules.proofs.Keeps.Birth.{with-born, next-fresh}
 use Rattle.rules.proofs.Laws.Below.{below-level, below-trans, deep-namespace}
 use Rattle.rules.proofs.Laws.Facts.{Facts, seen-taken, seen-below}
-use Rattle.rules.proofs.Laws.Slots.{alive-taken, init-own, below-same, below-up-by, up-by-level, up-by-end, init-taken, no-heirs, own-not-unborn}
+use Rattle.rules.proofs.Laws.Slots.{alive-taken, init-own, below-same, below-up-by, up-by-level, up-by-end, init-taken, none-below-unborn, own-not-unborn}
 use Rattle.rules.proofs.Laws.Tests.{no-so, isnt-so, left, right, both, any-elim, any-intro, isnt, bool-ext}
 use Rattle.rules.proofs.Laws.Tree.{below-refl}
 use Rattle.sameness.proofs.Cases.{by-equal}
@@ -70,7 +70,7 @@ bottom {v} f a m b h =
     let d = pred (v .level a - v .level m) in
     let l = below-level v f a m b in
     let q : suc d ≡ v .level a - v .level m = omega arith in
-    absurd (no-heirs v f m (up-by (v .up) d a) (v .level m) h (omega (arith, up-by-level v f d a (omega arith))) (sym (up-by-end v f d a) ∙ ap (λ x. up-by (v .up) x a) q ∙ below-up-by v f a m b)))
+    absurd (none-below-unborn v f m (up-by (v .up) d a) (v .level m) h (omega (arith, up-by-level v f d a (omega arith))) (sym (up-by-end v f d a) ∙ ap (λ x. up-by (v .up) x a) q ∙ below-up-by v f a m b)))
 
 -- an empty slot k, and a namespace n
 pub record Room (v : View) (n k : ℕ) : Type 0 where
@@ -144,7 +144,7 @@ module _ {v : View} {n k : ℕ} (room : Room v n k) (c : ℕ) where
   born m = not (unborn v m)
 
   born-tree : Tree v v′ born
-  born-tree = record { ups = λ m h. refl; levels = λ m h. refl; up-kept = λ m j h e. ap not (isnt-so (λ q. no-heirs v f (v .up m) m j q e refl)) }
+  born-tree = record { ups = λ m h. refl; levels = λ m h. refl; up-kept = λ m j h e. ap not (isnt-so (λ q. none-below-unborn v f (v .up m) m j q e refl)) }
 
   -- no init is the child
   init-old : (m : ℕ) → init v m ≡ k → ⊥

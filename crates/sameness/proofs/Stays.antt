@@ -28,7 +28,7 @@ use Rattle.sameness.proofs.Readers.{find-none}
 use Rattle.sameness.proofs.Same.{level-lt, row-pid, same-of-sheets}
 use Rattle.rules.specs.Answers.{answers, end-of, granted, number-of, refused, refusal-number, shown}
 use Rattle.rules.specs.Calls.{getpid, getppid}
-use Rattle.rules.specs.Claims.{KeepsSound, NamespacesKept, NumbersKept, RefusalLeaves, SignalExact, after, felled}
+use Rattle.rules.specs.Claims.{KeepsSound, NamespacesKept, NumbersKept, RefusalLeaves, SignalExact, after, ends-init}
 use Rattle.rules.specs.Read.{View, alive, child-of, dead, find, init, is-init, namespace-taken, pid-seen, seen, taken, unborn, view}
 use Rattle.rules.specs.Sound.{SoundTable, zero-namespace}
 use Rattle.rules.specs.Step.{make, runs, step}
@@ -169,7 +169,7 @@ module _ (t : Table) (h : SoundTable t) (s i : ℕ) (other : Other s) (a : Ancho
         (λ o. there t u i (process t i) (rest i o) refl (a .here))
 
     by-kill : (n z : ℤ) (b : ℕ) → number-of (step t c (Kill n z) .reply .answer) ≡ pos b → Stays (after t c (Kill n z))
-    unfolding SignalExact felled
+    unfolding SignalExact ends-init
     by-kill n z b e =
         let done = signal-exact t c b n z h e .1 in
         taken-or (after t c (Kill n z)) (λ o.

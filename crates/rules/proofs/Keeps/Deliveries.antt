@@ -17,7 +17,7 @@ use Rattle.rules.proofs.Laws.Facts.{Lives, lives-taken, not-ended, is-s
 use Rattle.rules.proofs.Laws.Lists.{In, Distinct}
 use Rattle.rules.proofs.Laws.Tests.{choose, yes-or-no, no-so, isnt-so, cases, both, or-true}
 use Rattle.rules.proofs.Laws.Tree.{below-refl}
-use Rattle.rules.specs.Claims.{struck}
+use Rattle.rules.specs.Claims.{after-action}
 use Rattle.rules.specs.Delivery.{act, action-on, default-action, deliver, deliver-all, resumed, with-pending}
 use Rattle.rules.specs.Read.{View, is-init, living, taken, view}
 use Rattle.rules.proofs.Laws.Traits.{ended-signals}
@@ -135,8 +135,8 @@ module _ (k from : ℕ) (P : ℕ → Type 0) (t u : Table) (s : Sane t) (r : San
   abbrev p : ℕ
   p = view u .parent i
 
-  act-hit : (a : Action) → Good (view u) i k a → ByNine (view u) i from k a → process u i ≡ with-parent q p → Rest t (act u i k a) i (struck q k a)
-  unfolding act struck with-pending
+  act-hit : (a : Action) → Good (view u) i k a → ByNine (view u) i from k a → process u i ≡ with-parent q p → Rest t (act u i k a) i (after-action q k a)
+  unfolding act after-action with-pending
   act-hit Nothing g n e = inr e
   act-hit Resume g n e = inr (with-kept (act u i k Resume) i p (resumed q) (put-self k from P u r i (resumed (process u i)) g (resumed-kin (process u i)) ∙ ap resumed e ∙ resumed-parent q p))
   act-hit Stop g n e = inr (with-kept (act u i k Stop) i p (with-state q Stopped) (put-self k from P u r i (with-state (process u i) Stopped) g (refl, refl, refl, refl, refl) ∙ ap (λ (o : Process). with-state o Stopped) e))
@@ -151,12 +151,12 @@ module _ (k from : ℕ) (P : ℕ → Type 0) (t u : Table) (s : Sane t) (r : San
       inr (member-ended k from P u r i (g .0) (g .1) z ∙ rw o (ap (λ (o : Process). with-parent (as-ended o (Signaled k)) (view (act u i k Finish) .parent i)) e)))
       (yes-or-no (is-init (view u) i))
 
-  pub deliver-hit : (i ≡ 0 → from ≡ 0) → Rest t u i q → Rest t (deliver u from i k) i (struck q k (action-on (view t) from i k))
+  pub deliver-hit : (i ≡ 0 → from ≡ 0) → Rest t u i q → Rest t (deliver u from i k) i (after-action q k (action-on (view t) from i k))
   unfolding deliver living taken
   deliver-hit safe (inl (m, z, h)) = inl (m, fell-too t u s r x (deliver u from i k) (deliver-trace k from P u r i mean safe .lives) m z, h)
   deliver-hit safe (inr e) =
       let d = action-of (view t) (view u) from i k (ap (λ (o : Process). not (eqb (pid-at o 0) 0) and not (is-ended (o .state))) e) (was-init t u s r x i) (ap (λ (o : Process). o .own .0) e) (ap (λ (o : Process). o .traits .handled) e) in
-      subst (λ a. Rest t (act u i k (action-on (view u) from i k)) i (struck q k a)) d
+      subst (λ a. Rest t (act u i k (action-on (view u) from i k)) i (after-action q k a)) d
       (act-hit (action-on (view u) from i k) (action-good (view u) i k from (r .facts) safe) (by-nine (view u) i from k) e)
 
 -- ---- one after another
@@ -182,7 +182,7 @@ module _ (k from : ℕ) (low : k < signals) (P : ℕ → Type 0) where
 
   -- who is among them, once
   pub all-hit : (t : Table) → Sane t → (u : Table) → Sane u → Trace k from P t u → (is : List ℕ) → Safe from is → Each P is → Distinct is → (i : ℕ) → In i is → Rest t u i (process t i)
-      → Rest t (deliver-all u from is k) i (struck (process t i) k (action-on (view t) from i k))
+      → Rest t (deliver-all u from is k) i (after-action (process t i) k (action-on (view t) from i k))
   unfolding deliver-all
   all-hit t g u s x [] h m d i n a = absurd n
   all-hit t g u s x (j ∷ js) h m d i n a =
@@ -192,8 +192,8 @@ module _ (k from : ℕ) (low : k < signals) (P : ℕ → Type 0) where
       let z = trace-trans t u y g s r x f in
       ⊎-elim
       (λ (e : i ≡ j).
-      rest-trans t y (deliver-all y from js k) g r z (all-trace y r js (h .1) (m .1)) i (struck (process t i) k (action-on (view t) from i k))
-      (subst (λ l. Rest t (deliver u from l k) i (struck (process t i) k (action-on (view t) from i k))) e (deliver-hit k from P t u g s x i (subst P (sym e) (m .0)) (λ q. h .0 (sym e ∙ q)) a))
+      rest-trans t y (deliver-all y from js k) g r z (all-trace y r js (h .1) (m .1)) i (after-action (process t i) k (action-on (view t) from i k))
+      (subst (λ l. Rest t (deliver u from l k) i (after-action (process t i) k (action-on (view t) from i k))) e (deliver-hit k from P t u g s x i (subst P (sym e) (m .0)) (λ q. h .0 (sym e ∙ q)) a))
       (all-rest y r js (h .1) (m .1) i (λ b. d .0 (subst (λ l. In l js) e b))))
       (λ (b : In i js).
       all-hit t g y r z js (h .1) (m .1) (d .1) i b

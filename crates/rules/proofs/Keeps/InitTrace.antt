@@ -7,7 +7,7 @@ use borrow.Author.Tests.{eq-eqb, eqb-true}
 use lib.Dec.{eqb}
 use Rattle.rules.proofs.Keeps.End.{end-tree, init-ended-at}
 use Rattle.rules.proofs.Keeps.Fixed.{end-stays}
-use Rattle.rules.proofs.Keeps.Trace.{over, over-same, Fell, InFell, Trace, heir-old, rest-same}
+use Rattle.rules.proofs.Keeps.Trace.{over, over-same, Fell, InFell, Trace, parent-after-old, rest-same}
 use Rattle.rules.proofs.Laws.Facts.{Facts, Taken, Lives, Below, Seen, lives-taken, not-ended, seen-below, is-seen, Sane}
 use Rattle.rules.proofs.Laws.Slots.{init-own, init-living, living-own-alive, child-seen}
 use Rattle.rules.proofs.Laws.Tests.{yes-or-no, same-or, no-so, isnt-so}
@@ -126,7 +126,7 @@ module _ (k from : ℕ) (P : ℕ → Type 0) (u : Table) (s : Sane u) (j : ℕ) 
         ups = end-tree u s j (Signaled k) here .0;
         levels = end-tree u s j (Signaled k) here .1;
         stay = end-stays u s j (Signaled k) l;
-        parents = λ i h. field (λ p. p .parent .0) (λ q e. refl) i h ∙ sym (heir-old u w i (λ a. lives-same _ (left-parent i h) ∙ a));
+        parents = λ i h. field (λ p. p .parent .0) (λ q e. refl) i h ∙ sym (parent-after-old u w i (λ a. lives-same _ (left-parent i h) ∙ a));
         removed = λ i h o.
             by-place i
             (λ a. absurd (o (taken-as i a ∙ h)))

@@ -16,7 +16,7 @@ use Rattle.rules.proofs.Keeps.Fixed.{processes-fall}
 use Rattle.rules.proofs.Keeps.Freed.{freed-keeps}
 use Rattle.rules.proofs.Keeps.Premises as K
 use Rattle.rules.proofs.Keeps.Deliveries.{all-trace, all-rest, all-hit}
-use Rattle.rules.proofs.Keeps.Trace.{Fell, InFell, Rest, Trace, trace-refl, shrinks, heir-cases, heir-new, heir-old}
+use Rattle.rules.proofs.Keeps.Trace.{Fell, InFell, Rest, Trace, trace-refl, shrinks, parent-after-cases, parent-after-new, parent-after-old}
 use Rattle.rules.proofs.Laws.Below.{below-trans}
 use Rattle.rules.proofs.Laws.Facts.{Facts, Taken, Lives, Below, Seen, Other, lives-taken, not-ended, seen-taken, seen-below, is-seen, facts, Sane, sane, zero-of}
 use Rattle.rules.proofs.Laws.Lists.{In, Distinct, some-of-in, in-some-of, sorted-distinct, only-distinct, ascending-sorted}
@@ -26,7 +26,7 @@ use Rattle.rules.proofs.Laws.Steps.{runs-lives, outcome-of}
 use Rattle.rules.proofs.Laws.Tests.{isnt-not, yes-or-no, no-so, left, right, both, not-iff}
 use Rattle.rules.specs.Answers.{answers, granted, number-of, refused}
 use Rattle.rules.specs.Calls.{natural, others, pid-to, targets, named}
-use Rattle.rules.specs.Claims.{Falls, SignalDone, SignalExact, SignalFinds, felled, heir, struck}
+use Rattle.rules.specs.Claims.{Falls, SignalDone, SignalExact, SignalFinds, ends-init, parent-after, after-action}
 use Rattle.rules.specs.Delivery.{action-on, deliver-all}
 use Rattle.rules.specs.Freeing.{freed}
 use Rattle.rules.specs.Read.{View, all-seen, init, is-init, living, seen, taken, view}
@@ -101,47 +101,47 @@ module _ (t : Table) (c : ℕ) (h : SoundTable t) (r : So (runs (view t) c)) (n 
 
   -- ---- the subtrees that fell
 
-  felled-of : (m : ℕ) → Fell t w m → (j : ℕ) × So (felled v c n s j) × Below v m (v .own j)
-  unfolding felled
-  felled-of m z = let (j, a, b, l, i, o, d) = x .heads m z in (j, both _ _ (both _ _ (both _ _ (both _ _ a l) i) (not-iff _ .1 (λ e. o (eqb-true _ from e)))) (eq-eqb k 9 b), d)
+  ends-init-of : (m : ℕ) → Fell t w m → (j : ℕ) × So (ends-init v c n s j) × Below v m (v .own j)
+  unfolding ends-init
+  ends-init-of m z = let (j, a, b, l, i, o, d) = x .heads m z in (j, both _ _ (both _ _ (both _ _ (both _ _ a l) i) (not-iff _ .1 (λ e. o (eqb-true _ from e)))) (eq-eqb k 9 b), d)
 
   seen-up : (m j i : ℕ) → Below v m (v .own j) → Seen v m i → Seen v (v .own j) i
   seen-up m j i b a = is-seen v (v .own j) i (seen-taken v m i a) (below-trans v f _ m _ (seen-below v m i a) b)
 
-  in-felled : (i : ℕ) → InFell t w i → Falls v c n s i
-  in-felled i (m, z, a) = let (j, d, b) = felled-of m z in (j, d, seen-up m j i b a)
+  ends-init-subtree : (i : ℕ) → InFell t w i → Falls v c n s i
+  ends-init-subtree i (m, z, a) = let (j, d, b) = ends-init-of m z in (j, d, seen-up m j i b a)
 
   -- nobody in them lives
   fallen : (i : ℕ) → InFell t w i → Lives (view w) i → ⊥
   fallen i (m, (a, o), b) = processes-fall v (view w) f (g .facts) m (λ m e d. x .stay m e .1) (λ i e d. shrinks t w (sane t h) g x i d .1) a o i b
 
-  hit : (i : ℕ) → P i → Rest t w i (struck (process t i) k (action-on v from i k))
+  hit : (i : ℕ) → P i → Rest t w i (after-action (process t i) k (action-on v from i k))
   hit i m = all-hit k from low P t (sane t h) t (sane t h) (trace-refl k from P t (sane t h)) (targets v c n) safe each (targets-distinct v f c here n) i (meant-in i m) (inr refl)
 
-  felled-ends : (j : ℕ) → So (felled v c n s j) → Lives (view w) j → ⊥
-  unfolding felled struck
-  felled-ends j d a =
+  ends-init-ended : (j : ℕ) → So (ends-init v c n s j) → Lives (view w) j → ⊥
+  unfolding ends-init after-action
+  ends-init-ended j d a =
       let m = left _ _ (left _ _ (left _ _ (left _ _ d))) in
       let l = right _ _ (left _ _ (left _ _ (left _ _ d))) in
       let o = not-iff _ .0 (right _ _ (left _ _ d)) in
       let e : k ≡ 9 = eqb-true k 9 (right _ _ d) in
       let q : action-on v from j k ≡ Finish = ap (action-on v from j) e ∙ kill-acts v j from l (λ z. o (eq-eqb _ from z)) in
-      ⊎-elim (λ z. fallen j z a) (λ z. not-ended (view w) j a (ap (λ (p : Process). is-ended (p .state)) (z ∙ ap (λ y. with-parent (struck (process t j) k y) (view w .parent j)) q))) (hit j m)
+      ⊎-elim (λ z. fallen j z a) (λ z. not-ended (view w) j a (ap (λ (p : Process). is-ended (p .state)) (z ∙ ap (λ y. with-parent (after-action (process t j) k y) (view w .parent j)) q))) (hit j m)
 
-  felled-fell : (j : ℕ) → So (felled v c n s j) → Fell t w (v .own j)
-  unfolding felled is-init
-  felled-fell j d =
+  ends-init-fell : (j : ℕ) → So (ends-init v c n s j) → Fell t w (v .own j)
+  unfolding ends-init is-init
+  ends-init-fell j d =
       let l = right _ _ (left _ _ (left _ _ (left _ _ d))) in
       let i = right _ _ (left _ _ (left _ _ d)) in
-      (living-own-alive v f j l, λ a. felled-ends j d (subst (Lives (view w)) (eqb-true _ j i) a))
+      (living-own-alive v f j l, λ a. ends-init-ended j d (subst (Lives (view w)) (eqb-true _ j i) a))
 
   -- ---- who is removed
 
-  no-more : (i j : ℕ) → So (felled v c n s j) → Seen v (v .own j) (v .parent i) → Taken (view w) i → ⊥
-  no-more i j d b y = ⊎-elim (λ (l, o). handed-over l o) kept (heir-cases t w i)
+  no-more : (i j : ℕ) → So (ends-init v c n s j) → Seen v (v .own j) (v .parent i) → Taken (view w) i → ⊥
+  no-more i j d b y = ⊎-elim (λ (l, o). handed-over l o) kept (parent-after-cases t w i)
     where
       z : Fell t w (v .own j)
-      z = felled-fell j d
+      z = ends-init-fell j d
 
       other : Other i
       other e = omega (arith, f .in-range _ (seen-taken v _ _ b), ap (v .parent) e, f .root-parent)
@@ -154,28 +154,28 @@ module _ (t : Table) (c : ℕ) (h : SoundTable t) (r : So (runs (view t) c)) (n 
           let a = living-own-alive v f (v .parent i) l in
           fallen (init v (v .own (v .parent i)))
           (v .own j, z, is-seen v (v .own j) _ (lives-taken v _ (init-living v f _ a)) (subst (λ m. Below v m (v .own j)) (sym (init-own v f _ a)) (seen-below v _ _ b)))
-          (subst (Lives (view w)) (x .parents i y ∙ heir-new t w i l o) lives)
+          (subst (Lives (view w)) (x .parents i y ∙ parent-after-new t w i l o) lives)
 
       kept : (Lives v (v .parent i) → Lives (view w) (v .parent i)) → ⊥
-      kept l = fallen (v .parent i) (v .own j, z, b) (subst (Lives (view w)) (x .parents i y ∙ heir-old t w i l) lives)
+      kept l = fallen (v .parent i) (v .own j, z, b) (subst (Lives (view w)) (x .parents i y ∙ parent-after-old t w i l) lives)
 
   -- ---- who is not in them
 
   stays : (i : ℕ) → (InFell t w i → ⊥) → Taken v i → Taken (view w) i
   stays i o y = ⊎-elim (λ a. a) (λ a. let (m, z, b, d) = x .removed i y (no-so a) in absurd (o (m, z, b))) (yes-or-no (taken (view w) i))
 
-  parent-then : (i : ℕ) → (InFell t w i → ⊥) → view w .parent i ≡ heir t w i
+  parent-then : (i : ℕ) → (InFell t w i → ⊥) → view w .parent i ≡ parent-after t w i
   parent-then i o =
       ⊎-elim (λ y. x .parents i (stays i o y))
       (λ y.
       let e = empty-parent t f i (no-so y) in
-      empty-parent w (g .facts) i (λ a. no-so y (shrinks t w (sane t h) g x i a .0)) ∙ sym e ∙ sym (heir-old t w i (λ a. subst (Lives (view w)) (sym e) (g .facts .root-lives))))
+      empty-parent w (g .facts) i (λ a. no-so y (shrinks t w (sane t h) g x i a .0)) ∙ sym e ∙ sym (parent-after-old t w i (λ a. subst (Lives (view w)) (sym e) (g .facts .root-lives))))
       (yes-or-no (taken v i))
 
   -- its record then
-  kept-as : (i : ℕ) (q : Process) → Rest t w i q → (Falls v c n s i → ⊥) → process w i ≡ with-parent q (heir t w i)
+  kept-as : (i : ℕ) (q : Process) → Rest t w i q → (Falls v c n s i → ⊥) → process w i ≡ with-parent q (parent-after t w i)
   kept-as i q a o =
-      let no : InFell t w i → ⊥ = λ z. o (in-felled i z) in
+      let no : InFell t w i → ⊥ = λ z. o (ends-init-subtree i z) in
       ⊎-elim (λ z. absurd (no z)) (λ e. e ∙ ap (with-parent q) (parent-then i no)) a
 
   -- ---- once namespaces are freed
@@ -190,32 +190,32 @@ module _ (t : Table) (c : ℕ) (h : SoundTable t) (r : So (runs (view t) c)) (n 
   unfolding taken
   taken-then i = ap (λ (p : Process). not (eqb (pid-at p 0) 0)) (at i)
 
-  heir-then : (i : ℕ) → heir t u i ≡ heir t w i
-  unfolding heir living taken
-  heir-then i = ap (λ (q : Process). let p = v .parent i in if living v p and not (not (eqb (pid-at q 0) 0) and not (is-ended (q .state))) then init v (v .own p) else p) (at (v .parent i))
+  parent-after-then : (i : ℕ) → parent-after t u i ≡ parent-after t w i
+  unfolding parent-after living taken
+  parent-after-then i = ap (λ (q : Process). let p = v .parent i in if living v p and not (not (eqb (pid-at q 0) 0) and not (is-ended (q .state))) then init v (v .own p) else p) (at (v .parent i))
 
-  as-then : (i : ℕ) (q : Process) → process w i ≡ with-parent q (heir t w i) → process u i ≡ with-parent q (heir t u i)
-  as-then i q e = at i ∙ e ∙ ap (with-parent q) (sym (heir-then i))
+  as-then : (i : ℕ) (q : Process) → process w i ≡ with-parent q (parent-after t w i) → process u i ≡ with-parent q (parent-after t u i)
+  as-then i q e = at i ∙ e ∙ ap (with-parent q) (sym (parent-after-then i))
 
   abbrev swept-by : ℕ → Process
   swept-by i = if v .ended i then process t i else as-ended (process t i) (Signaled 9)
 
-  swept-as : (i j : ℕ) → So (felled v c n s j) → Seen v (v .own j) i → Taken (view w) i → process w i ≡ with-parent (swept-by i) (heir t w i)
-  unfolding felled
+  swept-as : (i j : ℕ) → So (ends-init v c n s j) → Seen v (v .own j) i → Taken (view w) i → process w i ≡ with-parent (swept-by i) (parent-after t w i)
+  unfolding ends-init
   swept-as i j d b y =
       let e : k ≡ 9 = eqb-true k 9 (right _ _ d) in
-      x .ended i y (fallen i (v .own j, felled-fell j d, b)) ∙ ap (λ (z : ℕ). with-parent (if v .ended i then process t i else as-ended (process t i) (Signaled z)) (view w .parent i)) e
+      x .ended i y (fallen i (v .own j, ends-init-fell j d, b)) ∙ ap (λ (z : ℕ). with-parent (if v .ended i then process t i else as-ended (process t i) (Signaled z)) (view w .parent i)) e
       ∙ ap (with-parent (swept-by i)) (x .parents i y)
 
   pub signal-done : SignalDone t (freed w) c n s
   signal-done =
       record {
         removed = λ i y. (
-          λ o. let (m, z, a, b) = x .removed i y (λ q. o (taken-then i ∙ q)) in let (j, d, e) = felled-of m z in (j, d, seen-up m j i e a, seen-up m j _ e b),
+          λ o. let (m, z, a, b) = x .removed i y (λ q. o (taken-then i ∙ q)) in let (j, d, e) = ends-init-of m z in (j, d, seen-up m j i e a, seen-up m j _ e b),
           λ (j, d, a, b) q. no-more i j d b (sym (taken-then i) ∙ q),
         );
         swept = λ i (j, d, b) y. as-then i (swept-by i) (swept-as i j d b (sym (taken-then i) ∙ y));
-        reached = λ i o m. let q = struck (process t i) k (action-on v from i k) in as-then i q (kept-as i q (hit i m) o);
+        reached = λ i o m. let q = after-action (process t i) k (action-on v from i k) in as-then i q (kept-as i q (hit i m) o);
         spared = λ i o m. as-then i (process t i) (kept-as i (process t i) (all-rest k from low P t (sane t h) (targets v c n) safe each i (λ z. m (targets-meant v f c here n i .0 (in-some-of i _ z)))) o);
       }
 
@@ -236,13 +236,13 @@ signal-exact t c k n s h =
 
 module _ (t u : Table) (c : ℕ) (n s : ℤ) (f : Facts (view t)) (g : Facts (view u)) (done : SignalDone t u c n s) where
   falls-seen : (i : ℕ) → Falls (view t) c n s i → Seen (view t) (view t .own c) i
-  unfolding felled
+  unfolding ends-init
   falls-seen i (j, d, b) =
       let a = meant-seen (view t) c n j (left _ _ (left _ _ (left _ _ (left _ _ d)))) in
       is-seen (view t) _ i (seen-taken (view t) _ i b) (below-trans (view t) f _ _ _ (seen-below (view t) _ i b) (seen-below (view t) _ j a))
 
   -- its record is as it was but for the parent, and so is its parent's, which lives on
-  unseen : (i : ℕ) → (Seen (view t) (view t .own c) i → ⊥) → process u i ≡ with-parent (process t i) (heir t u i)
+  unseen : (i : ℕ) → (Seen (view t) (view t .own c) i → ⊥) → process u i ≡ with-parent (process t i) (parent-after t u i)
   unseen i o = done .spared i (λ a. o (falls-seen i a)) (λ m. o (meant-seen (view t) c n i m))
 
   parent-on : (i : ℕ) → (Seen (view t) (view t .own c) i → ⊥) → Lives (view t) (view t .parent i) → Lives (view u) (view t .parent i)
@@ -254,7 +254,7 @@ module _ (t u : Table) (c : ℕ) (n s : ℤ) (f : Facts (view t)) (g : Facts (vi
       (yes-or-no (taken (view t) i))
 
   unseen-same : (i : ℕ) → (Seen (view t) (view t .own c) i → ⊥) → process u i ≡ process t i
-  unseen-same i o = unseen i o ∙ ap (with-parent (process t i)) (heir-old t u i (parent-on i o))
+  unseen-same i o = unseen i o ∙ ap (with-parent (process t i)) (parent-after-old t u i (parent-on i o))
 
 -- a kill changes no record of a process that the caller does not see
 spares : (t : Table) (c i : ℕ) (n s : ℤ) → SoundTable t → (Seen (view t) (view t .own c) i → ⊥) → process (step t c (Kill n s) .table) i ≡ process t i

@@ -8,12 +8,12 @@ use lib.Dec.{eqb}
 use Rattle.rules.proofs.Keeps.End.{end-tree, member-ended-at}
 use Rattle.rules.proofs.Keeps.Fixed.{end-stays}
 use Rattle.rules.proofs.Keeps.MemberEnds.{reaches}
-use Rattle.rules.proofs.Keeps.Trace.{over, over-same, Fell, Trace, heir-new, heir-old, rest-same}
+use Rattle.rules.proofs.Keeps.Trace.{over, over-same, Fell, Trace, parent-after-new, parent-after-old, rest-same}
 use Rattle.rules.proofs.Laws.Facts.{Facts, Taken, Lives, Other, lives-taken, not-ended, Sane}
 use Rattle.rules.proofs.Laws.Reach.{no-self}
 use Rattle.rules.proofs.Laws.Slots.{init-own, init-living}
 use Rattle.rules.proofs.Laws.Tests.{yes-or-no, same-or, no-so, isnt-so, right, both}
-use Rattle.rules.specs.Claims.{heir}
+use Rattle.rules.specs.Claims.{parent-after}
 use Rattle.rules.specs.Ends.{end, member-ends}
 use Rattle.rules.specs.Read.{View, child-of, init, is-init, living, taken, view}
 use Rattle.rules.proofs.Laws.Traits.{ended-again}
@@ -90,17 +90,17 @@ module _ (k from : ℕ) (P : ℕ → Type 0) (u : Table) (s : Sane u) (j : ℕ) 
   not-own : v .parent j ≡ j → ⊥
   not-own e = other (no-self (v .parent) process-slots j e (reaches v f j here))
 
-  member-parents : (i : ℕ) → Taken (view w) i → view w .parent i ≡ heir u w i
+  member-parents : (i : ℕ) → Taken (view w) i → view w .parent i ≡ parent-after u w i
   unfolding child-of
   member-parents i h =
-      by-case (λ i. Taken (view w) i → view w .parent i ≡ heir u w i) i
-      (λ e. subst (λ i. Taken (view w) i → view w .parent i ≡ heir u w i) (sym e) (λ h. ap (λ (p : Process). p .parent .0) member-self ∙ sym (heir-old u w j (λ a. lives-others _ not-own ∙ a))))
+      by-case (λ i. Taken (view w) i → view w .parent i ≡ parent-after u w i) i
+      (λ e. subst (λ i. Taken (view w) i → view w .parent i ≡ parent-after u w i) (sym e) (λ h. ap (λ (p : Process). p .parent .0) member-self ∙ sym (parent-after-old u w j (λ a. lives-others _ not-own ∙ a))))
       (λ o c h.
       let e : v .parent i ≡ j = eqb-true (v .parent i) j (right _ _ c) in
-      ap (λ (p : Process). p .parent .0) (member-child i (ne-eqb i j o) c) ∙ ap (λ p. init v (v .own p)) (sym e) ∙ sym (heir-new u w i (subst (Lives v) (sym e) l) (λ a. lives-self (subst (Lives (view w)) e a))))
+      ap (λ (p : Process). p .parent .0) (member-child i (ne-eqb i j o) c) ∙ ap (λ p. init v (v .own p)) (sym e) ∙ sym (parent-after-new u w i (subst (Lives v) (sym e) l) (λ a. lives-self (subst (Lives (view w)) e a))))
       (λ o c h.
       let d : v .parent i ≡ j → ⊥ = λ e. no-so c (both _ _ (sym (taken-same i) ∙ h) (eq-eqb _ j e)) in
-      ap (λ (p : Process). p .parent .0) (member-other i (ne-eqb i j o) c) ∙ sym (heir-old u w i (λ a. lives-others _ d ∙ a)))
+      ap (λ (p : Process). p .parent .0) (member-other i (ne-eqb i j o) c) ∙ sym (parent-after-old u w i (λ a. lives-others _ d ∙ a)))
       h
 
   -- the others' records are as they were, but for the parent

@@ -8,7 +8,7 @@ use borrow.Author.Tests.{eq-eqb, ne-eqb}
 use lib.Dec.{eqb}
 use lib.ListN.{getD}
 use Rattle.rules.proofs.Keeps.Changed.{stored, pick-same, process-count}
-use Rattle.rules.proofs.Keeps.Trace.{over, over-same, Trace, heir-old, rest-same}
+use Rattle.rules.proofs.Keeps.Trace.{over, over-same, Trace, parent-after-old, rest-same}
 use Rattle.rules.proofs.Laws.Facts.{Taken, Lives, lives-taken, not-ended, Sane}
 use Rattle.rules.proofs.Laws.Slots.{init-living}
 use Rattle.rules.proofs.Laws.Tests.{isnt-so}
@@ -73,7 +73,7 @@ module _ (k from : ℕ) (P : ℕ → Type 0) (u : Table) (s : Sane u) (j : ℕ) 
         ups = refl;
         levels = refl;
         stay = λ m h. (h, (refl, refl, λ o. inl refl));
-        parents = λ i h. field (λ p. p .parent .0) (ap (λ p. p .0) (kin .1)) i ∙ sym (heir-old u w i (λ a. living-same _ ∙ a));
+        parents = λ i h. field (λ p. p .parent .0) (ap (λ p. p .0) (kin .1)) i ∙ sym (parent-after-old u w i (λ a. living-same _ ∙ a));
         removed = λ i h o. absurd (o (taken-same i ∙ h));
         ended = λ i h o. rest-same w i _ (put-ended i h o);
         heads = λ m (a, o). absurd (o (living-same _ ∙ init-living (view u) (s .facts) m a));

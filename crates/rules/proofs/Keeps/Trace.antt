@@ -11,7 +11,7 @@ use Rattle.rules.proofs.Keeps.Fixed.{Shrinks, Stay, stay-trans}
 use Rattle.rules.proofs.Laws.Facts.{Facts, Taken, Lives, Stands, Below, Seen, Other, lives-taken, lives-or-ended, not-ended, seen-taken, seen-below, is-seen, Sane}
 use Rattle.rules.proofs.Laws.Slots.{alive-taken, alive-not-dead, living-own-alive, init-own, init-living}
 use Rattle.rules.proofs.Laws.Tests.{yes-or-no, no-so, isnt-so, left, right, both, not-iff}
-use Rattle.rules.specs.Claims.{heir}
+use Rattle.rules.specs.Claims.{parent-after}
 use Rattle.rules.specs.Read.{View, alive, below, climb, init, is-init, living, taken, view}
 use Rattle.table.specs.Slots.{init-of, is-alive, is-ended, is-unborn, no-pid, process}
 use Rattle.table.specs.Tests.{_and_, if_then_else_}
@@ -29,7 +29,7 @@ use Rattle.table.specs.Limits.{no-slot}
 abbrev pub over : ℕ → Process → Process
 over k q = if is-ended (q .state) then q else as-ended q (Signaled k)
 
--- the init of the living n ended on the way from t to u
+-- n fell on the way from t to u: it was alive, and its init has ended
 abbrev pub Fell : Table → Table → ℕ → Type 0
 Fell t u n = So (alive (view t) n) × (Lives (view u) (init (view t) n) → ⊥)
 
@@ -44,28 +44,28 @@ pub record Trace (k from : ℕ) (P : ℕ → Type 0) (t u : Table) : Type 0 wher
   pub ups : view u .up ≡ view t .up
   pub levels : view u .level ≡ view t .level
   pub stay : Stay (view t) (view u)
-  pub parents : (i : ℕ) → Taken (view u) i → view u .parent i ≡ heir t u i
+  pub parents : (i : ℕ) → Taken (view u) i → view u .parent i ≡ parent-after t u i
   pub removed : (i : ℕ) → Taken (view t) i → (Taken (view u) i → ⊥) → (m : ℕ) × Fell t u m × Seen (view t) m i × Seen (view t) m (view t .parent i)
   pub ended : (i : ℕ) → Taken (view u) i → (Lives (view u) i → ⊥) → process u i ≡ with-parent (over k (process t i)) (view u .parent i)
   pub heads : (m : ℕ) → Fell t u m → Head k from P (view t) m
 
--- ---- the parent then
+-- ---- the parent after
 
 module _ (t u : Table) (i : ℕ) where
   abbrev p : ℕ
   p = view t .parent i
 
-  pub heir-new : Lives (view t) p → (Lives (view u) p → ⊥) → heir t u i ≡ init (view t) (view t .own p)
-  unfolding heir
-  heir-new l o = let e : living (view t) p and not (living (view u) p) ≡ true = both _ _ l (not-iff _ .1 o) in rw e
+  pub parent-after-new : Lives (view t) p → (Lives (view u) p → ⊥) → parent-after t u i ≡ init (view t) (view t .own p)
+  unfolding parent-after
+  parent-after-new l o = let e : living (view t) p and not (living (view u) p) ≡ true = both _ _ l (not-iff _ .1 o) in rw e
 
-  pub heir-old : (Lives (view t) p → Lives (view u) p) → heir t u i ≡ p
-  unfolding heir
-  heir-old h = let e : living (view t) p and not (living (view u) p) ≡ false = isnt-so (λ x. not-iff _ .0 (right _ _ x) (h (left _ _ x))) in rw e
+  pub parent-after-old : (Lives (view t) p → Lives (view u) p) → parent-after t u i ≡ p
+  unfolding parent-after
+  parent-after-old h = let e : living (view t) p and not (living (view u) p) ≡ false = isnt-so (λ x. not-iff _ .0 (right _ _ x) (h (left _ _ x))) in rw e
 
   -- as before, or handed over
-  pub heir-cases : (Lives (view t) p × (Lives (view u) p → ⊥)) ⊎ (Lives (view t) p → Lives (view u) p)
-  heir-cases = go (living (view t) p) (living (view u) p) refl refl
+  pub parent-after-cases : (Lives (view t) p × (Lives (view u) p → ⊥)) ⊎ (Lives (view t) p → Lives (view u) p)
+  parent-after-cases = go (living (view t) p) (living (view u) p) refl refl
     where
       go : (a b : Bool) → living (view t) p ≡ a → living (view u) p ≡ b → (Lives (view t) p × (Lives (view u) p → ⊥)) ⊎ (Lives (view t) p → Lives (view u) p)
       go true true x y = inr (λ z. y)
@@ -133,11 +133,11 @@ module _ {k from : ℕ} {P : ℕ → Type 0} (t u : Table) (s : Sane t) (r : San
   parent-before m i h y =
       ⊎-elim
       (λ (l, o).
-      let q : view u .parent i ≡ init v (v .own (v .parent i)) = x .parents i h ∙ heir-new t u i l o in
+      let q : view u .parent i ≡ init v (v .own (v .parent i)) = x .parents i h ∙ parent-after-new t u i l o in
       let z = seen-below v m _ (seen-before m _ (subst (Seen (view u) m) q y)) in
       is-seen v m (v .parent i) (lives-taken v _ l) (subst (λ n. Below v n m) (init-own v f _ (living-own-alive v f _ l)) z))
-      (λ h'. seen-before m _ (subst (Seen (view u) m) (x .parents i h ∙ heir-old t u i h') y))
-      (heir-cases t u i)
+      (λ h'. seen-before m _ (subst (Seen (view u) m) (x .parents i h ∙ parent-after-old t u i h') y))
+      (parent-after-cases t u i)
 
 -- ---- one run after another
 
@@ -155,8 +155,8 @@ module _ {k from : ℕ} {P : ℕ → Type 0} (t u w : Table) (s : Sane t) (r : S
   taken-mid : (i : ℕ) → Taken (view w) i → Taken (view u) i
   taken-mid i h = shrinks u w r n y i h .0
 
-  both-parents : (i : ℕ) → Taken (view w) i → view w .parent i ≡ heir t w i
-  both-parents i h = ⊎-elim (λ (l, o). handed-over l o) (λ l. kept l) (heir-cases t u i)
+  both-parents : (i : ℕ) → Taken (view w) i → view w .parent i ≡ parent-after t w i
+  both-parents i h = ⊎-elim (λ (l, o). handed-over l o) (λ l. kept l) (parent-after-cases t u i)
     where
       p : ℕ
       p = view t .parent i
@@ -165,11 +165,11 @@ module _ {k from : ℕ} {P : ℕ → Type 0} (t u w : Table) (s : Sane t) (r : S
       q = view u .parent i
 
       -- its parent ended in the first run: the init that it went to lives on
-      handed-over : Lives (view t) p → (Lives (view u) p → ⊥) → view w .parent i ≡ heir t w i
-      handed-over l o = ⊎-elim (λ (a, b). absurd (b (alive-then a b))) (λ b. y .parents i h ∙ heir-old u w i b ∙ e ∙ sym (heir-new t w i l (λ z. o (y .lives _ z)))) (heir-cases u w i)
+      handed-over : Lives (view t) p → (Lives (view u) p → ⊥) → view w .parent i ≡ parent-after t w i
+      handed-over l o = ⊎-elim (λ (a, b). absurd (b (alive-then a b))) (λ b. y .parents i h ∙ parent-after-old u w i b ∙ e ∙ sym (parent-after-new t w i l (λ z. o (y .lives _ z)))) (parent-after-cases u w i)
         where
           e : q ≡ init (view t) (view t .own p)
-          e = x .parents i (taken-mid i h) ∙ heir-new t u i l o
+          e = x .parents i (taken-mid i h) ∙ parent-after-new t u i l o
 
           init-is : init (view t) (view t .own q) ≡ q
           init-is = ap (λ j. init (view t) (view t .own j)) e ∙ ap (init (view t)) (init-own (view t) (s .facts) (view t .own p) (living-own-alive (view t) (s .facts) p l)) ∙ sym e
@@ -178,17 +178,17 @@ module _ {k from : ℕ} {P : ℕ → Type 0} (t u w : Table) (s : Sane t) (r : S
           other z = omega (arith, s .facts .in-range p (lives-taken (view t) p l), ap (view t .parent) z, s .facts .root-parent)
 
           alive-then : Lives (view u) q → (Lives (view w) q → ⊥) → Lives (view w) q
-          alive-then a b = subst (Lives (view w)) (y .parents i h ∙ heir-new u w i a b ∙ init-still t u s r x q a ∙ init-is) (n .facts .parents i h other .0 .0)
+          alive-then a b = subst (Lives (view w)) (y .parents i h ∙ parent-after-new u w i a b ∙ init-still t u s r x q a ∙ init-is) (n .facts .parents i h other .0 .0)
 
-      kept : (Lives (view t) p → Lives (view u) p) → view w .parent i ≡ heir t w i
+      kept : (Lives (view t) p → Lives (view u) p) → view w .parent i ≡ parent-after t w i
       kept l =
           ⊎-elim
-          (λ (a, b). y .parents i h ∙ heir-new u w i a b ∙ init-still t u s r x q a ∙ ap (λ j. init (view t) (view t .own j)) e ∙ sym (heir-new t w i (x .lives p (subst (Lives (view u)) e a)) (λ z. b (subst (Lives (view w)) (sym e) z))))
-          (λ b. y .parents i h ∙ heir-old u w i b ∙ e ∙ sym (heir-old t w i (λ a. subst (Lives (view w)) e (b (subst (Lives (view u)) (sym e) (l a))))))
-          (heir-cases u w i)
+          (λ (a, b). y .parents i h ∙ parent-after-new u w i a b ∙ init-still t u s r x q a ∙ ap (λ j. init (view t) (view t .own j)) e ∙ sym (parent-after-new t w i (x .lives p (subst (Lives (view u)) e a)) (λ z. b (subst (Lives (view w)) (sym e) z))))
+          (λ b. y .parents i h ∙ parent-after-old u w i b ∙ e ∙ sym (parent-after-old t w i (λ a. subst (Lives (view w)) e (b (subst (Lives (view u)) (sym e) (l a))))))
+          (parent-after-cases u w i)
         where
           e : q ≡ p
-          e = x .parents i (taken-mid i h) ∙ heir-old t u i l
+          e = x .parents i (taken-mid i h) ∙ parent-after-old t u i l
 
   both-ended : (i : ℕ) → Taken (view w) i → (Lives (view w) i → ⊥) → process w i ≡ with-parent (over k (process t i)) (view w .parent i)
   both-ended i h o = ⊎-elim alive-mid (λ e. y .ended i h o ∙ ap (λ z. with-parent (over k z) (view w .parent i)) (x .ended i (taken-mid i h) (no-so e)) ∙ over-twice k (process t i) _ _) (yes-or-no (living (view u) i))
@@ -233,7 +233,7 @@ module _ {k from : ℕ} {P : ℕ → Type 0} (t u w : Table) (s : Sane t) (r : S
 
 -- ---- a record in no subtree that fell
 
--- the process at i lies in a subtree that fell on the way from t to u
+-- the process at i lies in the subtree of a namespace that fell
 abbrev pub InFell : Table → Table → ℕ → Type 0
 InFell t u i = (m : ℕ) × Fell t u m × Seen (view t) m i
 
@@ -264,7 +264,7 @@ trace-refl k from P t s =
       ups = refl;
       levels = refl;
       stay = λ m h. (h, (refl, refl, λ o. inl refl));
-      parents = λ i h. sym (heir-old t t i (λ l. l));
+      parents = λ i h. sym (parent-after-old t t i (λ l. l));
       removed = λ i h o. absurd (o h);
       ended = λ i h o. rest-same t i _ (sym (over-same k t i h o));
       heads = λ m (a, o). absurd (o (init-living (view t) (s .facts) m a));

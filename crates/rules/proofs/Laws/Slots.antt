@@ -60,8 +60,8 @@ module _ (v : View) (f : Facts v) where
   up-taken n k e = f .tree n (deep-namespace v n k e) (not-root v f n k e) .0 .0
 
   -- an unborn namespace has none below it
-  pub no-heirs : (n m k : ℕ) → So (unborn v n) → v .level m ≡ suc k → v .up m ≡ n → ⊥
-  no-heirs n m k h e q = f .unborn-leaf n (subst (λ y. So (namespace-taken v y)) q (up-taken m k e)) h m (deep-namespace v m k e) (not-root v f m k e) q
+  pub none-below-unborn : (n m k : ℕ) → So (unborn v n) → v .level m ≡ suc k → v .up m ≡ n → ⊥
+  none-below-unborn n m k h e q = f .unborn-leaf n (subst (λ y. So (namespace-taken v y)) q (up-taken m k e)) h m (deep-namespace v m k e) (not-root v f m k e) q
 
   -- ---- parents of namespaces, many at once
 
@@ -142,7 +142,7 @@ module _ (v : View) (f : Facts v) where
       not-dead false h = refl
 
       not-unborn : (b : Bool) → unborn v (v .up n) ≡ b → b ≡ false
-      not-unborn true h = absurd (no-heirs (v .up n) n k h e refl)
+      not-unborn true h = absurd (none-below-unborn (v .up n) n k h e refl)
       not-unborn false h = refl
 
   pub alive-up-by : (m n : ℕ) → So (alive v n) → m ≤ v .level n → So (alive v (up-by (v .up) m n))
