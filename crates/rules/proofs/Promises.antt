@@ -14,7 +14,7 @@ use Rattle.rules.proofs.Keeps.Spared as Spared
 use Rattle.rules.proofs.Keeps.Waited as Waited
 use Rattle.rules.specs.Claims.{RefusalLeaves, AnswersListed, KeepsSound, NamespaceFixed, NumbersKept, NamespacesKept, NumberFresh, CloneTells, ChildrenTurn, SignalsOnly, WaitExact, SignalFinds, SignalExact, InitSpared, SubtreeFalls, EndExact, MemberEndExact}
 
--- ---- demand 1
+-- ---- promise 1
 
 -- A refusal leaves the whole table unchanged and tells the host no slot.
 pub refusal-leaves : RefusalLeaves
@@ -24,7 +24,7 @@ refusal-leaves = Refusals.refusal-leaves
 pub answers-listed : AnswersListed
 answers-listed = Lines.answers-listed
 
--- ---- demand 2
+-- ---- promise 2
 
 -- Each call leaves a sound table sound.
 pub keeps-sound : KeepsSound

@@ -1,4 +1,4 @@
--- The promises, as types: a value of such a type is a proof.
+-- The promises, as types: a value of such a type is a proof. (Document 01 calls the promises demands.)
 use Prim.Native.Nat.{ℕ, _<_, _≤_}
 use mathlib.Core.Bool.{Bool, not, So}
 use mathlib.Core.Logic.{_↔_, _⊎_}
@@ -32,7 +32,7 @@ use Rattle.table.specs.Records.{with-state, with-parent, with-children, with-tr
 abbrev pub after : Table → ℕ → Call → Table
 after t c call = step t c call .table
 
--- ---- demand 1: an answer for each call, and what a refusal leaves
+-- ---- promise 1: an answer for each call, and what a refusal leaves
 
 -- A refusal, an answer below 0, leaves the whole table unchanged and tells the host no slot.
 unfoldable pub RefusalLeaves : Type 0
@@ -47,13 +47,13 @@ AnswersListed =
     (t : Table) (c : ℕ) (call : Call) → So (shaped t)
     → below-0 (number-of (step t c call .reply .answer)) ≡ first (rows t c call)
 
--- ---- demand 2: soundness
+-- ---- promise 2: soundness
 
 -- Each call leaves a sound table sound.
 unfoldable pub KeepsSound : Type 0
 KeepsSound = (t : Table) (c : ℕ) (call : Call) → SoundTable t → SoundTable (after t c call)
 
--- ---- demand 2: namespaces, slots and numbers
+-- ---- promise 2: namespaces, slots and numbers
 
 -- A process never changes namespace. (No call frees a slot and gives it away again.)
 unfoldable pub NamespaceFixed : Type 0
@@ -141,7 +141,7 @@ pub record CloneTells : Type 0 where
       (t : Table) (c : ℕ) (call : Call) → (call ≡ Clone → ⊥) → (call ≡ CloneNew → ⊥)
       → step t c call .reply .child .0 ≡ no-slot
 
--- ---- demand 2: the caller's own record
+-- ---- promise 2: the caller's own record
 
 -- The caller's children are born into n from now on, by a call that took t to u, and no other record changes; a namespace
 -- but those that the call made is as it was, or it is freed, since nobody holds it any more.
@@ -180,7 +180,7 @@ pub record SignalsOnly : Type 0 where
   pub by-handle : (t : Table) (c : ℕ) (s : ℤ) (on : Bool) → SoundTable t → OwnSignals t (after t c (Handle s on)) c
   pub by-poll : (t : Table) (c : ℕ) → SoundTable t → OwnSignals t (after t c Poll) c
 
--- ---- demand 2: wait
+-- ---- promise 2: wait
 
 -- the process at i is an ended child of the caller
 abbrev pub ended-child : View → ℕ → ℕ → Bool
@@ -210,7 +210,7 @@ pub record WaitExact : Type 0 where
   -- No other call says how a process ended.
   pub no-other : (t : Table) (c : ℕ) (call : Call) → (call ≡ Wait → ⊥) → end-of (step t c call .reply .answer) ≡ none
 
--- ---- demand 2: signals
+-- ---- promise 2: signals
 
 -- A signal finds exactly the processes of the caller's namespace and those below: who is found, and that nobody's record
 -- changes whom the caller does not see.
@@ -281,7 +281,7 @@ InitSpared =
     → (number-of (step t c (Kill (pos 1) (pos sigkill)) .reply .answer) ≡ pos 0)
     × (after t c (Kill (pos 1) (pos sigkill)) ≡ t)
 
--- ---- demand 2: ends
+-- ---- promise 2: ends
 
 -- A namespace's first process takes its whole subtree down: after a call in which the init of a living n ended, every
 -- process of the subtree is ended or removed, and every namespace of it is dead or freed.

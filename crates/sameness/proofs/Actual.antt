@@ -1,4 +1,4 @@
--- Demand 3 is not empty: tables and lists to which it applies; how rows name namespaces; for each of the four touches a
+-- Promise 3 is not empty: tables and lists to which it applies; how rows name namespaces; for each of the four touches a
 -- call by which the sheet changes; and two tables on which the lack of room makes the answers differ. By computation.
 use Prim.Native.Nat.{ℕ, _-_}
 use mathlib.Core.Bool.{Bool, true, So}

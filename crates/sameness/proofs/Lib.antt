@@ -1,10 +1,10 @@
--- Demand 3, from the statement down: the two lists, each call, what changes, what corresponds.
+-- Promise 3, from the statement down: the two lists, each call, what changes, what corresponds.
 
 -- tables, lists and sheets by computation
 pub mod Open
 pub mod Actual
 -- one induction over the two lists of calls
-pub mod Demand3
+pub mod Promise3
 -- the end of S: its processes are refused, and it stays while nobody touches it
 pub mod Stays
 -- what is to prove of a call by two callers with the same number in S, and by an outsider; and of each
@@ -34,5 +34,5 @@ pub mod Anchor
 pub mod Same
 pub mod Names
 pub mod Cases
--- where demand 3 applies
+-- where promise 3 applies
 pub mod Applies

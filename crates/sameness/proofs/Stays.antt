@@ -22,7 +22,7 @@ use Rattle.rules.proofs.Laws.Tests.{isnt-so, left, no-so, right, yes-or-no}
 use Rattle.rules.proofs.Laws.Tree.{below-refl}
 use Rattle.rules.proofs.Promises.{children-turn, clone-tells, end-exact, keeps-sound, member-end-exact, namespaces-kept, numbers-kept, refusal-leaves, signal-exact, signals-only, wait-exact}
 use Rattle.sameness.proofs.Cases.{by-equal}
-use Rattle.sameness.proofs.Demand3.{outside-leaves}
+use Rattle.sameness.proofs.Promise3.{outside-leaves}
 use Rattle.sameness.proofs.Names.{getD-values}
 use Rattle.sameness.proofs.Readers.{find-none}
 use Rattle.sameness.proofs.Same.{level-lt, row-pid, same-of-sheets}

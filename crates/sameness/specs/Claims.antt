@@ -1,4 +1,4 @@
--- Demand 3 as types: a value of such a type is a proof.
+-- Promise 3 as types: a value of such a type is a proof.
 use Prim.Native.Nat.{ℕ}
 use mathlib.Core.Bool.{Bool, true, false, not, So}
 use mathlib.Core.List.{List, [], _∷_}

@@ -1,1 +1,1 @@
-// The sheet of a namespace as definitions (specs/), and demand 3 (proofs/). It has no code.
+// The sheet of a namespace as definitions (specs/), and promise 3 (proofs/). It has no code.

@@ -1,4 +1,4 @@
--- Demand 3: one induction over the two lists of calls, from what single calls do; and its corollary that people will
+-- Promise 3: one induction over the two lists of calls, from what single calls do; and its corollary that people will
 -- quote, that nothing is learnt inside of what stands outside.
 use Prim.Native.Nat.{ℕ}
 use native.Mathlib.Omega.{arith}
@@ -239,7 +239,7 @@ both-lists (inside k c ∷ es) fs t u p q = first k c es (λ t′ u′ p′ q′
 both-lists (outside i c ∷ es) fs t u p q =
     outside-first t u p q i c es fs (both-lists es fs (next-table t p (outside i c)) u (next-place t p (outside i c)) q)
 
--- demand 3
+-- promise 3
 pub sameness : Sameness
 unfolding Sameness sheet-of
 sameness t u s r h g a b e es fs i x y =
