@@ -17,7 +17,8 @@ pub record Carries (t : Line) (l : List ℕ) : Type 0 where
   pub size : t .len ≡ min carried (length l)
   pub holds : take (t .len) (t .bytes) ≡ take carried l
 
--- A line as it is taken in: a length above 65 counts as 65. So cut, every line carries something (`Carrying.carries-own`).
+-- A line as it is taken in: a length above 65 counts as 65. So cut, every line carries something (`carries-own` of
+-- proofs/Carrying.antt).
 abbrev pub cut : Line → Line
 cut t = record { bytes = t .bytes; len = min carried (t .len) }
 

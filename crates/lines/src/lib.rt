@@ -81,7 +81,7 @@ pub fn take_line(line: Line, chunk: &[u8], from: usize) -> Taken
     }
 }
 
-// Reads a line that is carried. With `Carrying.carried-read`: as if it stood there whole.
+// Reads a line that is carried: as if it stood there whole, as `carried-read` of proofs/Carrying.antt shows.
 pub fn read(line: Line) -> Parsed
     ensures { λ r. ⌜ r ≡ read-line (take (line .len) (line .bytes)) ⌝ }
 {

@@ -141,7 +141,8 @@ unfoldable pub children-namespaces : View → Bool
 children-namespaces v =
     each-process v (λ i. living v i implies namespace-taken v (children v i) and below v (children v i) (v .own i))
 
--- Handled signals are within 1 to 31 without 9 and 19; pending ones are among the handled. (table/specs/Traits)
+-- Handled signals are within 1 to 31 without 9 and 19; pending ones are among the handled. (`traits-ok` of `table`'s
+-- specs/Traits.antt)
 unfoldable pub process-traits : View → Bool
 process-traits v = each-process v (λ i. traits-ok (v .traits i))
 

@@ -1,5 +1,5 @@
-// The process table: its types, the fresh table, and how a record is read and put. Document 01 as definitions stands
-// in specs/.
+// The process table: its types, the fresh table, and how a record is read and put. Document 01 as definitions begins
+// in specs/, and goes on in the specs/ of `rules` and `sameness`.
 ghost use mathlib.Core.Path.{_≡_};
 ghost use mathlib.Core.Bool.{not};
 ghost use lib.Dec.{eqb};
@@ -128,7 +128,7 @@ pub enum Call {
     Poll,
 }
 
-// Why a call was refused, in the order in which the reasons are tried. specs/Answers.antt gives their numbers.
+// Why a call was refused, in the order in which the reasons are tried. `rules`' specs/Answers.antt gives their numbers.
 pub enum Refusal {
     Unsound,
     NotRunning,
