@@ -1,4 +1,5 @@
--- Signed numbers and their bits. What the code holds is `toZ w (ofZ w z)`, which is z where z fits (`toZ-ofZ`); the laws are on z itself.
+-- Signed numbers and their bits. What the code holds is `toZ w (ofZ w z)`, which is z where z fits (`toZ-ofZ`); the
+-- laws are on z itself.
 use Prim.Native.Nat.{ℕ, zero, suc, _<_, _≤_, _%_, _-_}
 use native.Mathlib.Omega.{arith}
 use mathlib.Core.Bool.{Bool, true, false, not, true≢false}

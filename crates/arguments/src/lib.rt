@@ -15,7 +15,7 @@ const SIGKILL: u32 = table::SIGKILL as u32;
 
 const SIGSTOP: u32 = table::SIGSTOP as u32;
 
-// The number, or 0 for one below 0.
+// The number, or 0 for one below 0: nobody has the number 0, and where a signal is meant one below 0 is refused first.
 pub fn natural_of(n: i32) -> u32
     ensures { λ r. ⌜ r ≡ natural n ⌝ }
 {
@@ -66,7 +66,7 @@ pub fn is_signal(s: i32) -> bool
     natural_of(s) < SIGNALS
 }
 
-// What handle refuses: not 1 to 31, or 9 or 19.
+// What handle refuses: not 1 to 31, or 9 or 19. (One below 0 counts as 0 here, and 0 is refused too.)
 pub fn cannot_handle(s: i32) -> bool
     ensures { λ r. ⌜ r ≡ (not (within 1 signals s) or eqb (natural s) sigkill or eqb (natural s) sigstop) ⌝ }
 {
@@ -83,7 +83,8 @@ pub fn cannot_handle(s: i32) -> bool
     k == SIGSTOP
 }
 
-// The signal itself, once it has passed one of the two tests; of another number the low eight bits.
+// The signal itself, once it has passed one of the two tests: then it is below 32 and the remainder changes nothing. Of
+// another number, which no call passes on, the low eight bits.
 pub fn signal_of(s: i32) -> u8
     ensures { λ r. ⌜ r ≡ natural s % 256 ⌝ }
 {

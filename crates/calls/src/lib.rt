@@ -23,7 +23,7 @@ ghost use Rattle.rules.specs.Read.{view};
 ghost use Rattle.rules.specs.Sound.{sound};
 ghost use Rattle.rules.specs.Step.{runs, make as make-of, step as step-of};
 
-// A call by a caller that may call.
+// A call by a caller that may call. (Of another one nothing is said: `step` refuses it before.)
 fn make(t: Table, caller: ProcSlot, call: Call) -> Outcome
     ensures { λ r. ⌜ (So (sound t) → So (runs (view t) (caller .0)) → r ≡ make-of t (caller .0) call) ⌝ }
 {

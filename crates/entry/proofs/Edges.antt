@@ -1,5 +1,5 @@
--- What `Applied` comes to on tables that can be computed: the answer is the caller's own, the table that was lent is the
--- one after the call, and a refusal leaves it. By computation.
+-- What `Applied` comes to on tables that can be computed: the answer is the caller's own, the table that was lent is
+-- the one after the call, and a refusal leaves it. By computation.
 use Prim.Native.Nat.{ℕ}
 use mathlib.Core.Option.{none}
 use mathlib.Core.Path.{_≡_, ap}

@@ -35,12 +35,14 @@ fn handling(p: Process, s: u8, on: bool) -> Process
     Process { traits: y, ..p }
 }
 
+// The refusals of handle, before anything is read of the table.
 fn may_handle(s: i32) -> Verdict
     ensures { λ r. ⌜ r ≡ verdict (handle-refusals s) ⌝ }
 {
     refuse_if(cannot_handle(s), Refusal::Einval, Verdict::Granted)
 }
 
+// handle s on or off. (`step` has seen that the caller runs, so its slot is one of the table's.)
 pub fn handle(t: Table, caller: ProcSlot, s: i32, on: bool) -> Outcome
     ensures { λ r. ⌜ r ≡ handle-of t (caller .0) s on ⌝ }
 {
@@ -53,6 +55,7 @@ pub fn handle(t: Table, caller: ProcSlot, s: i32, on: bool) -> Outcome
     answers(t.with_process(caller, q), 0)
 }
 
+// poll refuses nothing: where no signal is pending the lowest is 32, which is none, and the answer is 0.
 pub fn poll(t: Table, caller: ProcSlot) -> Outcome
     ensures { λ r. ⌜ r ≡ poll-of t (caller .0) ⌝ }
 {

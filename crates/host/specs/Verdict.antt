@@ -1,4 +1,5 @@
--- What a host is told of an image: 1 for a sound table, 0 for any other, 2 where the words are not as many as an image has.
+-- What a host is told of an image: 1 for a sound table, 0 for any other, 2 where the words are not as many as an image
+-- has.
 use Prim.Native.Nat.{ℕ}
 use mathlib.Core.Bool.{true, false}
 use mathlib.Core.List.{List}

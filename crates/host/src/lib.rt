@@ -38,8 +38,8 @@ fn line_count(script: &[u8]) -> usize
     count
 }
 
-// Runs a whole script from the fresh table and writes its answers to the start of `out`. Tells how many bytes they are, or
-// SHORT where `out` has less room than the lines may need; then it is as before.
+// Runs a whole script from the fresh table and writes its answers to the start of `out`. Tells how many bytes they are,
+// or SHORT where `out` has less room than the lines may need; then it is as before.
 #[no_mangle]
 pub extern "C" fn lampfunnel_run(script: &[u8], out: &mut [u8]) -> usize
     ensures { λ r. ⌜ (r ≡ told (now (script .entry)) (length (now (out .entry)))) × (now (out .exit) ≡ filled (now (script .entry)) (now (out .entry))) ⌝ }

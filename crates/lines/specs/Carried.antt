@@ -1,5 +1,5 @@
--- What is carried of an open line: its first 65 bytes. That is one more than a good line may have, so a line that is too long is
--- still seen to be.
+-- What is carried of an open line: its first 65 bytes. That is one more than a good line may have, so a line that is
+-- too long is still seen to be.
 use Prim.Native.Nat.{ℕ, _≤_, _<_, min, max}
 use mathlib.Core.Bool.{true, false}
 use mathlib.Core.List.{List, [], _∷_}
@@ -22,8 +22,8 @@ pub record Carries (t : Line) (l : List ℕ) : Type 0 where
 abbrev pub cut : Line → Line
 cut t = record { bytes = t .bytes; len = min carried (t .len) }
 
--- Of the bytes of a chunk after place `from`, with l before them, the first line has ended: it is `line`, and the rest of the lines are
--- those after place `at`.
+-- Of the bytes of a chunk after place `from`, with l before them, the first line has ended: it is `line`, and the rest
+-- of the lines are those after place `at`.
 pub record Line-ended (l chunk : List ℕ) (from : ℕ) (r : Taken) : Type 0 where
   pub line : List ℕ
   pub carries : Carries (r .line) line

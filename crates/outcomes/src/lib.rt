@@ -16,7 +16,8 @@ pub enum Verdict {
     Refused(Refusal),
 }
 
-// One more refusal, before those that came to `rest`: a call's last one is written first.
+// One more refusal, before those that came to `rest`: a call's last one is written first. So all its tests are made,
+// also where an earlier one holds; none changes anything.
 pub fn refuse_if(test: bool, why: Refusal, rest: Verdict) -> Verdict
     ensures { λ r. ⌜ r ≡ (if test then Verdict.Refused why else rest) ⌝ }
 {

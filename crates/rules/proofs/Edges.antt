@@ -1,5 +1,5 @@
--- "Edges to try": the ten lines, every starred edge and the room for processes and namespaces; an edge for each shortcut
--- that looks harmless; the kinds of delivery; and what no answer shows. By computation.
+-- "Edges to try": the ten lines, every starred edge and the room for processes and namespaces; an edge for each
+-- shortcut that looks harmless; the kinds of delivery; and what no answer shows. By computation.
 use Prim.Native.Nat.{ℕ, zero, suc}
 use mathlib.Core.Bool.{Bool, true, false, So}
 use mathlib.Core.List.{List, [], _∷_, _++_, map}
@@ -144,8 +144,8 @@ edges =
     )
     -- unshare, clone, child exits, clone: -12
     ∷ (fresh, (0, Unshare, says 0) ∷ (0, Clone, says 2) ∷ (1, Exit (pos 0), says 0) ∷ (0, Clone, refuses 12) ∷ [])
-    -- unshare and clone new give -22 while the children's namespace isn't the own one (W-203): an unborn one; after setns
-    -- back to the own one both are granted again
+    -- unshare and clone new give -22 while the children's namespace isn't the own one (W-203): an unborn one; after
+    -- setns back to the own one both are granted again
     ∷ (
       fresh,
       (0, Unshare, says 0)
@@ -171,8 +171,8 @@ edges =
           ∷ (0, Unshare, says 0)
           ∷ [],
     )
-    -- unshare: the caller stays where it is, its next child is the init of the new namespace, and the one after a member;
-    -- handle between them leaves that as it is
+    -- unshare: the caller stays where it is, its next child is the init of the new namespace, and the one after a
+    -- member; handle between them leaves that as it is
     ∷ (
       fresh,
       (0, Unshare, says 0)
@@ -306,8 +306,8 @@ edges =
           ∷ (1, Poll, says 0)
           ∷ [],
     )
-    -- 9 and 19 to an inner init: nothing from within, by a member and by itself; 15 nothing from above too; 19 from above
-    -- stops it, 18 resumes it, and 9 from above ends it
+    -- 9 and 19 to an inner init: nothing from within, by a member and by itself; 15 nothing from above too; 19 from
+    -- above stops it, 18 resumes it, and 9 from above ends it
     ∷ (
       fresh,
       (0, CloneNew, says 2)

@@ -1,5 +1,5 @@
--- "Edges to try", with the check of the table before each call: each call leaves a sound table sound, so the answers are
--- those that Edges.antt computes.
+-- "Edges to try", with the check of the table before each call: each call leaves a sound table sound, so the answers
+-- are those that Edges.antt computes.
 use Prim.Native.Nat.{ℕ}
 use mathlib.Core.Bool.{So}
 use mathlib.Core.List.{List, [], _∷_}

@@ -58,7 +58,8 @@ children-turn = Own.children-turn
 pub signals-only : SignalsOnly
 signals-only = Own.signals-only
 
--- A wait removes exactly one, the caller's ended child with the lowest number, and says how it ended; no other call does.
+-- A wait removes exactly one, the caller's ended child with the lowest number, and says how it ended; no other call
+-- does.
 pub wait-exact : WaitExact
 wait-exact = Waited.wait-exact
 

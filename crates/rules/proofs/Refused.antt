@@ -1,5 +1,5 @@
 -- No sentence of soundness is empty: for each, tables that it alone refuses, by computation. Two sentences follow from
--- the others, so no table is refused by them alone: "all below a dead one are dead" and "none belongs to an unborn one".
+-- the others, so they alone refuse no table: "all below a dead one are dead" and "none belongs to an unborn one".
 use Prim.Native.Nat.{ℕ, zero, suc, _^_}
 use mathlib.Core.Bool.{Bool, true, false}
 use mathlib.Core.List.{List, [], _∷_, map, _++_}

@@ -143,8 +143,8 @@ pub record CloneTells : Type 0 where
 
 -- ---- promise 2: the caller's own record
 
--- The caller's children are born into n from now on, by a call that took t to u, and no other record changes; a namespace
--- but those that the call made is as it was, or it is freed, since nobody holds it any more.
+-- The caller's children are born into n from now on, by a call that took t to u, and no other record changes; a
+-- namespace but those that the call made is as it was, or it is freed, since nobody holds it any more.
 pub record Turned (t u : Table) (c n : ℕ) : Type 0 where
   pub caller : process u c ≡ with-children (process t c) n
   pub others : (i : ℕ) → (i ≡ c → ⊥) → process u i ≡ process t i
@@ -212,8 +212,8 @@ pub record WaitExact : Type 0 where
 
 -- ---- promise 2: signals
 
--- A signal finds exactly the processes of the caller's namespace and those below: who is found, and that nobody's record
--- changes whom the caller does not see.
+-- A signal finds exactly the processes of the caller's namespace and those below: who is found, and that nobody's
+-- record changes whom the caller does not see.
 pub record SignalFinds : Type 0 where
   pub finds :
       (t : Table) (c i : ℕ) (n : ℤ) → SoundTable t → So (runs (view t) c)
@@ -308,7 +308,7 @@ pub record EndsExactly (t u : Table) (c : ℕ) (e : End) : Type 0 where
   -- Nobody outside the subtree is ended, or changed at all.
   pub outside : (i : ℕ) → (So (seen (view t) (view t .own c) i) → ⊥) → process u i ≡ process t i
 
--- An init other than the root's ends so by its exit, and by a signal 9 that one in a namespace above sends it by number.
+-- An init other than the root's ends so by its exit, and by a signal 9 sent to it by number from a namespace above.
 pub record EndExact : Type 0 where
   pub by-exit :
       (t : Table) (c : ℕ) (s : ℤ) → SoundTable t → So (runs (view t) c) → So (is-init (view t) c) → (c ≡ 0 → ⊥)

@@ -28,8 +28,8 @@ default-action s =
 
 -- What signal s, sent by a process whose own namespace is `from`, does to the process at i.
 -- Signal 0 and ended targets: nothing. 18 resumes. 9 ends, 19 stops. Any other: if handled, it becomes pending; if not,
--- the default. To an init an unhandled signal does nothing but 18's resuming; 9 and 19 act only if sent from a namespace
--- above (001).
+-- the default. To an init an unhandled signal does nothing but 18's resuming; 9 and 19 act only if sent from a
+-- namespace above (001).
 unfoldable pub action-on : View → ℕ → ℕ → ℕ → Action
 action-on v from i s =
     if eqb s 0 or not (living v i) then Nothing

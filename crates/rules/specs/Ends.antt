@@ -25,7 +25,7 @@ member-ends v p e i q =
 -- An init: every process in the subtree not yet ended is ended by signal 9 (the init keeps its own reason), and all
 -- whose parent is inside the subtree, ended before or now, are removed; the others stay for their outside parent.
 -- (A member that is itself an init takes its own namespace down by the same rule: its subtree lies inside this one, and
--- signal 9 is its reason too, so one pass over the subtree says it.)
+-- signal 9 is its reason too, so one pass over the subtree says it, and nothing has to be done again for those below.)
 unfoldable pub init-ends : View → ℕ → End → ℕ → Process → Process
 init-ends v p e i q =
     if not (seen v (v .own p) i) then q

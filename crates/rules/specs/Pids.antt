@@ -10,7 +10,9 @@ use Rattle.table.specs.Tests.{_and_, if_then_else_, any, lowest}
 unfoldable pub free-pid : View → ℕ → ℕ → Bool
 free-pid v n k = not (any process-slots (λ i. seen v n i and eqb (pid-seen v n i) k))
 
--- The lowest free number above the namespace's last; if there is none up to 32,767, the lowest free from 300 (as Linux).
+-- The lowest free number above the namespace's last; if there is none up to 32,767, the lowest free from 300 (as
+-- Linux). (The first search tries all numbers above the last, the second all from 300 on, to 32,767. These are more
+-- than 64 processes can have, so the second one finds one.)
 unfoldable pub next-pid : View → ℕ → ℕ
 next-pid v n =
     let k = lowest (free-pid v n) (greatest-pid - v .last n) (suc (v .last n)) in

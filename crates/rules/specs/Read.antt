@@ -99,16 +99,18 @@ unfoldable pub climb : (ℕ → ℕ) → ℕ → ℕ → ℕ → Bool
 climb up zero a b = eqb a b
 climb up (suc k) a b = elim (eqb a b) [ true ↦ true | false ↦ climb up k (up a) b ]
 
--- a lies in the subtree of b
+-- a lies in the subtree of b. (In a sound table each parent is one level up, so from a the root is as many parents away
+-- as a's level says: a climb of so many passes all that lie above.)
 unfoldable pub below : View → ℕ → ℕ → Bool
 below v a b = climb (v .up) (v .level a) a b
 
--- k parents up from n
+-- k parents up from n: all k steps are made
 unfoldable pub up-by : (ℕ → ℕ) → ℕ → ℕ → ℕ
 up-by up zero n = n
 up-by up (suc k) n = up-by up k (up n)
 
--- the namespace at level l that is n or above it
+-- the namespace at level l that is n or above it: as many parents up as there are levels between (of a level further
+-- down than n's, n itself)
 unfoldable pub above-at : View → ℕ → ℕ → ℕ
 above-at v n l = up-by (v .up) (v .level n - l) n
 

@@ -125,6 +125,8 @@ reaches-root parent zero i = eqb i 0
 reaches-root parent (suc k) i = elim (eqb i 0) [ true ↦ true | false ↦ reaches-root parent k (parent i) ]
 
 -- Each parent is not ended, its own namespace is the child's or above it, and following parents reaches slot 0.
+-- (As many parents as there are slots are enough: a way that passes more comes to some slot twice, and goes round in a
+-- circle for ever.)
 unfoldable pub parents : View → Bool
 parents v =
     each-other-process v

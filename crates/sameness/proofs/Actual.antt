@@ -1,5 +1,5 @@
--- Promise 3 is not empty: tables and lists to which it applies; how rows name namespaces; for each of the four touches a
--- call by which the sheet changes; and two tables on which the lack of room makes the answers differ. By computation.
+-- Promise 3 is not empty: tables and lists to which it applies; how rows name namespaces; for each of the four touches
+-- a call by which the sheet changes; and two tables on which the lack of room makes the answers differ. By computation.
 use Prim.Native.Nat.{ℕ, _-_}
 use mathlib.Core.Bool.{Bool, true, So}
 use mathlib.Core.List.{List, [], _∷_, _++_, map}
@@ -44,8 +44,8 @@ row-with ks state parent own children last =
 abbrev lone-init : Sheet
 lone-init = record { level = 1; rows = row-with (1 ∷ []) Running 0 (by-init 1) (by-init 1) 1 ∷ [] }
 
--- the same inside calls, by a stopped and by an ended process too, and one by nobody; with other calls between, of which
--- one is the ordinary end of the outside parent
+-- the same inside calls, by a stopped and by an ended process too, and one by nobody; with other calls between, of
+-- which one is the ordinary end of the outside parent
 abbrev pub some-calls : List Event
 some-calls =
     inside 1 Clone ∷ outside 0 Clone ∷ inside 2 Getppid ∷ inside 1 (Kill (pos 2) (pos 19)) ∷ inside 2 Getpid
@@ -93,7 +93,8 @@ ended = (refl, refl)
 
 -- ---- how a row names a namespace
 
--- S with a process whose children's namespace is unborn, and one whose own namespace is dead: that of the init's children
+-- S with a process whose children's namespace is unborn, and one whose own namespace is dead: that of the init's
+-- children
 abbrev named-all : Table
 named-all =
     after fresh

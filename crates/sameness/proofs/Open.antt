@@ -1,4 +1,4 @@
--- For facts that are computed: a proof that says `unfolding sheets` opens each definition of this crate that its line names.
+-- For computed facts: a proof that says `unfolding sheets` opens each definition of this crate that its line names.
 use Rattle.sameness.specs.Claims as Claims
 use Rattle.sameness.specs.Events as Events
 use Rattle.sameness.specs.Sheet as Sheet

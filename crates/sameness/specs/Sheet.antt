@@ -36,7 +36,8 @@ pub record Sheet : Type 0 where
   pub level : ℕ
   pub rows : List Row
 
--- the nearest living namespace, n or above it, at most k parents up
+-- the nearest living namespace, n or above it, at most k parents up (as many as n's level says lead to the
+-- root, which lives)
 unfoldable pub nearest : (ℕ → Life) → (ℕ → ℕ) → ℕ → ℕ → ℕ
 nearest life up zero n = n
 nearest life up (suc k) n = elim (is-alive (life n)) [ true ↦ n | false ↦ nearest life up k (up n) ]

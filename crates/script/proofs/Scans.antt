@@ -1,5 +1,5 @@
--- The reader's three loops over bytes. Each has a record, its invariant, that says what is still to be read from place i on, and
--- laws for its first turn, a next turn and each way out. The rulesets close the loops' needs.
+-- The reader's three loops over bytes. Each has a record, its invariant, that says what is still to be read from place
+-- i on, and laws for its first turn, a next turn and each way out. The rulesets close the loops' needs.
 use Prim.Native.Nat.{ℕ, suc, _<_, _≤_, _+_, _-_, _*_, _^_}
 use mathlib.Core.Bool.{true, false, false≢true}
 use mathlib.Core.List.{List, [], _∷_}

@@ -1,4 +1,4 @@
--- What is claimed of the reader, over its definition: it finds a slot and a call in their one text, and in no other line.
+-- What is claimed of the reader: it finds a slot and a call in their one text, and in no other line.
 use Prim.Native.Nat.{ℕ, _<_}
 use mathlib.Core.List.{List}
 use mathlib.Core.Logic.{_↔_}

@@ -44,7 +44,8 @@ pub record Appended (t : Text) (l : List ℕ) (u : Text) : Type 0 where
   pub size : u .len ≡ t .len + length l
   pub holds : text u ≡ text t ++ l
 
--- What a lent buffer holds after t was copied into it from place `at` on, and the place after it: t there, and all else as before.
+-- What a lent buffer holds after t was copied into it from place `at` on, and the place after it: t there, and all else
+-- as before.
 pub record Copied (t : Text) (at : ℕ) (before after : List ℕ) (next : ℕ) : Type 0 where
   pub place : next ≡ at + t .len
   pub holds : after ≡ take at before ++ text t ++ drop next before

@@ -1,5 +1,5 @@
--- How a line is read, word by word. It finds a slot and a call in their one text, and in no other line: specs/Claims.antt says
--- so, and proofs/LineTexts.antt shows it.
+-- How a line is read, word by word. It finds a slot and a call in their one text, and in no other line:
+-- specs/Claims.antt says so, and proofs/LineTexts.antt shows it.
 use Prim.Native.Nat.{ℕ, suc, _+_, _-_, _*_}
 use mathlib.Core.Bool.{Bool, true, false}
 use mathlib.Core.List.{List, [], _∷_}

@@ -1,4 +1,4 @@
--- What is lent for the time of a call and comes back: a table that lies in a local, and a `&mut [T]` that is lent again.
+-- What is lent for the time of a call and comes back: a table in a local, and a `&mut [T]` that is lent again.
 use mathlib.Core.Path.{_≡_, refl, sym, ap, subst, _∙_}
 use Prim.Native.Nat.{ℕ}
 use mathlib.Core.List.{List, [], _∷_}
@@ -42,8 +42,8 @@ module _ {M : Type 1} (𝓤 : URA M) (H : Heap 𝓤) (A : Atoms 𝓤) (W : Given
       qed W (‵ (mem T.the-row .lies h l 0) ∷ []) ∵ fpick ! (λ vs. fsplit ! $ spelt ! T.the-row (Is T.the-row) (shows 𝓤 H A T.the-row) (LL.vals T.the-type T′.the-laws) (LL.tells T.the-type T′.the-laws) fullShare h vs l 0 $
       use1 W (‵ (fat fullShare T′.mir l 0 (mach h))) (W .laws .raw-at fullShare T′.mir l 0 (mach h)) $ done !)
 
--- A `&κ mut [T]` at the list ys and the machine values vs, lent again for a lifetime κ′ of a call. It comes back at a list
--- zs that is as long, at the same machine values.
+-- A `&κ mut [T]` at the list ys and the machine values vs, lent again for a lifetime κ′ of a call. It comes back at a
+-- list zs that is as long, at the same machine values.
 module _ (R : RattleType) (κ κ′ : Lft) (q : Share) (γ : GName) (b o : ℕ) where
   abbrev at-list : GName → List (R .Denot) → RefT (List (R .Denot))
   at-list δ ys = record { ptr = (b, o); name = δ; now = ys }

@@ -26,8 +26,8 @@ use Rattle.table.specs.declared.Table.{Table}
 
 -- ---- the loop's invariant
 
--- From l and the place `from` on: the line `line` is open at the place `at`, and k was taken in from there. There is room
--- for the lines that are left.
+-- From l and the place `from` on: the line `line` is open at the place `at`, and k was taken in from there. There is
+-- room for the lines that are left.
 pub record Going (l chunk : List ℕ) (from start : ℕ) (before : List ℕ) (k : Taken) (used : ℕ) (out : List ℕ) : Type 0 where
   pub text : List ℕ
   pub line : List ℕ

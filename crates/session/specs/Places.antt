@@ -44,8 +44,8 @@ pub record Puts (text : List ℕ) (at : ℕ) (before after : List ℕ) (next : �
   pub place : next ≡ at + length text
   pub holds : after ≡ take at before ++ text ++ drop next before
 
--- From the place `from` of a chunk on, with l on the line: `first` was written, and after it a line for each line up to the
--- first call, or to the end. r is there.
+-- From the place `from` of a chunk on, with l on the line: `first` was written, and after it a line for each line up to
+-- the first call, or to the end. r is there.
 pub record Sought (first l chunk : List ℕ) (from used : ℕ) (before after : List ℕ) (r : Place) : Type 0 where
   pub text : List ℕ
   pub wrote : Puts (first ++ text) used before after (r .used)

@@ -1,4 +1,4 @@
--- A whole session: it starts, is fed chunk by chunk, and finishes. What it writes is what the script gives, however it was cut.
+-- A whole session: it starts, is fed chunk by chunk, and finishes. It writes what the script gives, however it was cut.
 use Prim.Native.Nat.{ℕ}
 use mathlib.Core.List.{List, [], _∷_, _++_}
 use mathlib.Core.Path.{_≡_}

@@ -41,8 +41,8 @@ pub fn start() -> Session
 
 // ---- through a chunk, from call to call
 
-// Where the reading of a chunk stands: whether a call was found, and that call; the line that was read last, the place after
-// it, and how many bytes were written.
+// Where the reading of a chunk stands: whether a call was found, and that call; the line that was read last, the place
+// after it, and how many bytes were written.
 struct Place {
     found: bool,
     slot: ProcSlot,
@@ -77,6 +77,7 @@ fn seek(line: Line, from: usize, start: usize, chunk: &[u8], out: &mut [u8]) -> 
         taken = take_line(empty(), chunk, at);
     }
     let left = taken.line;
+    // There is no call: a slot and a call stand here that nobody reads.
     Place {
         found: false,
         slot: ProcSlot(0),
@@ -124,7 +125,8 @@ pub struct Fed {
     pub used: usize,
 }
 
-// Runs the lines that end in a chunk, and writes what they give from the start of `out`. An answer has at most 32 bytes.
+// Runs the lines that end in a chunk, and writes what they give from the start of `out`. An answer has at most 32
+// bytes.
 pub fn feed(s: Session, chunk: &[u8], out: &mut [u8]) -> Fed
     requires { ⌜ 32 * length (ended [] (now chunk)) ≤ length (now out) ⌝ }
     ensures { λ r. ⌜ ((l : List ℕ) → Carries (cut (s .line)) l → Feeds s l (now (chunk .entry)) (now (out .entry)) (now (out .exit)) r) ⌝ }

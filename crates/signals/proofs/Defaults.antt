@@ -1,4 +1,5 @@
--- The table of default actions: one law for any table that lists a rule's values, and what the rule gives past the table.
+-- The table of default actions: one law for any table that lists a rule's values, and what the rule gives past the
+-- table.
 use Prim.Native.Nat.{ℕ, zero, suc, _+_, _<_, _≤_}
 use native.Mathlib.Nat.{not-suc-le-zero, le-of-suc-le-suc, add-zero}
 use native.Mathlib.Omega.{arith}

@@ -30,6 +30,7 @@ pub fn with_signal(set: u32, s: u8) -> u32
     set
 }
 
+// A signal from 32 on is in no set, so there is none to take out.
 pub fn without_signal(set: u32, s: u8) -> u32
     ensures { λ r. ⌜ r ≡ without-signal set s ⌝ }
 {
@@ -39,7 +40,7 @@ pub fn without_signal(set: u32, s: u8) -> u32
     set
 }
 
-// The lowest signal of a set, or 32 where it is empty.
+// The lowest signal of a set, or 32, which is no signal, where it is empty: so many zeros has the number 0.
 pub fn lowest_signal(set: u32) -> u8
     ensures { λ r. ⌜ r ≡ lowest-signal set ⌝ }
 {

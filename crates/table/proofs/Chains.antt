@@ -1,5 +1,5 @@
--- For a `return` after a chain of tests. The definition joins the same tests by `and`, `or`, `implies`, `agree`, `not` and
--- `if`, and `search chains depth 12` goes down the definition by what the tests on the way told.
+-- For a `return` after a chain of tests. The definition joins the same tests by `and`, `or`, `implies`, `agree`, `not`
+-- and `if`, and `search chains depth 12` goes down the definition by what the tests on the way told.
 use Prim.Native.Nat.{ℕ, _<_, _≤_}
 use mathlib.Core.Bool.{Bool, true, false, not, true≢false, false≢true}
 use mathlib.Core.Path.{_≡_, refl, sym, _∙_}

@@ -1,5 +1,6 @@
--- For a loop whose turn at i marks places of an array of n marks. `Marks n m f` says that m has n marks, which say of each place
--- whether f holds. The loop is one of FoldLoops; what each turn marks, and what the array holds in the end, is said here.
+-- For a loop whose turn at i marks places of an array of n marks. `Marks n m f` says that m has n marks, which say of
+-- each place whether f holds. The loop is one of FoldLoops; what each turn marks, and what the array holds in the end,
+-- is said here.
 use Prim.Native.Nat.{ℕ, zero, suc, _<_}
 use native.Mathlib.Decide.{ℕ-discrete}
 use native.Mathlib.Omega.{arith}

@@ -1,6 +1,6 @@
--- For a loop over candidates c, from `from` up to g, that leaves with the first c at which f holds; and with c, past g, where
--- there is none. The invariant is `Seeking f g from c`: the lowest number from `from` on is the lowest from c on. Where the
--- candidate is tried by a loop over slots, f c is `not (any ..)`: that loop's facts are those of AnyLoops.
+-- For a loop over candidates c, from `from` up to g, that leaves with the first c at which f holds; and with c, past g,
+-- where there is none. The invariant is `Seeking f g from c`: the lowest number from `from` on is the lowest from c on.
+-- Where the candidate is tried by a loop over slots, f c is `not (any ..)`: that loop's facts are those of AnyLoops.
 use Prim.Native.Nat.{ℕ, suc, _<_, _≤_, _+_, _-_}
 use mathlib.Core.Bool.{Bool, true, false, not}
 use mathlib.Core.Path.{_≡_, refl, sym, ap, _∙_}

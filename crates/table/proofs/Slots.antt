@@ -1,5 +1,5 @@
--- Reading and putting past an array's end, and what a process read at a slot says of the view. In a function's facts the
--- length of an array that is a field stands as that of a `map`; of one that is a parameter it stands plain.
+-- Reading and putting past an array's end, and what a process read at a slot says of the view. In a function's facts
+-- the length of an array that is a field stands as that of a `map`; of one that is a parameter it stands plain.
 use Prim.Native.Nat.{ℕ, zero, suc, _<_, _≤_}
 use mathlib.Core.List.{List, [], _∷_, map}
 use mathlib.Core.Path.{_≡_, refl, sym, ap, _∙_}

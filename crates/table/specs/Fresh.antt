@@ -10,7 +10,9 @@ use Rattle.table.specs.declared.Namespace.{Namespace}
 use Rattle.table.specs.declared.Process.{Process}
 use Rattle.table.specs.declared.Table.{Table}
 
--- Empty slots are all zero (running, unborn).
+-- Empty slots are all zero (running, unborn). The code stores these in a slot that it frees, so the process has as many
+-- numbers, 33, as every record of a table. Past the table's last slot nothing is stored: what is read there is
+-- `no-process` of Slots.antt, which has none, and reads the same.
 abbrev pub empty-process : Process
 empty-process = blank-process (replicate levels no-pid)
 

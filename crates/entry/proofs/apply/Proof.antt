@@ -1,6 +1,6 @@
--- `apply` meets its contract: a walk of its code, by hand. The borrow is opened, the table is copied out of it and passed to
--- `step`, whose outcome's table is stored over the old one, and the borrow is closed at that table. All that the proof knows
--- of `step` is its contract, and it names no field of the table.
+-- `apply` meets its contract: a walk of its code, by hand. The borrow is opened, the table is copied out of it and
+-- passed to `step`, whose outcome's table is stored over the old one, and the borrow is closed at that table. All that
+-- the proof knows of `step` is its contract, and it names no field of the table.
 use mathlib.Core.Path.{_≡_, refl, ap}
 use Prim.Native.Nat.{ℕ}
 use mathlib.Core.List.{[], _∷_, List}
@@ -73,8 +73,8 @@ table-is r v is = LL.owed O.the-type O′.the-laws r _ is .1 .0
 reply-is : (r : Outcome) (v : Val) → Is O.the-row r (v ∷ []) → Is R.the-row (r .reply) (mach-r (r .reply) ∷ [])
 reply-is r v is = LL.owed O.the-type O′.the-laws r _ is .0
 
--- Where an outcome's table lies: past its reply. (The walk is told it, and the types of both: inferred, they cost most of its
--- steps.)
+-- Where an outcome's table lies: past its reply. (The walk is told it, and the types of both: inferred, they cost most
+-- of its steps.)
 abbrev past-reply : ℕ
 past-reply = 8
 
@@ -120,14 +120,16 @@ module _ {M : Type 1} (𝓤 : URA M) (H : Heap 𝓤) (A : Atoms 𝓤) (W : Given
         move ! (13 ∷ []) $ fsplit ! $ fsplit3 ! $ drop ! $ move ! (15 ∷ []) $ split ! $ move ! (2 ∷ 3 ∷ 0 ∷ []) $
         opens ! tt T.the-row {h = h} b o (λ vs. spelt ! T.the-row (Is T.the-row) (shows 𝓤 H A T.the-row) (LL.vals T.the-type T′.the-laws) (LL.tells T.the-type T′.the-laws) fullShare h vs b o $
         move ! (1 ∷ []) $ peeks ! T.the-row (Is T.the-row) (shows 𝓤 H A T.the-row) h (mach h ∷ []) (λ was. move ! (1 ∷ 0 ∷ []) $
-        -- [the table's cell; what the table owns; the open borrow; obs; auth; true; caller's and call's; _5; …; _4; …; _3; …; _2; …; _1; …; room for _0; …]
+        -- [the table's cell; what the table owns; the open borrow; obs; auth; true; caller's and call's; _5; …; _4; …;
+        -- _3; …; _2; …; _1; …; room for _0; …]
         assigns ! (of-opd ! (load ! (from ! (hop ! (look ! 15 refl) (stop !))) (look-raw ! 0 refl))) (from ! (stop !)) (init ! 7 refl (LL.lawful T.the-type T′.the-laws 𝓤 H A W .typed h _ was .0)) $
         move ! (1 ∷ []) $ use1 W (raw (Step 𝓤 H A at-mem run .pre to-step)) asks $
         calls-at ! fm (Step 𝓤 H A at-mem run) known to-step (and-then ! (load ! (from ! (stop !)) (look ! 7 refl)) (and-then ! (load ! (from ! (stop !)) (look ! 13 refl)) (and-then ! (load ! (from ! (stop !)) (look ! 11 refl)) (no-more !)))) (λ v.
         use1 W (later (some (λ (r : Outcome). (‵ ftrue ⊛ ‵ (O.the-row .own r (v ∷ []))) ⊛ raw (ensured 𝓤 H A step.ended (step.clauses 𝓤 H A at-mem run) tt (h, (n, (k, tt))) tt r)))) (id⊢ 𝓤 _) $ await ! tt $ pick ! (λ r.
         split ! $ move ! (1 ∷ []) $ use1 W (raw (fact 𝓤 (r ≡ step-of h (n .0) k))) (said r) $ heard ! (r ≡ step-of h (n .0) k) (λ e. split ! $ drop ! $
         peeks ! O.the-row (Is O.the-row) (shows 𝓤 H A O.the-row) r (v ∷ []) (λ is. drop ! $
-        -- [the table's cell; the open borrow; obs; auth; true; caller's and call's; _5; …; room for _4; …; _3; …; _2; …; _1; …; room for _0; …]
+        -- [the table's cell; the open borrow; obs; auth; true; caller's and call's; _5; …; room for _4; …; _3; …; _2;
+        -- …; _1; …; room for _0; …]
         land ! (from ! (stop !)) (init ! 8 refl (LL.lawful O.the-type O′.the-laws 𝓤 H A W .typed r _ is .0)) $
         rewrite ! 8 (λ (u : Val). ‵ (fat fullShare O′.mir l₄ 0 u)) (ap only (LL.tells O.the-type O′.the-laws r (v ∷ []) is)) refl $
         assigns ! (of-opd ! (load ! (from ! (fld ! {τ = T′.mir} {d = past-reply} refl (stop !))) (look-in ! 8 {τ = T′.mir} (sub ! 1 {τ = T′.mir} {d = past-reply} refl (whole !))))) (from ! (hop ! (look ! 14 refl) (stop !))) (store-raw ! 0 refl (LL.lawful T.the-type T′.the-laws 𝓤 H A W .typed (r .table) _ (table-is r v is) .0)) $

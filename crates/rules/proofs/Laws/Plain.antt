@@ -1,5 +1,5 @@
--- Two sentences of soundness in document 01's words for processes alone: that the definitions, which are ready for more, say
--- the same. (Those over what a process holds: `OneHold`.)
+-- Two sentences of soundness in document 01's words for processes alone: that the definitions, which are ready for
+-- more, say the same. (Those over what a process holds: `OneHold`.)
 use mathlib.Core.Bool.{Bool, not}
 use mathlib.Core.Path.{_≡_, refl}
 use lib.Dec.{eqb}

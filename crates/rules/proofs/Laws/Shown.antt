@@ -1,5 +1,5 @@
--- What is shown of an answer, its number and an end, tells it from every other: so what the promises say of the one they
--- say of the other.
+-- What is shown of an answer, its number and an end, tells it from every other: so what the promises say of the one
+-- they say of the other.
 use Prim.Native.Nat.{ℕ, suc}
 use mathlib.Core.Option.{none, some}
 use mathlib.Core.Path.{_≡_, refl, sym, ap, _∙_}

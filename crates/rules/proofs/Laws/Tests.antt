@@ -1,4 +1,4 @@
--- Laws of the tests. A test holds where it is `true`: `So b` is `b ≡ true`. `simp tests` turns a test into what it says.
+-- Laws of tests. A test holds where it is `true`: `So b` is `b ≡ true`. `simp tests` turns a test into what it says.
 use Prim.Native.Nat.{ℕ, zero, suc, _<_, _≤_}
 use native.Mathlib.Decide.{ℕ-discrete}
 use native.Mathlib.Nat.{not-suc-le-zero}

@@ -1,7 +1,7 @@
--- `run_calls` meets its contract: a walk of its code, by hand, with a loop. At each turn the local that holds the table is
--- lent to `apply` for a lifetime that is made for the call, and comes back at the last table; then `out` is lent again to
--- `go_on`, and comes back. The loop's invariant is `Passed`, and its measure the number of lines that are left. All that the
--- proof knows of `apply` and `go_on` is their contracts.
+-- `run_calls` meets its contract: a walk of its code, by hand, with a loop. At each turn the local that holds the table
+-- is lent to `apply` for a lifetime that is made for the call, and comes back at the last table; then `out` is lent
+-- again to `go_on`, and comes back. The loop's invariant is `Passed`, and its measure the number of lines that are
+-- left. All that the proof knows of `apply` and `go_on` is their contracts.
 use mathlib.Core.Path.{_≡_, refl, sym, ap, subst}
 use mathlib.Core.Bool.{Bool, true, false}
 use mathlib.Core.WellFounded.{WellFounded, InvImage·wf}
@@ -223,8 +223,8 @@ module _ {M : Type 1} (𝓤 : URA M) (H : Heap 𝓤) (A : Atoms 𝓤) (W : Given
       abbrev En : Env 𝓤 H
       En = (N′.mir, l₀) ∷ (T′.mir, l₁) ∷ (P′.mir, l₂) ∷ (chunk-ty, l₃) ∷ (out-ty, l₄) ∷ (T′.mir, l₅) ∷ (P′.mir, l₆) ∷ (R′.mir, l₇) ∷ (tyBool, l₈) ∷ (lent-ty, l₉) ∷ (byte-ty, l₁₀) ∷ (sliceTy byte-ty, l₁₁) ∷ (T′.mir, l₁₂) ∷ []
 
-      -- the invariant: _6 holds the place, _5 the table, _4 and _3 the slices; the other locals are free. At the end: the tokens
-      -- of chunk and out, and what they own
+      -- the invariant: _6 holds the place, _5 the table, _4 and _3 the slices; the other locals are free. At the end:
+      -- the tokens of chunk and out, and what they own
       abbrev At : St → List (Item 𝓤)
       At y =
           ‵ (froom T′.mir l₁₂ 0) ∷ ‵ (fdies T′.mir l₁₂) ∷ ‵ (froom (sliceTy byte-ty) l₁₁ 0) ∷ ‵ (fdies (sliceTy byte-ty) l₁₁) ∷ ‵ (froom byte-ty l₁₀ 0) ∷ ‵ (fdies byte-ty l₁₀) ∷ ‵ (froom lent-ty l₉ 0) ∷ ‵ (fdies lent-ty l₉) ∷ ‵ (froom tyBool l₈ 0) ∷ ‵ (fdies tyBool l₈) ∷ ‵ (froom R′.mir l₇ 0) ∷ ‵ (fdies R′.mir l₇) ∷
@@ -258,7 +258,8 @@ module _ {M : Type 1} (𝓤 : URA M) (H : Heap 𝓤) (A : Atoms 𝓤) (W : Given
           owned ! T.the-row (Is T.the-row) (LL.makes T.the-type T′.the-plain 𝓤 H A) h _ (y .tab-is) $ move ! (15 ∷ 0 ∷ []) $ use2 W (‵ (mem T.the-row .lies h l₅ 0)) (lies-in 𝓤 H A W h l₅) $ lft-new ! tt (λ ν. move ! (1 ∷ []) $
           use1 W (later (some (λ (δ : GName). ‵ (Lent h l₅ ν δ) ⊛ ‵ (flent (ν ∷ []) (Body (mem T.the-row) l₅ 0 δ))))) (lends-ref 𝓤 H A W T.the-row (named 0) (ν ∷ []) h l₅ 0) $ await ! tt $ pick ! (λ δ. split ! $
           move ! (2 ∷ 0 ∷ []) $ use2 W (raw (Apply 𝓤 H A at-mem run .pre (to-apply h d l₅ ν δ))) (asks-apply h d l₅ ν δ (y .place-is)) $
-          -- [what `apply` asks; the lender's part; _12; …; down to _6; …; what frees _5; _4; …; down to _0; …; the slices]
+          -- [what `apply` asks; the lender's part; _12; …; down to _6; …; what frees _5; _4; …; down to _0; …; the
+          -- slices]
           calls-at ! fm (Apply 𝓤 H A at-mem run) known-apply (to-apply h d l₅ ν δ) (and-then ! (load ! (from ! (stop !)) (look ! 8 refl)) (and-then ! (load ! (from ! (fld ! refl (stop !))) (look-in ! 14 (sub ! 1 refl (whole !)))) (and-then ! (load ! (from ! (fld ! refl (stop !))) (look-in ! 14 (sub ! 2 refl (whole !)))) (no-more !)))) (λ v.
           use1 W (later (some (λ (r : Reply). ((‵ (flft (ν ∷ []) fullShare) ⊛ ‵ ftrue) ⊛ ‵ (R.the-row .own r (v ∷ []))) ⊛ raw (ensured 𝓤 H A apply.ended (apply.clauses 𝓤 H A at-mem run) (ν ∷ [], tt) (to h l₅ δ, (d .slot, (d .call, tt))) tt r)))) (id⊢ 𝓤 _) $ await ! tt $ pick ! (λ r.
           split ! $ move ! (1 ∷ []) $ use1 W (some (λ (zs : Table × (Unit {0} × (Unit {0} × Unit {0}))). ‵ (lasts apply.ended (ν ∷ [], tt) (to h l₅ δ, (d .slot, (d .call, tt))) zs) ⊛ raw (fact 𝓤 (Applied h (d .slot) (d .call) r (zs .0))))) (id⊢ 𝓤 _) $ pick ! (λ zs.
@@ -267,14 +268,16 @@ module _ {M : Type 1} (𝓤 : URA M) (H : Heap 𝓤) (A : Atoms 𝓤) (W : Given
           move ! (2 ∷ []) $ split ! $ split ! $ lft-end ! tt $ move ! (0 ∷ 5 ∷ 3 ∷ []) $ use3 W (later (‵ (mem T.the-row .lies (zs .0) l₅ 0))) (ref-back 𝓤 H A W T.the-row (ν ∷ []) δ (zs .0) l₅ 0) $ await ! tt $
           use1 W (‵ (fat fullShare T′.mir l₅ 0 (mach (zs .0))) ⊛ ‵ (T.the-row .own (zs .0) (mach (zs .0) ∷ []))) (lies-out 𝓤 H A W (zs .0) l₅) $ split ! $ move ! (1 ∷ []) $ peeks ! T.the-row (Is T.the-row) (shows 𝓤 H A T.the-row) (zs .0) (mach (zs .0) ∷ []) (λ z-is. drop ! $
           move ! (2 ∷ []) $ peeks ! R.the-row (Is R.the-row) (shows 𝓤 H A R.the-row) r (v ∷ []) (λ r-is. drop ! $ land ! (from ! (stop !)) (init ! 13 refl (LL.lawful R.the-type R′.the-laws 𝓤 H A W .typed r _ r-is .0)) $
-          -- [_5; true; true; _12; …; down to _6; …; what frees _5; _4; …; down to _0; …; the tokens; the slices]: `out` is lent again
+          -- [_5; true; true; _12; …; down to _6; …; what frees _5; _4; …; down to _0; …; the tokens; the slices]: `out`
+          -- is lent again
           assigns ! (addr ! (from ! (fld ! refl (hop ! (look-in ! 18 (sub ! 0 refl (whole !))) (stop !))))) (from ! (stop !)) (init ! 7 refl (tt, tt)) $
           assigns ! (agg ! (and-then ! (load ! (from ! (stop !)) (look ! 7 refl)) (and-then ! (load ! (from ! (fld ! refl (stop !))) (look-in ! 18 (sub ! 1 refl (whole !)))) (no-more !)))) (from ! (stop !)) (init ! 5 refl (tt, (tt, (record { fits = o-room .0 }, tt)))) $
           lft-new ! tt (λ ν₂. move ! (32 ∷ 30 ∷ []) $
           use2 W (later (some (λ (δ₂ : GName). ‵ (Again l ν₂ δ₂) ⊛ ‵ (LentAgain u8 κ′ (ν₂ ∷ []) q′ γ b o δ₂ l)))) (lends-again u8 κ′ (ν₂ ∷ []) q′ γ b o 𝓤 H A W (named 1) (named 1) l (o-val ∷ [])) $ await ! tt $ pick ! (λ δ₂. split ! $
           move ! (32 ∷ []) $ use1 W (‵ Chunk ⊛ ‵ Chunk) (shr-slice-copy 𝓤 H A W (named 0) κ u8 .twice c (c-val ∷ [])) $ split ! $ move ! (0 ∷ 2 ∷ 4 ∷ 33 ∷ []) $ join ! $
           use3 W (raw (GoOn 𝓤 H A at-mem run .pre (to-go-on d r v l ν₂ δ₂))) (asks-go-on d r v l ν₂ δ₂ (y .place-is) r-is (passed-room t p (c .now) ys h d l (y .passed) more)) $
-          -- [what `go_on` asks; chunk's; the lender's part; _5; true; true; _12; …; down to _6; …; what frees _5; _4; …; down to _0; …]
+          -- [what `go_on` asks; chunk's; the lender's part; _5; true; true; _12; …; down to _6; …; what frees _5; _4;
+          -- …; down to _0; …]
           calls-at-last ! fm (GoOn 𝓤 H A at-mem run) known-go-on (to-go-on d r v l ν₂ δ₂) (and-then ! (load ! (from ! (stop !)) (look ! 18 refl)) (and-then ! (load ! (from ! (stop !)) (look ! 16 refl)) (and-then ! (load ! (from ! (stop !)) (look ! 23 refl)) (and-then ! (load ! (from ! (stop !)) (look ! 8 refl)) (no-more !))))) (λ w.
           use1 W (later (some (λ (d′ : Place). ((‵ (flft κ q) ⊛ ‵ (flft (ν₂ ∷ []) fullShare) ⊛ ‵ ftrue) ⊛ ‵ (P.the-row .own d′ (w ∷ []))) ⊛ raw (ensured 𝓤 H A go-on.ended (go-on.clauses 𝓤 H A at-mem run) (κ, (ν₂ ∷ [], tt)) (d, (r, (c, (to-out δ₂ l, tt)))) tt d′)))) (id⊢ 𝓤 _) $ await ! tt $ pick ! (λ d′.
           split ! $ move ! (1 ∷ []) $ use1 W (some (λ (us : Unit {0} × (Unit {0} × (Unit {0} × (List ℕ × Unit {0})))). ‵ (lasts go-on.ended (κ, (ν₂ ∷ [], tt)) (d, (r, (c, (to-out δ₂ l, tt)))) us) ⊛ raw (fact 𝓤 (Went d r l (us .1 .1 .1 .0) d′)))) (id⊢ 𝓤 _) $ pick ! (λ us.
@@ -283,7 +286,8 @@ module _ {M : Type 1} (𝓤 : URA M) (H : Heap 𝓤) (A : Atoms 𝓤) (W : Given
           -- the lifetime is ended, and `out` comes back
           split ! $ move ! (1 ∷ []) $ split ! $ lft-end ! tt $ move ! (0 ∷ 6 ∷ 3 ∷ []) $
           use3 W (later (‵ (Out-at (us .1 .1 .1 .0)) ⊛ ‵ (flft κ′ q′))) (comes-back u8 κ′ (ν₂ ∷ []) q′ γ b o 𝓤 H A W (named 1) (named 1) l (o-val ∷ []) δ₂ (us .1 .1 .1 .0) (ap (λ (n : ℕ). sliceVal (b, o) n ∷ []) (sym size)) (subst (Room u8) (sym size) o-room) same) $ await ! tt $ split ! $
-          -- [out's; its token; true; chunk's token; true; chunk's; _5; true; true; _12; …; down to _6; …; what frees _5; _4; …; _0; …]
+          -- [out's; its token; true; chunk's token; true; chunk's; _5; true; true; _12; …; down to _6; …; what frees
+          -- _5; _4; …; _0; …]
           land-last ! (from ! (stop !)) (store ! 21 refl (LL.lawful P.the-type P′.the-laws 𝓤 H A W .typed d′ _ d-is .0)) $
           rewrite ! 21 (λ (u : Val). ‵ (fat fullShare P′.mir l₆ 0 u)) (ap only (LL.tells P.the-type P′.the-laws d′ (w ∷ []) d-is)) refl $
           forget ! 11 refl $ forget ! 13 refl $ forget ! 15 refl $ forget ! 17 refl $ forget ! 19 refl $

@@ -1,4 +1,5 @@
--- `signals::default_action` meets its contract: antt computes the rule at all 32 entries, and compares the two lists whole. Assumes nothing.
+-- `signals::default_action` meets its contract: antt computes the rule at all 32 entries, and compares the two lists
+-- whole. Assumes nothing.
 use borrow.Author.Needs.{needs}
 use Rattle.rules.specs.Delivery.{default-action}
 use Rattle.table.specs.Limits.{signals}

@@ -1,4 +1,5 @@
--- `signals::has_signal` meets its contract: a shift brings the bit of a signal down, and there is none from 32 on. Assumes nothing.
+-- `signals::has_signal` meets its contract: a shift brings the bit of a signal down, and there is none from 32 on.
+-- Assumes nothing.
 use borrow.Author.Needs.{needs}
 use Rattle.signals.proofs.Sets.{has-is, has-past}
 use Rattle.signals.proofs.has_signal.Statement.{statement}
