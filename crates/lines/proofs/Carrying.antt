@@ -14,7 +14,7 @@ use Rattle.lines.specs.Carried.{carried, Carries, cut, Line-ended, Still
 use Rattle.lines.specs.Splitting.{ended, left}
 use Rattle.lines.specs.declared.Line.{Line}
 use Rattle.script.proofs.Steps.{too-long}
-use Rattle.script.specs.Lines.{longest-line}
+use Rattle.script.specs.Sizes.{line-bytes}
 use Rattle.script.specs.Reading.{read-line}
 use Rattle.script.specs.Texts.{line-feed}
 use Rattle.script.specs.declared.Parsed.{Parsed}
@@ -145,13 +145,13 @@ pub ruleset take-loop = (taking-starts, taking-next, taking-ends, taking-over)
 -- A line that is too long is still too long.
 cut-read : (l : List ℕ) → read-line (take carried l) ≡ read-line l
 cut-read l =
-    by-bool (ltb longest-line (length l))
+    by-bool (ltb line-bytes (length l))
     (λ e.
-    let h = ltb-true longest-line (length l) e in
+    let h = ltb-true line-bytes (length l) e in
     let n = length-take-le carried l h in
     too-long (take carried l) (omega arith) ∙ sym (too-long l h))
     (λ e.
-    let h = ltb-false longest-line (length l) e in
+    let h = ltb-false line-bytes (length l) e in
     ap read-line (take-all carried l (omega arith)))
 
 -- ---- what any line carries
@@ -172,16 +172,16 @@ carries-own g t e =
 pub carried-read : (t : Line) (r : Parsed) → r ≡ read-line (take (t .len) (t .bytes)) → (l : List ℕ) → Carries t l → r ≡ read-line l
 carried-read t r e l k = e ∙ ap read-line (k .holds) ∙ cut-read l
 
-pub full-read : {Y : Type 0} (g : ℕ → Y) (t : Line) → length (map g (t .bytes)) ≡ carried → longest-line < t .len → Parsed.Bad ≡ read-line (take (t .len) (t .bytes))
+pub full-read : {Y : Type 0} (g : ℕ → Y) (t : Line) → length (map g (t .bytes)) ≡ carried → line-bytes < t .len → Parsed.Bad ≡ read-line (take (t .len) (t .bytes))
 full-read g t e h =
     let n = short-own g t e in
     sym (too-long (take (t .len) (t .bytes)) (omega arith))
 
 -- the part of the array that is read
-pub part-within : {Y : Type 0} (g : ℕ → Y) (t : Line) → length (map g (t .bytes)) ≡ carried → t .len ≤ longest-line → t .len ≤ length (t .bytes)
+pub part-within : {Y : Type 0} (g : ℕ → Y) (t : Line) → length (map g (t .bytes)) ≡ carried → t .len ≤ line-bytes → t .len ≤ length (t .bytes)
 part-within g t e h = let m = length-map (t .bytes) g in omega arith
 
-pub part-length : {Y : Type 0} (g : ℕ → Y) (t : Line) → length (map g (t .bytes)) ≡ carried → t .len ≤ longest-line → t .len ≡ length (take (t .len) (t .bytes))
+pub part-length : {Y : Type 0} (g : ℕ → Y) (t : Line) → length (map g (t .bytes)) ≡ carried → t .len ≤ line-bytes → t .len ≡ length (take (t .len) (t .bytes))
 part-length g t e h = sym (length-take-le (t .len) (t .bytes) (part-within g t e h))
 
 pub ruleset read-laws = (full-read, part-within, part-length)

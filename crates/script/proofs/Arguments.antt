@@ -12,7 +12,8 @@ use Rattle.script.proofs.Numbers.{from-zero-none, from-zero-fits, from-
 use Rattle.script.proofs.Scans.{word-goes-on}
 use Rattle.script.proofs.Steps.{empty-number, signed-number, unsigned-number}
 use Rattle.script.proofs.Words.{Unbroken}
-use Rattle.script.specs.Lines.{past-32-bit, Is-32-bit}
+use Rattle.script.specs.Lines.{Is-32-bit}
+use Rattle.script.specs.Sizes.{past-32-bit, most-digits}
 use Rattle.script.specs.Reading.{read-natural, from-zero, below-zero, read-number}
 use Rattle.script.specs.Texts.{minus-sign, decimal, number}
 use Rattle.script.specs.declared.Natural.{Natural}
@@ -24,7 +25,7 @@ use Rattle.table.proofs.Chains.{by-bool}
 pub number-read : (z : ℤ) → Is-32-bit z → read-number (number z) ≡ Number.Is z
 unfolding number
 number-read (pos n) h =
-    let b : n < 10 ^ 10 = omega arith in
+    let b : n < 10 ^ most-digits = omega arith in
     let s = decimal-some n in
     unsigned-number (decimal n) (λ e. omega arith) (decimal-unsigned n b) ∙ ap from-zero (decimal-read n b) ∙ from-zero-fits n h
 number-read (negsuc n) h =

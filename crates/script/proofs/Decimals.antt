@@ -1,5 +1,5 @@
 -- Decimal numbers: what is written is read back, and nothing else is read.
-use Prim.Native.Nat.{ℕ, zero, suc, _<_, _≤_, _+_, _-_, _*_, _/_, _%_, _^_}
+use Prim.Native.Nat.{ℕ, zero, suc, pred, _<_, _≤_, _+_, _-_, _*_, _/_, _%_, _^_}
 use mathlib.Core.Bool.{Bool, true, false, false≢true}
 use mathlib.Core.List.{List, [], _∷_, _++_, append-nil}
 use mathlib.Core.Path.{_≡_, refl, sym, ap, _∙_}
@@ -12,7 +12,8 @@ use native.Mathlib.Omega.{arith}
 use Rattle.script.proofs.Scans.{digit-is, digit-goes-on, digit-stops, digits-none}
 use Rattle.script.proofs.Steps.{natural-long, natural-padded, natural-plain}
 use Rattle.script.specs.Reading.{word-length, is-digit, natural-from, read-natural}
-use Rattle.script.specs.Texts.{minus-sign, digit-0, decimal-in, decimal}
+use Rattle.script.specs.Sizes.{most-digits}
+use Rattle.script.specs.Texts.{space, minus-sign, digit-0, digit-9, decimal-in, decimal}
 use Rattle.script.specs.declared.Natural.{Natural}
 use Rattle.table.proofs.Chains.{by-bool, pick-yes, pick-no}
 use Rattle.table.specs.Tests.{_and_}
@@ -70,13 +71,13 @@ decimal-enough (suc k) n h =
 
 pub decimal-one : (n : ℕ) → n < 10 → decimal n ≡ (digit-0 + n) ∷ []
 unfolding decimal
-decimal-one n h = decimal-small 9 n h
+decimal-one n h = decimal-small (pred most-digits) n h
 
-pub decimal-more : (n : ℕ) → 10 ≤ n → n < 10 ^ 10 → decimal n ≡ decimal (n / 10) ++ (digit-0 + n % 10) ∷ []
+pub decimal-more : (n : ℕ) → 10 ≤ n → n < 10 ^ most-digits → decimal n ≡ decimal (n / 10) ++ (digit-0 + n % 10) ∷ []
 unfolding decimal
 decimal-more n h b =
-    decimal-large 9 n h
-    ∙ ap (λ ds. ds ++ (digit-0 + n % 10) ∷ []) (sym (decimal-enough 8 (n / 10) (tenth 8 n b)))
+    decimal-large (pred most-digits) n h
+    ∙ ap (λ ds. ds ++ (digit-0 + n % 10) ∷ []) (sym (decimal-enough (pred (pred most-digits)) (n / 10) (tenth (pred (pred most-digits)) n b)))
 
 -- ---- how long a number is
 
@@ -101,13 +102,13 @@ at-least k n =
     let f = length-append (decimal-in k (n / 10)) ((digit-0 + n % 10) ∷ []) in
     omega arith)
 
-pub decimal-length : (n : ℕ) → length (decimal n) ≤ 10
+pub decimal-length : (n : ℕ) → length (decimal n) ≤ most-digits
 unfolding decimal
-decimal-length n = at-most 10 n
+decimal-length n = at-most most-digits n
 
 pub decimal-some : (n : ℕ) → 1 ≤ length (decimal n)
 unfolding decimal
-decimal-some n = at-least 9 n
+decimal-some n = at-least (pred most-digits) n
 
 -- ---- no needless zero
 
@@ -165,7 +166,7 @@ natural-zero : read-natural (digit-0 ∷ []) ≡ Natural.Is 0
 unfolding read-natural
 natural-zero = refl
 
-pub decimal-read : (n : ℕ) → n < 10 ^ 10 → read-natural (decimal n) ≡ Natural.Is n
+pub decimal-read : (n : ℕ) → n < 10 ^ most-digits → read-natural (decimal n) ≡ Natural.Is n
 unfolding decimal
 decimal-read n h =
     by-bool (eqb n 0)
@@ -175,20 +176,20 @@ decimal-read n h =
     (λ e.
     let z = eqb-false n 0 e in
     let s = decimal-some n in
-    natural-plain (decimal-in 10 n) (λ q. omega arith) (decimal-length n) (first-digit 9 n (omega arith) h) ∙ read-decimal-in 9 n h)
+    natural-plain (decimal-in most-digits n) (λ q. omega arith) (decimal-length n) (first-digit (pred most-digits) n (omega arith) h) ∙ read-decimal-in (pred most-digits) n h)
 
 -- ---- nothing else is read
 
 digit-low-end : (b : ℕ) → is-digit b ≡ true → digit-0 ≤ b
 unfolding is-digit
-digit-low-end b e = leb-true digit-0 b (both-first (leb digit-0 b) (leb b (digit-0 + 9)) e)
+digit-low-end b e = leb-true digit-0 b (both-first (leb digit-0 b) (leb b digit-9) e)
 
-digit-high-end : (b : ℕ) → is-digit b ≡ true → b ≤ digit-0 + 9
+digit-high-end : (b : ℕ) → is-digit b ≡ true → b ≤ digit-9
 unfolding is-digit
-digit-high-end b e = leb-true b (digit-0 + 9) (both-second (leb digit-0 b) (leb b (digit-0 + 9)) e)
+digit-high-end b e = leb-true b digit-9 (both-second (leb digit-0 b) (leb b digit-9) e)
 
 -- The digits of n are p, those of the value so far, and those that are left.
-written : (l p : List ℕ) (m k n : ℕ) → 0 < m → m < 10 ^ k → length l + k ≤ 10 → decimal m ≡ p → natural-from m l ≡ Natural.Is n → decimal n ≡ p ++ l
+written : (l p : List ℕ) (m k n : ℕ) → 0 < m → m < 10 ^ k → length l + k ≤ most-digits → decimal m ≡ p → natural-from m l ≡ Natural.Is n → decimal n ≡ p ++ l
 written [] p m k n z s h d e =
     let i : m ≡ n = is-inj m n (sym (digits-none m) ∙ e) in
     ap decimal (sym i) ∙ d ∙ sym (append-nil p)
@@ -198,7 +199,7 @@ written (b ∷ bs) p m k n z s h d e =
     let l = digit-low-end b q in
     let u = digit-high-end b q in
     let w = pow-suc 10 k in
-    let t : 10 ^ suc k ≤ 10 ^ 10 = pow-le-pow-right {n = 10} (omega arith) {i = suc k} {j = 10} (omega arith) in
+    let t : 10 ^ suc k ≤ 10 ^ most-digits = pow-le-pow-right {n = 10} (omega arith) {i = suc k} {j = most-digits} (omega arith) in
     let m′ : ℕ = m * 10 + (b - digit-0) in
     let x : m′ / 10 ≡ m = omega arith in
     let y : digit-0 + m′ % 10 ≡ b = omega arith in
@@ -224,7 +225,7 @@ lone-zero b bs n f o e =
     x ∙ sym (decimal-one 0 (omega arith)) ∙ ap decimal i
 
 -- digits, of which the first is not 0
-plain-digits : (b : ℕ) (bs : List ℕ) (n : ℕ) → (b ≡ digit-0 → ⊥) → length bs ≤ 9 → natural-from 0 (b ∷ bs) ≡ Natural.Is n → b ∷ bs ≡ decimal n
+plain-digits : (b : ℕ) (bs : List ℕ) (n : ℕ) → (b ≡ digit-0 → ⊥) → length bs ≤ pred most-digits → natural-from 0 (b ∷ bs) ≡ Natural.Is n → b ∷ bs ≡ decimal n
 plain-digits b bs n f h e =
     by-bool (is-digit b)
     (λ q.
@@ -240,10 +241,10 @@ plain-digits b bs n f h e =
 pub natural-written : (l : List ℕ) (n : ℕ) → read-natural l ≡ Natural.Is n → l ≡ decimal n
 natural-written [] n e = absurd (bad-is n (sym natural-empty ∙ e))
 natural-written (b ∷ bs) n e =
-    by-bool (ltb 10 (length (b ∷ bs)))
-    (λ t. absurd (bad-is n (sym (natural-long (b ∷ bs) z (ltb-true 10 (length (b ∷ bs)) t)) ∙ e)))
+    by-bool (ltb most-digits (length (b ∷ bs)))
+    (λ t. absurd (bad-is n (sym (natural-long (b ∷ bs) z (ltb-true most-digits (length (b ∷ bs)) t)) ∙ e)))
     (λ t.
-    let h = ltb-false 10 (length (b ∷ bs)) t in
+    let h = ltb-false most-digits (length (b ∷ bs)) t in
     by-bool (eqb b digit-0)
     (λ f.
     by-bool (eqb (length bs) 0)
@@ -267,14 +268,14 @@ digits-one-word (b ∷ bs) m n e =
     by-bool (is-digit b)
     (λ q.
     let l = digit-low-end b q in
-    let s : b ≡ 32 → ⊥ = λ x. omega arith in
-    pick-no (eqb b 32) 0 (suc (word-length bs)) (ne-eqb b 32 s)
+    let s : b ≡ space → ⊥ = λ x. omega arith in
+    pick-no (eqb b space) 0 (suc (word-length bs)) (ne-eqb b space s)
     ∙ ap suc (digits-one-word bs (m * 10 + (b - digit-0)) n (sym (digit-goes-on m b bs q) ∙ e)))
     (λ q. absurd (bad-is n (sym (digit-stops m b bs q) ∙ e)))
 
-pub decimal-one-word : (n : ℕ) → n < 10 ^ 10 → word-length (decimal n) ≡ length (decimal n)
+pub decimal-one-word : (n : ℕ) → n < 10 ^ most-digits → word-length (decimal n) ≡ length (decimal n)
 unfolding decimal
-decimal-one-word n h = digits-one-word (decimal-in 10 n) 0 n (read-decimal-in 9 n h)
+decimal-one-word n h = digits-one-word (decimal-in most-digits n) 0 n (read-decimal-in (pred most-digits) n h)
 
 -- ---- nor is one of them a minus sign
 
@@ -285,6 +286,6 @@ digits-unsigned (b ∷ bs) m n e s =
     (λ q. let l = digit-low-end b q in omega arith)
     (λ q. bad-is n (sym (digit-stops m b bs q) ∙ e))
 
-pub decimal-unsigned : (n : ℕ) → n < 10 ^ 10 → getD (decimal n) 0 0 ≡ minus-sign → ⊥
+pub decimal-unsigned : (n : ℕ) → n < 10 ^ most-digits → getD (decimal n) 0 0 ≡ minus-sign → ⊥
 unfolding decimal
-decimal-unsigned n h = digits-unsigned (decimal-in 10 n) 0 n (read-decimal-in 9 n h)
+decimal-unsigned n h = digits-unsigned (decimal-in most-digits n) 0 n (read-decimal-in (pred most-digits) n h)

@@ -11,7 +11,8 @@ use Rattle.script.proofs.Decimals.{decimal-read, decimal-length, decima
 use Rattle.script.proofs.Steps.{too-long, no-call, slot-and-call}
 use Rattle.script.proofs.Words.{first-of, later-of, broken, joined}
 use Rattle.script.specs.Claims.{Decimals-are-read, Only-decimals-are-read, Texts-are-read, Only-texts-are-read, Exactly-texts-are-read}
-use Rattle.script.specs.Lines.{call-text, line-of, greatest-slot, longest-line, Fits-a-line}
+use Rattle.script.specs.Lines.{call-text, line-of, Fits-a-line}
+use Rattle.script.specs.Sizes.{greatest-slot, line-bytes}
 use Rattle.script.specs.Reading.{word-length, first-word, later-words, read-natural, read-call, asked-by, after-slot, read-line}
 use Rattle.script.specs.Texts.{space, decimal}
 use Rattle.script.specs.declared.Natural.{Natural}
@@ -87,10 +88,10 @@ line-found l slot c h f =
 
 pub only-texts-are-read : Only-texts-are-read
 only-texts-are-read l slot c e =
-    by-bool (ltb longest-line (length l))
-    (λ t. absurd (parsed-bad slot c (sym (too-long l (ltb-true longest-line (length l) t)) ∙ e)))
+    by-bool (ltb line-bytes (length l))
+    (λ t. absurd (parsed-bad slot c (sym (too-long l (ltb-true line-bytes (length l) t)) ∙ e)))
     (λ t.
-    let s = ltb-false longest-line (length l) t in
+    let s = ltb-false line-bytes (length l) t in
     by-bool (leb (length l) (word-length l))
     (λ u. absurd (parsed-bad slot c (sym (no-call l s (leb-true (length l) (word-length l) u)) ∙ e)))
     (λ u.

@@ -8,7 +8,7 @@ use mir.Syntax.{w32, w64}
 use mir.Val.{SFits, toZ, ofZ}
 use mir.ValLaws.{toZ-pos, toZ-ofZ}
 use native.Mathlib.Omega.{arith}
-use Rattle.script.specs.Lines.{past-32-bit}
+use Rattle.script.specs.Sizes.{past-32-bit}
 use Rattle.script.specs.Reading.{from-zero, below-zero}
 use Rattle.script.specs.declared.Natural.{Natural}
 use Rattle.script.specs.declared.Number.{Number}

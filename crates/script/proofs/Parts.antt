@@ -9,7 +9,7 @@ use lib.Seq.{take-all}
 use native.Mathlib.Numerals.{add-one}
 use native.Mathlib.Omega.{arith}
 use Rattle.script.proofs.Steps.{natural-none, natural-long, natural-lone, natural-padded, natural-plain, empty-number, signed-number, unsigned-number, of-one-word, of-two-words, of-more-words, too-long, no-call, slot-and-call}
-use Rattle.script.specs.Lines.{greatest-slot, longest-line}
+use Rattle.script.specs.Sizes.{greatest-slot, line-bytes, most-digits}
 use Rattle.script.specs.Reading.{word-length, first-word, later-words, natural-from, read-natural, from-zero, below-zero, read-number, plain-call, with-number, call-with, kill-call, handle-call, call-with-two, read-call, asked-by, after-slot, read-line}
 use Rattle.script.specs.Texts.{minus-sign, digit-0}
 use Rattle.script.specs.declared.Natural.{Natural}
@@ -44,16 +44,16 @@ word-is l a p = part-to l a ∙ ap (λ n. take n l) p
 pub value-none : (l : List ℕ) → length l ≡ 0 → Natural.Bad ≡ read-natural l
 value-none l z = sym (natural-none l z)
 
-pub value-long : (l : List ℕ) → (length l ≡ 0 → ⊥) → 10 < length l → Natural.Bad ≡ read-natural l
+pub value-long : (l : List ℕ) → (length l ≡ 0 → ⊥) → most-digits < length l → Natural.Bad ≡ read-natural l
 value-long l z h = sym (natural-long l z h)
 
-pub value-lone : (l : List ℕ) → (length l ≡ 0 → ⊥) → length l ≤ 10 → getD l 0 0 ≡ digit-0 → length l ≡ 1 → Natural.Is 0 ≡ read-natural l
+pub value-lone : (l : List ℕ) → (length l ≡ 0 → ⊥) → length l ≤ most-digits → getD l 0 0 ≡ digit-0 → length l ≡ 1 → Natural.Is 0 ≡ read-natural l
 value-lone l z h f o = sym (natural-lone l z h f o)
 
-pub value-padded : (l : List ℕ) → (length l ≡ 0 → ⊥) → length l ≤ 10 → getD l 0 0 ≡ digit-0 → (length l ≡ 1 → ⊥) → Natural.Bad ≡ read-natural l
+pub value-padded : (l : List ℕ) → (length l ≡ 0 → ⊥) → length l ≤ most-digits → getD l 0 0 ≡ digit-0 → (length l ≡ 1 → ⊥) → Natural.Bad ≡ read-natural l
 value-padded l z h f o = sym (natural-padded l z h f o)
 
-pub value-plain : (l : List ℕ) (r : Natural) → (length l ≡ 0 → ⊥) → length l ≤ 10 → (getD l 0 0 ≡ digit-0 → ⊥) → r ≡ natural-from 0 l → r ≡ read-natural l
+pub value-plain : (l : List ℕ) (r : Natural) → (length l ≡ 0 → ⊥) → length l ≤ most-digits → (getD l 0 0 ≡ digit-0 → ⊥) → r ≡ natural-from 0 l → r ≡ read-natural l
 value-plain l r z h f e = e ∙ sym (natural-plain l z h f)
 
 pub ruleset read-natural-laws = (value-none, value-long, value-lone, value-padded, value-plain)
@@ -133,13 +133,13 @@ slot-fits m n l q r e h p k =
 
 pub ruleset after-slot-laws = (slot-none, slot-past, slot-fits)
 
-pub line-long : (l : List ℕ) → longest-line < length l → Parsed.Bad ≡ read-line l
+pub line-long : (l : List ℕ) → line-bytes < length l → Parsed.Bad ≡ read-line l
 line-long l h = sym (too-long l h)
 
-pub line-short : (l : List ℕ) (a : ℕ) → length l ≤ longest-line → a ≡ word-length l → length l ≤ a → Parsed.Bad ≡ read-line l
+pub line-short : (l : List ℕ) (a : ℕ) → length l ≤ line-bytes → a ≡ word-length l → length l ≤ a → Parsed.Bad ≡ read-line l
 line-short l a h p k = sym (no-call l h (subst (λ n. length l ≤ n) p k))
 
-pub line-whole : (l : List ℕ) (a : ℕ) (m : Natural) (r : Parsed) → length l ≤ longest-line → a ≡ word-length l → a < length l → m ≡ read-natural (take (a - 0) (drop 0 l)) → r ≡ after-slot m (rest l a) → r ≡ read-line l
+pub line-whole : (l : List ℕ) (a : ℕ) (m : Natural) (r : Parsed) → length l ≤ line-bytes → a ≡ word-length l → a < length l → m ≡ read-natural (take (a - 0) (drop 0 l)) → r ≡ after-slot m (rest l a) → r ≡ read-line l
 line-whole l a m r h p k q e =
     e ∙ ap₂ after-slot (q ∙ ap read-natural (word-is l a p)) (rest-is l a p) ∙ sym (slot-and-call l h (omega arith))
 

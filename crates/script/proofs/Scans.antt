@@ -1,6 +1,6 @@
 -- The reader's three loops over bytes. Each has a record, its invariant, that says what is still to be read from place
 -- i on, and laws for its first turn, a next turn and each way out. The rulesets close the loops' needs.
-use Prim.Native.Nat.{ℕ, suc, _<_, _≤_, _+_, _-_, _*_, _^_}
+use Prim.Native.Nat.{ℕ, suc, pred, _<_, _≤_, _+_, _-_, _*_, _^_}
 use mathlib.Core.Bool.{true, false, false≢true}
 use mathlib.Core.List.{List, [], _∷_}
 use mathlib.Core.Path.{_≡_, refl, sym, ap, _∙_}
@@ -12,18 +12,20 @@ use native.Mathlib.Nat.{zero-add, pow-suc, pow-le-pow-right}
 use native.Mathlib.Numerals.{add-one}
 use native.Mathlib.Omega.{arith}
 use Rattle.script.specs.Reading.{word-length, same, is-digit, natural-from}
+use Rattle.script.specs.Sizes.{most-digits}
+use Rattle.script.specs.Texts.{space, digit-0, digit-9}
 use Rattle.script.specs.declared.Natural.{Natural}
 use Rattle.table.proofs.Chains.{by-bool, pick-yes, pick-no, and-true, and-false, and-false-later}
 
 -- ---- the end of a word
 
-pub word-ends : (b : ℕ) (bs : List ℕ) → b ≡ 32 → word-length (b ∷ bs) ≡ 0
+pub word-ends : (b : ℕ) (bs : List ℕ) → b ≡ space → word-length (b ∷ bs) ≡ 0
 unfolding word-length
-word-ends b bs e = pick-yes (eqb b 32) 0 (suc (word-length bs)) (eq-eqb b 32 e)
+word-ends b bs e = pick-yes (eqb b space) 0 (suc (word-length bs)) (eq-eqb b space e)
 
-pub word-goes-on : (b : ℕ) (bs : List ℕ) → (b ≡ 32 → ⊥) → word-length (b ∷ bs) ≡ suc (word-length bs)
+pub word-goes-on : (b : ℕ) (bs : List ℕ) → (b ≡ space → ⊥) → word-length (b ∷ bs) ≡ suc (word-length bs)
 unfolding word-length
-word-goes-on b bs e = pick-no (eqb b 32) 0 (suc (word-length bs)) (ne-eqb b 32 e)
+word-goes-on b bs e = pick-no (eqb b space) 0 (suc (word-length bs)) (ne-eqb b space e)
 
 pub word-none : word-length [] ≡ 0
 unfolding word-length
@@ -36,14 +38,14 @@ pub record In-word (s : List ℕ) (i : ℕ) : Type 0 where
 pub word-starts : (s : List ℕ) → In-word s 0
 word-starts s = record { within = omega arith; rest = sym (zero-add _) }
 
-pub word-next : (s : List ℕ) (i : ℕ) → In-word s i → i < length s → (getD s i 0 ≡ 32 → ⊥) → In-word s (i + 1)
+pub word-next : (s : List ℕ) (i : ℕ) → In-word s i → i < length s → (getD s i 0 ≡ space → ⊥) → In-word s (i + 1)
 word-next s i k h e =
     let q = word-goes-on (getD s i 0) (drop (suc i) s) e in
     let p : word-length (drop i s) ≡ suc (word-length (drop (suc i) s)) = ap word-length (drop-cons s i 0 h) ∙ q in
     let r = k .rest in
     record { within = omega arith; rest = rw add-one (omega arith) }
 
-pub word-found : (s : List ℕ) (i : ℕ) → In-word s i → i < length s → getD s i 0 ≡ 32 → i ≡ word-length s
+pub word-found : (s : List ℕ) (i : ℕ) → In-word s i → i < length s → getD s i 0 ≡ space → i ≡ word-length s
 word-found s i k h e =
     let q = word-ends (getD s i 0) (drop (suc i) s) e in
     let p : word-length (drop i s) ≡ 0 = ap word-length (drop-cons s i 0 h) ∙ q in
@@ -121,25 +123,25 @@ pub ruleset alike-loop = (same-other-length, alike-starts, alike-next, alike-sto
 
 -- ---- digits
 
-pub digit-is : (b : ℕ) → 48 ≤ b → b ≤ 57 → is-digit b ≡ true
+pub digit-is : (b : ℕ) → digit-0 ≤ b → b ≤ digit-9 → is-digit b ≡ true
 unfolding is-digit
-digit-is b l h = and-true (leb 48 b) (leb b 57) (le-leb 48 b l) (le-leb b 57 h)
+digit-is b l h = and-true (leb digit-0 b) (leb b digit-9) (le-leb digit-0 b l) (le-leb b digit-9 h)
 
-digit-low : (b : ℕ) → b < 48 → is-digit b ≡ false
+digit-low : (b : ℕ) → b < digit-0 → is-digit b ≡ false
 unfolding is-digit
-digit-low b h = and-false (leb 48 b) (leb b 57) (lt-leb 48 b h)
+digit-low b h = and-false (leb digit-0 b) (leb b digit-9) (lt-leb digit-0 b h)
 
-digit-high : (b : ℕ) → 57 < b → is-digit b ≡ false
+digit-high : (b : ℕ) → digit-9 < b → is-digit b ≡ false
 unfolding is-digit
-digit-high b h = and-false-later (leb 48 b) (leb b 57) (lt-leb b 57 h)
+digit-high b h = and-false-later (leb digit-0 b) (leb b digit-9) (lt-leb b digit-9 h)
 
-pub digit-goes-on : (n b : ℕ) (bs : List ℕ) → is-digit b ≡ true → natural-from n (b ∷ bs) ≡ natural-from (n * 10 + (b - 48)) bs
+pub digit-goes-on : (n b : ℕ) (bs : List ℕ) → is-digit b ≡ true → natural-from n (b ∷ bs) ≡ natural-from (n * 10 + (b - digit-0)) bs
 unfolding natural-from
-digit-goes-on n b bs e = pick-yes (is-digit b) (natural-from (n * 10 + (b - 48)) bs) Natural.Bad e
+digit-goes-on n b bs e = pick-yes (is-digit b) (natural-from (n * 10 + (b - digit-0)) bs) Natural.Bad e
 
 pub digit-stops : (n b : ℕ) (bs : List ℕ) → is-digit b ≡ false → natural-from n (b ∷ bs) ≡ Natural.Bad
 unfolding natural-from
-digit-stops n b bs e = pick-no (is-digit b) (natural-from (n * 10 + (b - 48)) bs) Natural.Bad e
+digit-stops n b bs e = pick-no (is-digit b) (natural-from (n * 10 + (b - digit-0)) bs) Natural.Bad e
 
 pub digits-none : (n : ℕ) → natural-from n [] ≡ Natural.Is n
 unfolding natural-from
@@ -154,7 +156,7 @@ pub record Valued (s : List ℕ) (n i : ℕ) : Type 0 where
 pub value-starts : (s : List ℕ) → Valued s 0 0
 value-starts s = record { within = omega arith; small = omega arith; rest = refl }
 
-pub value-next : (s : List ℕ) (n i : ℕ) → Valued s n i → i < length s → 48 ≤ getD s i 0 → getD s i 0 ≤ 57 → Valued s (n * 10 + (getD s i 0 - 48)) (i + 1)
+pub value-next : (s : List ℕ) (n i : ℕ) → Valued s n i → i < length s → digit-0 ≤ getD s i 0 → getD s i 0 ≤ digit-9 → Valued s (n * 10 + (getD s i 0 - digit-0)) (i + 1)
 value-next s n i k h l u =
     let q = digit-goes-on n (getD s i 0) (drop (suc i) s) (digit-is (getD s i 0) l u) in
     let w = k .small in
@@ -165,12 +167,12 @@ value-next s n i k h l u =
       rest = k .rest ∙ rw (add-one, drop-cons s i 0 h) q;
     }
 
-pub value-low : (s : List ℕ) (n i : ℕ) → Valued s n i → i < length s → getD s i 0 < 48 → Natural.Bad ≡ natural-from 0 s
+pub value-low : (s : List ℕ) (n i : ℕ) → Valued s n i → i < length s → getD s i 0 < digit-0 → Natural.Bad ≡ natural-from 0 s
 value-low s n i k h l =
     let q = digit-stops n (getD s i 0) (drop (suc i) s) (digit-low (getD s i 0) l) in
     sym (k .rest ∙ rw (drop-cons s i 0 h) q)
 
-pub value-high : (s : List ℕ) (n i : ℕ) → Valued s n i → i < length s → 57 < getD s i 0 → Natural.Bad ≡ natural-from 0 s
+pub value-high : (s : List ℕ) (n i : ℕ) → Valued s n i → i < length s → digit-9 < getD s i 0 → Natural.Bad ≡ natural-from 0 s
 value-high s n i k h l =
     let q = digit-stops n (getD s i 0) (drop (suc i) s) (digit-high (getD s i 0) l) in
     sym (k .rest ∙ rw (drop-cons s i 0 h) q)
@@ -178,11 +180,11 @@ value-high s n i k h l =
 pub value-over : (s : List ℕ) (n i : ℕ) → Valued s n i → length s ≤ i → Natural.Is n ≡ natural-from 0 s
 value-over s n i k h = sym (k .rest ∙ rw (drop-of-length-le s h) (digits-none n))
 
--- before the last digit the value is below 10 ^ 9
-pub value-small : (s : List ℕ) (n i : ℕ) → Valued s n i → i < length s → length s ≤ 10 → n < 1000000000
+-- before the last digit the value has one digit less than the most
+pub value-small : (s : List ℕ) (n i : ℕ) → Valued s n i → i < length s → length s ≤ most-digits → n < 10 ^ pred most-digits
 value-small s n i k h l =
     let w = k .small in
-    let p : 10 ^ i ≤ 10 ^ 9 = pow-le-pow-right {n = 10} (omega arith) {i = i} {j = 9} (omega arith) in
+    let p : 10 ^ i ≤ 10 ^ pred most-digits = pow-le-pow-right {n = 10} (omega arith) {i = i} {j = pred most-digits} (omega arith) in
     omega arith
 
 pub ruleset value-loop = (value-starts, value-next, value-low, value-high, value-over)

@@ -5,7 +5,7 @@ use mathlib.Core.Path.{_≡_, _∙_}
 use borrow.Author.Tests.{eq-eqb, ne-eqb, lt-ltb, le-ltb, le-leb, lt-leb}
 use lib.Dec.{eqb, ltb}
 use lib.ListN.{length, getD, drop}
-use Rattle.script.specs.Lines.{longest-line}
+use Rattle.script.specs.Sizes.{line-bytes, most-digits}
 use Rattle.script.specs.Reading.{word-length, first-word, later-words, one-word, natural-from, read-natural, from-zero, below-zero, read-number, plain-call, call-with, call-with-two, read-call, after-slot, read-line}
 use Rattle.script.specs.Texts.{minus-sign, digit-0}
 use Rattle.script.specs.declared.Natural.{Natural}
@@ -19,32 +19,32 @@ pub natural-none : (l : List ℕ) → length l ≡ 0 → read-natural l ≡ Natu
 unfolding read-natural
 natural-none l z = pick-yes (eqb (length l) 0) Natural.Bad _ (eq-eqb (length l) 0 z)
 
-pub natural-long : (l : List ℕ) → (length l ≡ 0 → ⊥) → 10 < length l → read-natural l ≡ Natural.Bad
+pub natural-long : (l : List ℕ) → (length l ≡ 0 → ⊥) → most-digits < length l → read-natural l ≡ Natural.Bad
 unfolding read-natural
 natural-long l z h =
-    pick-no (eqb (length l) 0) Natural.Bad _ (ne-eqb (length l) 0 z) ∙ pick-yes (ltb 10 (length l)) Natural.Bad _ (lt-ltb 10 (length l) h)
+    pick-no (eqb (length l) 0) Natural.Bad _ (ne-eqb (length l) 0 z) ∙ pick-yes (ltb most-digits (length l)) Natural.Bad _ (lt-ltb most-digits (length l) h)
 
-pub natural-padded : (l : List ℕ) → (length l ≡ 0 → ⊥) → length l ≤ 10 → getD l 0 0 ≡ digit-0 → (length l ≡ 1 → ⊥) → read-natural l ≡ Natural.Bad
+pub natural-padded : (l : List ℕ) → (length l ≡ 0 → ⊥) → length l ≤ most-digits → getD l 0 0 ≡ digit-0 → (length l ≡ 1 → ⊥) → read-natural l ≡ Natural.Bad
 unfolding read-natural
 natural-padded l z h f o =
     pick-no (eqb (length l) 0) Natural.Bad _ (ne-eqb (length l) 0 z)
-    ∙ pick-no (ltb 10 (length l)) Natural.Bad _ (le-ltb 10 (length l) h)
+    ∙ pick-no (ltb most-digits (length l)) Natural.Bad _ (le-ltb most-digits (length l) h)
     ∙ pick-yes (eqb (getD l 0 0) digit-0) _ (natural-from 0 l) (eq-eqb (getD l 0 0) digit-0 f)
     ∙ pick-no (eqb (length l) 1) (Natural.Is 0) Natural.Bad (ne-eqb (length l) 1 o)
 
-pub natural-lone : (l : List ℕ) → (length l ≡ 0 → ⊥) → length l ≤ 10 → getD l 0 0 ≡ digit-0 → length l ≡ 1 → read-natural l ≡ Natural.Is 0
+pub natural-lone : (l : List ℕ) → (length l ≡ 0 → ⊥) → length l ≤ most-digits → getD l 0 0 ≡ digit-0 → length l ≡ 1 → read-natural l ≡ Natural.Is 0
 unfolding read-natural
 natural-lone l z h f o =
     pick-no (eqb (length l) 0) Natural.Bad _ (ne-eqb (length l) 0 z)
-    ∙ pick-no (ltb 10 (length l)) Natural.Bad _ (le-ltb 10 (length l) h)
+    ∙ pick-no (ltb most-digits (length l)) Natural.Bad _ (le-ltb most-digits (length l) h)
     ∙ pick-yes (eqb (getD l 0 0) digit-0) _ (natural-from 0 l) (eq-eqb (getD l 0 0) digit-0 f)
     ∙ pick-yes (eqb (length l) 1) (Natural.Is 0) Natural.Bad (eq-eqb (length l) 1 o)
 
-pub natural-plain : (l : List ℕ) → (length l ≡ 0 → ⊥) → length l ≤ 10 → (getD l 0 0 ≡ digit-0 → ⊥) → read-natural l ≡ natural-from 0 l
+pub natural-plain : (l : List ℕ) → (length l ≡ 0 → ⊥) → length l ≤ most-digits → (getD l 0 0 ≡ digit-0 → ⊥) → read-natural l ≡ natural-from 0 l
 unfolding read-natural
 natural-plain l z h f =
     pick-no (eqb (length l) 0) Natural.Bad _ (ne-eqb (length l) 0 z)
-    ∙ pick-no (ltb 10 (length l)) Natural.Bad _ (le-ltb 10 (length l) h)
+    ∙ pick-no (ltb most-digits (length l)) Natural.Bad _ (le-ltb most-digits (length l) h)
     ∙ pick-no (eqb (getD l 0 0) digit-0) _ (natural-from 0 l) (ne-eqb (getD l 0 0) digit-0 f)
 
 -- ---- a number
@@ -85,18 +85,18 @@ of-more-words l h k =
 
 -- ---- a line
 
-pub too-long : (l : List ℕ) → longest-line < length l → read-line l ≡ Parsed.Bad
+pub too-long : (l : List ℕ) → line-bytes < length l → read-line l ≡ Parsed.Bad
 unfolding read-line
-too-long l h = pick-yes (ltb longest-line (length l)) Parsed.Bad _ (lt-ltb longest-line (length l) h)
+too-long l h = pick-yes (ltb line-bytes (length l)) Parsed.Bad _ (lt-ltb line-bytes (length l) h)
 
-pub no-call : (l : List ℕ) → length l ≤ longest-line → length l ≤ word-length l → read-line l ≡ Parsed.Bad
+pub no-call : (l : List ℕ) → length l ≤ line-bytes → length l ≤ word-length l → read-line l ≡ Parsed.Bad
 unfolding read-line
 no-call l h k =
-    pick-no (ltb longest-line (length l)) Parsed.Bad _ (le-ltb longest-line (length l) h)
+    pick-no (ltb line-bytes (length l)) Parsed.Bad _ (le-ltb line-bytes (length l) h)
     ∙ pick-yes (one-word l) Parsed.Bad (after-slot (read-natural (first-word l)) (later-words l)) (le-leb (length l) (word-length l) k)
 
-pub slot-and-call : (l : List ℕ) → length l ≤ longest-line → word-length l < length l → read-line l ≡ after-slot (read-natural (first-word l)) (later-words l)
+pub slot-and-call : (l : List ℕ) → length l ≤ line-bytes → word-length l < length l → read-line l ≡ after-slot (read-natural (first-word l)) (later-words l)
 unfolding read-line
 slot-and-call l h k =
-    pick-no (ltb longest-line (length l)) Parsed.Bad _ (le-ltb longest-line (length l) h)
+    pick-no (ltb line-bytes (length l)) Parsed.Bad _ (le-ltb line-bytes (length l) h)
     ∙ pick-no (one-word l) Parsed.Bad (after-slot (read-natural (first-word l)) (later-words l)) (lt-leb (length l) (word-length l) k)

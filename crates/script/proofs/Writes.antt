@@ -10,6 +10,7 @@ use native.Mathlib.Numerals.{add-one}
 use native.Mathlib.Omega.{arith}
 use Rattle.script.proofs.Decimals.{decimal-one, decimal-more, decimal-some, decimal-length}
 use Rattle.script.specs.Outputs.{text, end-text, removed-text, answer-line, bad-line, Written, Appended, Copied}
+use Rattle.script.specs.Sizes.{answer-bytes, most-digits}
 use Rattle.script.specs.Texts.{bytes, line-feed, minus-sign, digit-0, decimal, number}
 use Rattle.script.specs.declared.Text.{Text}
 use Rattle.rules.specs.Answers.{refusal-number, number-of, end-of}
@@ -33,7 +34,7 @@ one-more t u v l m a b =
     record { size = omega arith; holds = b .holds ∙ ap (λ s. s ++ m) (a .holds) ∙ append-assoc (text t) l m }
 
 -- a text that begins empty, and has room
-whole : (t u : Text) (l : List ℕ) → t .len ≡ 0 → Appended t l u → length l ≤ 32 → Written u l
+whole : (t u : Text) (l : List ℕ) → t .len ≡ 0 → Appended t l u → length l ≤ answer-bytes → Written u l
 whole t u l z a r =
     let x = a .size in
     record {
@@ -44,7 +45,7 @@ whole t u l z a r =
 
 -- ---- one byte
 
-pub pushed-byte : {Y : Type 0} (g : ℕ → Y) (t : Text) (b : ℕ) → length (map g (t .bytes)) ≡ 32 → t .len < 32 → Appended t (b ∷ []) (record { bytes = set (t .bytes) (t .len) b; len = t .len + 1 })
+pub pushed-byte : {Y : Type 0} (g : ℕ → Y) (t : Text) (b : ℕ) → length (map g (t .bytes)) ≡ answer-bytes → t .len < answer-bytes → Appended t (b ∷ []) (record { bytes = set (t .bytes) (t .len) b; len = t .len + 1 })
 pushed-byte g t b e h =
     let l = length-map (t .bytes) g in
     let i : t .len < length (t .bytes) = omega arith in
@@ -67,7 +68,7 @@ pushing-next w t u v i k h a =
       so-far = subst (λ l. Appended t l v) (sym e) (one-more t u v (take i w) (getD w i 0 ∷ []) (k .so-far) a);
     }
 
-pub pushing-room : (w : List ℕ) (t u : Text) (i : ℕ) → Pushing w t u i → i < length w → t .len + length w ≤ 32 → u .len < 32
+pub pushing-room : (w : List ℕ) (t u : Text) (i : ℕ) → Pushing w t u i → i < length w → t .len + length w ≤ answer-bytes → u .len < answer-bytes
 pushing-room w t u i k h r =
     let x = k .so-far .size in
     let y = length-take-le i w (k .within) in
@@ -80,23 +81,23 @@ pub ruleset pushing-loop = (pushing-starts, pushing-next, pushing-room, pushing-
 
 -- ---- a decimal number
 
-small : (n : ℕ) → Fits w32 n → n < 10 ^ 10
+small : (n : ℕ) → Fits w32 n → n < 10 ^ most-digits
 small n f = let h = f .fits in omega arith
 
 longer : (n : ℕ) → 10 ≤ n → Fits w32 n → length (decimal n) ≡ length (decimal (n / 10)) + 1
 longer n h f =
     ap length (decimal-more n h (small n f)) ∙ length-append (decimal (n / 10)) ((digit-0 + n % 10) ∷ [])
 
-pub last-room : (t : Text) (n : ℕ) → t .len + length (decimal n) ≤ 32 → t .len < 32
+pub last-room : (t : Text) (n : ℕ) → t .len + length (decimal n) ≤ answer-bytes → t .len < answer-bytes
 last-room t n h = let s = decimal-some n in omega arith
 
 pub last-digit : (t u : Text) (n : ℕ) → n < 10 → Appended t ((digit-0 + n) ∷ []) u → Appended t (decimal n) u
 last-digit t u n h a = subst (λ l. Appended t l u) (sym (decimal-one n h)) a
 
-pub rest-room : (t : Text) (n : ℕ) → 10 ≤ n → Fits w32 n → t .len + length (decimal n) ≤ 32 → t .len + length (decimal (n / 10)) ≤ 32
+pub rest-room : (t : Text) (n : ℕ) → 10 ≤ n → Fits w32 n → t .len + length (decimal n) ≤ answer-bytes → t .len + length (decimal (n / 10)) ≤ answer-bytes
 rest-room t n h f r = let e = longer n h f in omega arith
 
-pub next-room : (t u : Text) (n : ℕ) → 10 ≤ n → Fits w32 n → t .len + length (decimal n) ≤ 32 → Appended t (decimal (n / 10)) u → u .len < 32
+pub next-room : (t u : Text) (n : ℕ) → 10 ≤ n → Fits w32 n → t .len + length (decimal n) ≤ answer-bytes → Appended t (decimal (n / 10)) u → u .len < answer-bytes
 next-room t u n h f r a =
     let e = longer n h f in
     let x = a .size in
@@ -111,13 +112,13 @@ pub ruleset decimal-pushes = (last-room, last-digit, rest-room, next-room, next-
 
 -- ---- how a process ended
 
-pub gave-room : (t u : Text) (s : ℕ) → t .len ≤ 10 → Appended t (bytes " gave ") u → u .len + length (decimal s) ≤ 32
+pub gave-room : (t u : Text) (s : ℕ) → t .len ≤ most-digits → Appended t (bytes " gave ") u → u .len + length (decimal s) ≤ answer-bytes
 gave-room t u s h a =
     let x = a .size in
     let y = decimal-length s in
     omega arith
 
-pub signal-room : (t u : Text) (s : ℕ) → t .len ≤ 10 → Appended t (bytes " signal ") u → u .len + length (decimal s) ≤ 32
+pub signal-room : (t u : Text) (s : ℕ) → t .len ≤ most-digits → Appended t (bytes " signal ") u → u .len + length (decimal s) ≤ answer-bytes
 signal-room t u s h a =
     let x = a .size in
     let y = decimal-length s in
@@ -143,35 +144,35 @@ end-length (Signaled s) = let h = decimal-length s in omega arith
 -- ---- an answer
 
 -- room in a text that is empty, or holds a number
-pub empty-room : (t : Text) (n : ℕ) → t .len ≡ 0 → t .len + length (decimal n) ≤ 32
+pub empty-room : (t : Text) (n : ℕ) → t .len ≡ 0 → t .len + length (decimal n) ≤ answer-bytes
 empty-room t n z = let h = decimal-length n in omega arith
 
-pub sign-room : (t u : Text) (b n : ℕ) → t .len ≡ 0 → Appended t (b ∷ []) u → u .len + length (decimal n) ≤ 32
+pub sign-room : (t u : Text) (b n : ℕ) → t .len ≡ 0 → Appended t (b ∷ []) u → u .len + length (decimal n) ≤ answer-bytes
 sign-room t u b n z a =
     let h = decimal-length n in
     let x = a .size in
     omega arith
 
-pub end-room : (t u : Text) (n : ℕ) → t .len ≡ 0 → Appended t (decimal n) u → u .len ≤ 10
+pub end-room : (t u : Text) (n : ℕ) → t .len ≡ 0 → Appended t (decimal n) u → u .len ≤ most-digits
 end-room t u n z a =
     let h = decimal-length n in
     let x = a .size in
     omega arith
 
-pub number-feed-room : (t u : Text) (n : ℕ) → t .len ≡ 0 → Appended t (decimal n) u → u .len < 32
+pub number-feed-room : (t u : Text) (n : ℕ) → t .len ≡ 0 → Appended t (decimal n) u → u .len < answer-bytes
 number-feed-room t u n z a =
     let h = decimal-length n in
     let x = a .size in
     omega arith
 
-pub refused-feed-room : (t u v : Text) (b n : ℕ) → t .len ≡ 0 → Appended t (b ∷ []) u → Appended u (decimal n) v → v .len < 32
+pub refused-feed-room : (t u v : Text) (b n : ℕ) → t .len ≡ 0 → Appended t (b ∷ []) u → Appended u (decimal n) v → v .len < answer-bytes
 refused-feed-room t u v b n z a c =
     let h = decimal-length n in
     let x = a .size in
     let y = c .size in
     omega arith
 
-pub removed-feed-room : (t u v : Text) (n : ℕ) (e : End) → t .len ≡ 0 → Appended t (decimal n) u → Appended u (end-text e) v → v .len < 32
+pub removed-feed-room : (t u v : Text) (n : ℕ) (e : End) → t .len ≡ 0 → Appended t (decimal n) u → Appended u (end-text e) v → v .len < answer-bytes
 removed-feed-room t u v n e z a c =
     let h = decimal-length n in
     let k = end-length e in
@@ -230,7 +231,7 @@ pub record Copying (s d₀ d : List ℕ) (at n i o : ℕ) : Type 0 where
 pub copy-starts : (s d : List ℕ) (at n : ℕ) → Copying s d d at n 0 at
 copy-starts s d at n = record { within = omega arith; place = omega arith; same-length = refl; holds = paste-zero d at s }
 
-pub copy-next : {Y : Type 0} (g : ℕ → Y) (s d₀ d : List ℕ) (at n i o : ℕ) → length (map g s) ≡ 32 → (n ≤ 32) × (at + n ≤ length d₀) → Copying s d₀ d at n i o → i < n → Copying s d₀ (set d o (getD s i 0)) at n (i + 1) (o + 1)
+pub copy-next : {Y : Type 0} (g : ℕ → Y) (s d₀ d : List ℕ) (at n i o : ℕ) → length (map g s) ≡ answer-bytes → (n ≤ answer-bytes) × (at + n ≤ length d₀) → Copying s d₀ d at n i o → i < n → Copying s d₀ (set d o (getD s i 0)) at n (i + 1) (o + 1)
 copy-next g s d₀ d at n i o e r k h =
     let m = length-map s g in
     let a = r .0 in

@@ -1,10 +1,11 @@
 -- What is claimed of the reader: it finds a slot and a call in their one text, and in no other line.
-use Prim.Native.Nat.{ℕ, _<_}
+use Prim.Native.Nat.{ℕ, _<_, _^_}
 use mathlib.Core.List.{List}
 use mathlib.Core.Logic.{_↔_}
 use mathlib.Core.Path.{_≡_}
 use Rattle.script.specs.Lines.{line-of, Fits-a-line}
 use Rattle.script.specs.Reading.{read-natural, read-line}
+use Rattle.script.specs.Sizes.{most-digits}
 use Rattle.script.specs.Texts.{decimal}
 use Rattle.script.specs.declared.Natural.{Natural}
 use Rattle.script.specs.declared.Parsed.{Parsed}
@@ -13,7 +14,7 @@ use Rattle.table.specs.declared.ProcSlot.{ProcSlot}
 
 -- Reading and writing decimals are inverse.
 abbrev pub Decimals-are-read : Type 0
-Decimals-are-read = (n : ℕ) → n < 10000000000 → read-natural (decimal n) ≡ Natural.Is n
+Decimals-are-read = (n : ℕ) → n < 10 ^ most-digits → read-natural (decimal n) ≡ Natural.Is n
 
 abbrev pub Only-decimals-are-read : Type 0
 Only-decimals-are-read = (l : List ℕ) (n : ℕ) → read-natural l ≡ Natural.Is n → l ≡ decimal n

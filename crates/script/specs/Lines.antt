@@ -3,6 +3,7 @@ use Prim.Native.Nat.{ℕ, _<_, _≤_}
 use mathlib.Core.Bool.{Bool, true, false}
 use mathlib.Core.List.{List, _∷_, _++_}
 use lib.IntN.{ℤ, pos, negsuc}
+use Rattle.script.specs.Sizes.{greatest-slot, past-32-bit}
 use Rattle.script.specs.Texts.{bytes, space, decimal, number}
 use Rattle.table.specs.declared.Call.{Call}
 use Rattle.table.specs.declared.Call.the-variants.{Clone, CloneNew, Unshare, Setns, Kill, Exit, Wait, Getpid, Getppid, Handle, Poll}
@@ -32,14 +33,6 @@ line-of slot c = decimal slot ++ space ∷ call-text c
 
 -- ---- which slots and arguments a line may have
 
--- "A slot is 0 to 255."
-abbrev pub greatest-slot : ℕ
-greatest-slot = 255
-
--- "Arguments are signed 32-bit": -2147483648 to 2147483647.
-abbrev pub past-32-bit : ℕ
-past-32-bit = 2147483648
-
 abbrev pub Is-32-bit : ℤ → Type 0
 Is-32-bit (pos n) = n < past-32-bit
 Is-32-bit (negsuc n) = n < past-32-bit
@@ -60,7 +53,3 @@ Arguments-fit Poll = Unit {0}
 pub record Fits-a-line (slot : ℕ) (c : Call) : Type 0 where
   pub slot-fits : slot ≤ greatest-slot
   pub arguments-fit : Arguments-fit c
-
--- "At most 64 bytes without the line feed."
-abbrev pub longest-line : ℕ
-longest-line = 64

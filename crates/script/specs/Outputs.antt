@@ -4,6 +4,7 @@ use mathlib.Core.List.{List, [], _∷_, _++_}
 use mathlib.Core.Option.{Option, none, some}
 use mathlib.Core.Path.{_≡_}
 use lib.ListN.{length, take, drop}
+use Rattle.script.specs.Sizes.{answer-bytes}
 use Rattle.script.specs.Texts.{bytes, line-feed, decimal, number}
 use Rattle.script.specs.declared.Text.{Text}
 use Rattle.rules.specs.Answers.{number-of, end-of}
@@ -28,7 +29,7 @@ answer-line a = number (number-of a) ++ removed-text (end-of a) ++ line-feed ∷
 unfoldable pub bad-line : List ℕ
 bad-line = bytes "?" ++ line-feed ∷ []
 
--- ---- a text in the code: the first len of its 32 bytes
+-- ---- a text in the code: the first len of its bytes
 
 abbrev pub text : Text → List ℕ
 text t = take (t .len) (t .bytes)
@@ -36,7 +37,7 @@ text t = take (t .len) (t .bytes)
 -- t holds the bytes l and no more
 pub record Written (t : Text) (l : List ℕ) : Type 0 where
   pub size : t .len ≡ length l
-  pub room : t .len ≤ 32
+  pub room : t .len ≤ answer-bytes
   pub holds : text t ≡ l
 
 -- u is t with the bytes l after it

@@ -6,8 +6,8 @@ use mathlib.Core.List.{List, [], _∷_}
 use lib.Dec.{eqb, ltb, leb}
 use lib.IntN.{pos, negℤ}
 use lib.ListN.{length, getD, take, drop}
-use Rattle.script.specs.Texts.{bytes, space, minus-sign, digit-0}
-use Rattle.script.specs.Lines.{greatest-slot, past-32-bit, longest-line}
+use Rattle.script.specs.Texts.{bytes, space, minus-sign, digit-0, digit-9}
+use Rattle.script.specs.Sizes.{line-bytes, greatest-slot, past-32-bit, most-digits}
 use Rattle.script.specs.declared.Natural.{Natural}
 use Rattle.script.specs.declared.Number.{Number}
 use Rattle.script.specs.declared.Request.{Request}
@@ -42,7 +42,7 @@ same (b ∷ bs) (c ∷ cs) = elim (eqb b c) [ true ↦ same bs cs | false ↦ fa
 -- ---- numbers
 
 unfoldable pub is-digit : ℕ → Bool
-is-digit b = leb digit-0 b and leb b (digit-0 + 9)
+is-digit b = leb digit-0 b and leb b digit-9
 
 -- the value of digits that follow the digits of n
 unfoldable pub natural-from : ℕ → List ℕ → Natural
@@ -53,7 +53,7 @@ natural-from n (b ∷ bs) = elim (is-digit b) [ true ↦ natural-from (n * 10 + 
 unfoldable pub read-natural : List ℕ → Natural
 read-natural l =
     if eqb (length l) 0 then Natural.Bad else
-    if ltb 10 (length l) then Natural.Bad else
+    if ltb most-digits (length l) then Natural.Bad else
     if eqb (getD l 0 0) digit-0 then (if eqb (length l) 1 then Natural.Is 0 else Natural.Bad) else
     natural-from 0 l
 
@@ -144,6 +144,6 @@ after-slot (Natural.Is n) l = if ltb greatest-slot n then Parsed.Bad else asked-
 -- a line without its line feed
 unfoldable pub read-line : List ℕ → Parsed
 read-line l =
-    if ltb longest-line (length l) then Parsed.Bad else
+    if ltb line-bytes (length l) then Parsed.Bad else
     if one-word l then Parsed.Bad else
     after-slot (read-natural (first-word l)) (later-words l)

@@ -9,9 +9,28 @@ ghost use Prim.Native.Nat.{_+_, _*_, _<_, _≤_};
 ghost use mathlib.Core.List.{[], _∷_};
 ghost use lib.ListN.{length};
 ghost use Rattle.rules.specs.Answers.{refusal-number};
+ghost use Rattle.script.specs.Sizes.{answer-bytes, most-digits};
 ghost use Rattle.script.specs.Outputs.{end-text, answer-line, bad-line, Written, Appended, Copied};
 ghost use Rattle.script.specs.Texts.{minus-sign, decimal, number as number-text};
 ghost use Rattle.script.specs.Reading.{word-length, same as same-text, natural-from, read-natural, from-zero as from-zero-to, below-zero as below-zero-to, read-number, own-call, plain-call, with-number, call-with, kill-call, handle-call, call-with-two, read-call, asked-by, after-slot, read-line};
+
+// ---- sizes, each named once
+
+// The longest line that is read, without its line feed.
+pub const LINE_BYTES: usize = 64;
+
+// Room for an answer and its line feed.
+pub const ANSWER_BYTES: usize = 32;
+
+// A number has at most so many digits: enough for 32 bits.
+const MOST_DIGITS: usize = 10;
+
+// An argument has 32 bits with its sign: it is below this number, and not below its negative.
+const PAST_32_BIT: u64 = 2147483648;
+
+const GREATEST_SLOT: u64 = 255;
+
+// ---- what is read
 
 // The value of decimal digits.
 pub enum Natural {
@@ -72,9 +91,9 @@ pub fn same(a: &[u8], b: &[u8]) -> bool
 
 // ---- numbers
 
-// The value of at most ten digits, so that it fits.
+// The value of few enough digits that it fits.
 fn digits_value(s: &[u8]) -> Natural
-    requires { ⌜ length (now s) ≤ 10 ⌝ }
+    requires { ⌜ length (now s) ≤ most-digits ⌝ }
     ensures { λ r. ⌜ r ≡ natural-from 0 (now (s .entry)) ⌝ }
 {
     let mut value: u64 = 0;
@@ -99,7 +118,7 @@ fn read_natural(s: &[u8]) -> Natural
     if s.len() == 0 {
         return Natural::Bad;
     }
-    if s.len() > 10 {
+    if s.len() > MOST_DIGITS {
         return Natural::Bad;
     }
     if s[0] == b'0' {
@@ -117,7 +136,7 @@ fn from_zero(natural: Natural) -> Number
     let Natural::Is(n) = natural else {
         return Number::Bad;
     };
-    if n < 2147483648 {
+    if n < PAST_32_BIT {
         return Number::Is(n as i32);
     }
     Number::Bad
@@ -132,7 +151,7 @@ fn below_zero(natural: Natural) -> Number
     if n == 0 {
         return Number::Bad;
     }
-    if n > 2147483648 {
+    if n > PAST_32_BIT {
         return Number::Bad;
     }
     Number::Is((0 - n as i64) as i32)
@@ -285,7 +304,7 @@ fn after_slot(slot: Natural, rest: &[u8]) -> Parsed
     let Natural::Is(n) = slot else {
         return Parsed::Bad;
     };
-    if n > 255 {
+    if n > GREATEST_SLOT {
         return Parsed::Bad;
     }
     asked_by(ProcSlot(n as u8), read_call(rest))
@@ -295,7 +314,7 @@ fn after_slot(slot: Natural, rest: &[u8]) -> Parsed
 pub fn parse(line: &[u8]) -> Parsed
     ensures { λ r. ⌜ r ≡ read-line (now (line .entry)) ⌝ }
 {
-    if line.len() > 64 {
+    if line.len() > LINE_BYTES {
         return Parsed::Bad;
     }
     let a = word_length(line);
@@ -309,7 +328,7 @@ pub fn parse(line: &[u8]) -> Parsed
 
 // A short text by value: the first len bytes.
 pub struct Text {
-    pub bytes: [u8; 32],
+    pub bytes: [u8; ANSWER_BYTES],
     pub len: usize,
 }
 
@@ -317,13 +336,13 @@ fn empty() -> Text
     ensures { λ r. ⌜ r .len ≡ 0 ⌝ }
 {
     Text {
-        bytes: [0; 32],
+        bytes: [0; ANSWER_BYTES],
         len: 0,
     }
 }
 
 fn push(text: Text, b: u8) -> Text
-    requires { ⌜ text .len < 32 ⌝ }
+    requires { ⌜ text .len < answer-bytes ⌝ }
     ensures { λ r. ⌜ Appended text (b ∷ []) r ⌝ }
 {
     let mut t = text;
@@ -334,7 +353,7 @@ fn push(text: Text, b: u8) -> Text
 }
 
 fn push_word(text: Text, word: &[u8]) -> Text
-    requires { ⌜ text .len + length (now word) ≤ 32 ⌝ }
+    requires { ⌜ text .len + length (now word) ≤ answer-bytes ⌝ }
     ensures { λ r. ⌜ Appended text (now (word .entry)) r ⌝ }
 {
     let mut t = text;
@@ -347,7 +366,7 @@ fn push_word(text: Text, word: &[u8]) -> Text
 }
 
 fn push_decimal(text: Text, n: u32) -> Text
-    requires { ⌜ text .len + length (decimal n) ≤ 32 ⌝ }
+    requires { ⌜ text .len + length (decimal n) ≤ answer-bytes ⌝ }
     ensures { λ r. ⌜ Appended text (decimal n) r ⌝ }
 {
     if n < 10 {
@@ -357,7 +376,7 @@ fn push_decimal(text: Text, n: u32) -> Text
 }
 
 fn push_end(text: Text, how: End) -> Text
-    requires { ⌜ text .len ≤ 10 ⌝ }
+    requires { ⌜ text .len ≤ most-digits ⌝ }
     ensures { λ r. ⌜ Appended text (end-text how) r ⌝ }
 {
     match how {
@@ -404,7 +423,7 @@ pub fn bad_text() -> Text
 
 // Copies a text into a lent buffer from a place on, and gives the place after it.
 pub fn put(text: Text, out: &mut [u8], at: usize) -> usize
-    requires { ⌜ (text .len ≤ 32) × (at + text .len ≤ length (now out)) ⌝ }
+    requires { ⌜ (text .len ≤ answer-bytes) × (at + text .len ≤ length (now out)) ⌝ }
     ensures { λ r. ⌜ Copied text at (now (out .entry)) (now (out .exit)) r ⌝ }
 {
     let bytes = text.bytes;
