@@ -7,7 +7,6 @@ use outcomes::answers;
 use outcomes::refuse_if;
 use table::DEEPEST;
 use table::Outcome;
-use table::PROCESS_SLOTS;
 use table::Pid;
 use table::ProcSlot;
 use table::Refusal;
@@ -16,14 +15,13 @@ use tree::find;
 use tree::levels;
 use tree::pid_in;
 use tree::ups;
+// What `named` gives where a number names nobody.
+pub use tree::NO_PROCESS;
 ghost use mathlib.Core.Path.{_≡_};
 ghost use Rattle.outcomes.specs.Verdicts.{verdict};
 ghost use Rattle.rules.specs.Calls.{own-level, elsewhere, named as named-in, getpid as getpid-of, getppid as getppid-of};
 ghost use Rattle.rules.specs.Read.{view};
 ghost use Rattle.callers.specs.Making.{refusals-at};
-
-// The slot that says that a number names nobody.
-pub const NOBODY: u8 = PROCESS_SLOTS as u8;
 
 // The level of the caller's own namespace.
 pub fn own_level(t: Table, caller: ProcSlot) -> u8
@@ -61,11 +59,11 @@ pub fn named(t: Table, caller: ProcSlot, n: i32) -> ProcSlot
     ensures { λ r. ⌜ r .0 ≡ named-in (view t) (caller .0) n ⌝ }
 {
     if !names_one(n) {
-        return ProcSlot(NOBODY);
+        return ProcSlot(NO_PROCESS);
     }
     let k = natural_of(n);
     if 65535 < k {
-        return ProcSlot(NOBODY);
+        return ProcSlot(NO_PROCESS);
     }
     let p = t.process(caller);
     let own = p.own;

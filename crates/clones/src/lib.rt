@@ -8,13 +8,13 @@ use outcomes::Verdict;
 use outcomes::refuse_if;
 use outcomes::refused;
 use table::Answer;
-use table::NAMESPACE_SLOTS;
 use table::Outcome;
-use table::PROCESS_SLOTS;
 use table::ProcSlot;
 use table::Refusal;
 use table::Reply;
 use table::Table;
+use tree::NO_NAMESPACE;
+use tree::NO_PROCESS;
 use tree::free_namespace_slot;
 use tree::free_slot;
 ghost use mathlib.Core.Path.{_≡_};
@@ -22,11 +22,6 @@ ghost use Rattle.outcomes.specs.Verdicts.{verdict};
 ghost use Rattle.rules.specs.Calls.{born as born-of, clone-refusals, clone as clone-of, clone-new as clone-new-of};
 ghost use Rattle.rules.specs.Pids.{free-slot};
 ghost use Rattle.rules.specs.Read.{view};
-
-// What says that no slot is free, of processes and of namespaces.
-const FULL: u8 = PROCESS_SLOTS as u8;
-
-const NAMESPACES_FULL: u8 = NAMESPACE_SLOTS as u8;
 
 // A child is born: t is the table before, u the one with the child at a slot. The answer is its number in the caller's
 // namespace, and the host is told its slot.
@@ -52,7 +47,7 @@ fn may_clone(t: Table, caller: ProcSlot, slot: ProcSlot) -> Verdict
     let p = t.process(caller);
     let home = t.namespace(p.children);
     let dead = home.is_dead();
-    let full = slot.0 == FULL;
+    let full = slot.0 == NO_PROCESS;
     let room = refuse_if(full, Refusal::Eagain, Verdict::Granted);
     refuse_if(dead, Refusal::Enomem, room)
 }
@@ -76,7 +71,7 @@ pub fn clone_new(t: Table, caller: ProcSlot) -> Outcome
     let level = own_level(t, caller);
     let slot = free_slot(t);
     let n = free_namespace_slot(t);
-    let full = (slot.0 == FULL) | (n.0 == NAMESPACES_FULL);
+    let full = (slot.0 == NO_PROCESS) | (n.0 == NO_NAMESPACE);
     let verdict = may_make(t, caller, level, full);
     if let Verdict::Refused(why) = verdict {
         return refused(t, why);

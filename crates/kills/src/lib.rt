@@ -3,7 +3,7 @@ use arguments::is_signal;
 use arguments::names_everyone;
 use arguments::names_group;
 use arguments::signal_of;
-use callers::NOBODY;
+use callers::NO_PROCESS;
 use callers::named;
 use delivery::Targets;
 use delivery::deliver;
@@ -57,7 +57,7 @@ fn kill_one(t: Table, caller: ProcSlot, n: i32, s: i32) -> Outcome
     ensures { λ r. ⌜ (names-everyone n ≡ false → Kills t (caller .0) n s r) ⌝ }
 {
     let slot = named(t, caller, n);
-    let verdict = may_kill(n, s, slot.0 == NOBODY);
+    let verdict = may_kill(n, s, slot.0 == NO_PROCESS);
     if let Verdict::Refused(why) = verdict {
         return refused(t, why);
     }

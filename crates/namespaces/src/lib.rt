@@ -1,6 +1,5 @@
 // unshare and setns: the namespace that the caller's children are born into.
 use births::new_namespace;
-use callers::NOBODY;
 use callers::may_make;
 use callers::named;
 use callers::own_level;
@@ -9,13 +8,14 @@ use outcomes::Verdict;
 use outcomes::answers;
 use outcomes::refuse_if;
 use outcomes::refused;
-use table::NAMESPACE_SLOTS;
 use table::NsSlot;
 use table::Outcome;
 use table::ProcSlot;
 use table::Process;
 use table::Refusal;
 use table::Table;
+use tree::NO_NAMESPACE;
+use tree::NO_PROCESS;
 use tree::free_namespace_slot;
 ghost use Prim.Native.Nat.{ℕ};
 ghost use mathlib.Core.Path.{_≡_};
@@ -23,9 +23,6 @@ ghost use lib.IntN.{ℤ};
 ghost use Rattle.outcomes.specs.Verdicts.{verdict};
 ghost use Rattle.rules.specs.Calls.{unshare as unshare-of, set-children, named as named-in, setns-refusals, setns as setns-of};
 ghost use Rattle.rules.specs.Read.{view};
-
-// What says that no slot of namespaces is free.
-const FULL: u8 = NAMESPACE_SLOTS as u8;
 
 // The caller's children's namespace becomes n; the caller's own stays.
 fn set_children(t: Table, caller: ProcSlot, n: NsSlot) -> Table
@@ -41,7 +38,7 @@ pub fn unshare(t: Table, caller: ProcSlot) -> Outcome
 {
     let level = own_level(t, caller);
     let n = free_namespace_slot(t);
-    let verdict = may_make(t, caller, level, n.0 == FULL);
+    let verdict = may_make(t, caller, level, n.0 == NO_NAMESPACE);
     if let Verdict::Refused(why) = verdict {
         return refused(t, why);
     }
@@ -57,7 +54,7 @@ fn may_setns(t: Table, slot: ProcSlot) -> Verdict
 {
     let target = t.process(slot);
     refuse_if(
-        (slot.0 == NOBODY) | target.has_ended(),
+        (slot.0 == NO_PROCESS) | target.has_ended(),
         Refusal::Esrch,
         Verdict::Granted,
     )

@@ -14,6 +14,14 @@ ghost use Rattle.rules.specs.Read.{view, climb, find as find-in};
 ghost use Rattle.rules.specs.Pids.{free-slot, free-namespace-slot};
 ghost use Rattle.tree.specs.Tree.{ups-of, levels-of, slot-in, level-in, seen-from, pid-from, named-from, holds-namespace};
 
+// ---- no slot
+
+// What a search for a slot gives where no slot is the one: the first past the last, which reads as empty. A field that
+// holds no slot has NO_SLOT, which is 255.
+pub const NO_PROCESS: u8 = PROCESS_SLOTS as u8;
+
+pub const NO_NAMESPACE: u8 = NAMESPACE_SLOTS as u8;
+
 // ---- the parents and the levels of all namespaces
 
 pub fn ups(namespaces: [Namespace; NAMESPACE_SLOTS]) -> [NsSlot; NAMESPACE_SLOTS]
@@ -133,7 +141,7 @@ pub fn is_named(
     seen(up, levels, n, p)
 }
 
-// The slot of the process whose number in n is pid. PROCESS_SLOTS says that there is none.
+// The slot of the process whose number in n is pid, or NO_PROCESS.
 pub fn find(t: Table, n: NsSlot, pid: Pid) -> ProcSlot
     ensures { λ r. ⌜ r .0 ≡ find-in (view t) (n .0) (pid .0) ⌝ }
 {
@@ -149,12 +157,12 @@ pub fn find(t: Table, n: NsSlot, pid: Pid) -> ProcSlot
         }
         i += 1;
     }
-    ProcSlot(PROCESS_SLOTS as u8)
+    ProcSlot(NO_PROCESS)
 }
 
 // ---- free slots
 
-// The lowest free process slot. PROCESS_SLOTS says that there is none.
+// The lowest free process slot, or NO_PROCESS.
 pub fn free_slot(t: Table) -> ProcSlot
     ensures { λ r. ⌜ r .0 ≡ free-slot (view t) ⌝ }
 {
@@ -166,7 +174,7 @@ pub fn free_slot(t: Table) -> ProcSlot
         }
         slot += 1;
     }
-    ProcSlot(PROCESS_SLOTS as u8)
+    ProcSlot(NO_PROCESS)
 }
 
 // Whether a slot with this record holds a namespace: it is the root's, or its level is not 0.
@@ -179,7 +187,7 @@ pub fn holds_namespace(slot: NsSlot, n: Namespace) -> bool
     n.level != 0
 }
 
-// The lowest free namespace slot. NAMESPACE_SLOTS says that there is none.
+// The lowest free namespace slot, or NO_NAMESPACE.
 pub fn free_namespace_slot(t: Table) -> NsSlot
     ensures { λ r. ⌜ r .0 ≡ free-namespace-slot (view t) ⌝ }
 {
@@ -191,5 +199,5 @@ pub fn free_namespace_slot(t: Table) -> NsSlot
         }
         slot += 1;
     }
-    NsSlot(NAMESPACE_SLOTS as u8)
+    NsSlot(NO_NAMESPACE)
 }

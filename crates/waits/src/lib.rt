@@ -1,6 +1,6 @@
 // exit and wait: a process ends, and its parent takes it out of the table.
 use arguments::exit_status;
-use callers::NOBODY;
+use callers::NO_PROCESS;
 use callers::own_level;
 use ending::end_process;
 use ending::free_unheld;
@@ -77,8 +77,8 @@ fn has_child(t: Table, parent: ProcSlot) -> bool
     false
 }
 
-// Whether a process is an ended child that comes before the best so far, by its number at a level. NOBODY says that there
-// is none so far.
+// Whether a process is an ended child that comes before the best so far, by its number at a level. NO_PROCESS
+// says that there is none so far.
 fn comes_first(p: Process, parent: ProcSlot, level: u8, best: ProcSlot, lowest: Pid) -> bool
     ensures { λ r. ⌜ r ≡ (not (eqb (pid-at p 0) 0) and eqb (p .parent .0) (parent .0) and is-ended (p .state) and (eqb (best .0) process-slots or ltb (pid-at p level) (lowest .0))) ⌝ }
 {
@@ -88,18 +88,18 @@ fn comes_first(p: Process, parent: ProcSlot, level: u8, best: ProcSlot, lowest: 
     if !p.has_ended() {
         return false;
     }
-    if best.0 == NOBODY {
+    if best.0 == NO_PROCESS {
         return true;
     }
     let pid = p.pid_at(level);
     pid.0 < lowest.0
 }
 
-// The slot of the ended child with the lowest number at a level. NOBODY says that there is none.
+// The slot of the ended child with the lowest number at a level, or NO_PROCESS.
 fn first_ended(t: Table, parent: ProcSlot, level: u8) -> ProcSlot
     ensures { λ r. ⌜ r .0 ≡ least (λ i. child-of (view t) (parent .0) i and view t .ended i) (λ i. view t .pid i level) process-slots process-slots ⌝ }
 {
-    let mut best = ProcSlot(NOBODY);
+    let mut best = ProcSlot(NO_PROCESS);
     let mut lowest = Pid(0);
     let mut i: usize = 0;
     while i < PROCESS_SLOTS {

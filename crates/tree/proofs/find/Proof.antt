@@ -54,9 +54,6 @@ loop-less c = search needs
 loop-again : tie.Need-loop-again Inv-loop μ-loop
 loop-again c = search (first-loops, named-test)
 
-cast-t18 : tie.Need-cast-t18 Inv-loop μ-loop
-cast-t18 c = search needs
-
 returns-2 : tie.Need-returns-2 Inv-loop μ-loop
 unfolding find
 returns-2 c = search first-loops
@@ -79,5 +76,4 @@ find-spec =
     add-i
     loop-less
     loop-again
-    cast-t18
     returns-2)

@@ -48,9 +48,6 @@ loop-again : tie.Need-loop-again Inv-loop μ-loop
 unfolding namespace-taken
 loop-again c = search (first-loops-by, chains)
 
-cast-t14 : tie.Need-cast-t14 Inv-loop μ-loop
-cast-t14 c = search needs
-
 returns-2 : tie.Need-returns-2 Inv-loop μ-loop
 unfolding free-namespace-slot
 returns-2 c = search first-loops-by
@@ -71,5 +68,4 @@ free-namespace-slot-spec =
     add-slot
     loop-less
     loop-again
-    cast-t14
     returns-2)

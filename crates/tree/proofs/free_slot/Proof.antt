@@ -45,9 +45,6 @@ loop-again : tie.Need-loop-again Inv-loop μ-loop
 unfolding taken
 loop-again c = search (first-loops-by, chains)
 
-cast-t12 : tie.Need-cast-t12 Inv-loop μ-loop
-cast-t12 c = search needs
-
 returns-2 : tie.Need-returns-2 Inv-loop μ-loop
 unfolding free-slot
 returns-2 c = search first-loops-by
@@ -67,5 +64,4 @@ free-slot-spec =
     add-slot
     loop-less
     loop-again
-    cast-t12
     returns-2)
