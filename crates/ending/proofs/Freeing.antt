@@ -27,7 +27,8 @@ use Rattle.table.specs.declared.Life.{Life}
 use Rattle.table.specs.declared.Life.the-variants.{Unborn, Alive, Dead}
 use Rattle.table.specs.declared.Namespace.{Namespace}
 use Rattle.table.specs.declared.Table.{Table}
-use Rattle.ending.specs.Holding.{mark-at, with-marks, marks-of, kept-for, keeps, is-blank, once-freed}
+use Rattle.tree.specs.Tree.{is-blank-namespace}
+use Rattle.ending.specs.Holding.{mark-at, with-marks, marks-of, kept-for, keeps, once-freed}
 use Rattle.rules.proofs.Laws.OneHold.{kept-one}
 
 -- ---- the marks
@@ -111,8 +112,8 @@ freed-all g t u up level marks i count a b c m s h =
 
 -- ---- a blank slot is as a freed one
 
-blank-is : (s : Namespace) → So (is-blank s) → s ≡ empty-namespace
-unfolding is-blank
+blank-is : (s : Namespace) → So (is-blank-namespace s) → s ≡ empty-namespace
+unfolding is-blank-namespace
 blank-is s h =
     let a : s .parent .0 ≡ 0 = eqb-true _ 0 (left _ _ (left _ _ (left _ _ h))) in
     let b : s .level ≡ 0 = eqb-true _ 0 (right _ _ (left _ _ (left _ _ h))) in
@@ -126,7 +127,7 @@ blank-is s h =
     unborn-is Dead h = absurd (false≢true h)
 
 -- r says whether s is blank
-pub freed-blank : (up level : ℕ → ℕ) (mark : ℕ → Bool) (n : ℕ) (s : Namespace) (r : Bool) → r ≡ is-blank s → r ≡ true → s ≡ once-freed up level mark n s
+pub freed-blank : (up level : ℕ → ℕ) (mark : ℕ → Bool) (n : ℕ) (s : Namespace) (r : Bool) → r ≡ is-blank-namespace s → r ≡ true → s ≡ once-freed up level mark n s
 unfolding once-freed
 freed-blank up level mark n s r e h = go (kept-for up level mark n)
   where

@@ -7,7 +7,6 @@ use native.Mathlib.Omega.{arith}
 use borrow.Author.Tests.{not-true, not-false}
 use lib.Dec.{eqb}
 use lib.ListN.{length, set, replicate, List·getD-eq-default}
-use lib.Seq.{set-out}
 use Rattle.table.proofs.Chains.{pick-yes, pick-no, and-false}
 use Rattle.table.proofs.MapLoops.{Mapped, map-done, changed-reads}
 use Rattle.table.proofs.Slots.{length-mapped}
@@ -20,9 +19,6 @@ use Rattle.table.specs.declared.Table.{Table}
 use Rattle.ending.proofs.Members.{processes-changed}
 use Rattle.ending.specs.Ending.{once-swept, swept}
 use Rattle.ending.specs.Holding.{mark-at, with-marks}
-
-pub put-out : {A : Type 0} (l : List A) (n i : ℕ) (x : A) → length l ≡ n → n ≤ i → l ≡ set l i x
-put-out l n i x e h = sym (set-out l i x (omega arith))
 
 -- an empty slot has none
 pub no-marks : (p : Process) (marks : List Bool) (r : Bool) → r ≡ not (eqb (pid-at p 0) 0) → not r ≡ true → marks ≡ with-marks p marks

@@ -7,7 +7,7 @@ use lib.ListN.{getD, set, replicate}
 use Rattle.table.proofs.FoldLoops.{turns}
 use Rattle.table.specs.Fresh.{empty-namespace}
 use Rattle.table.specs.Limits.{namespace-slots, process-slots}
-use Rattle.table.specs.Slots.{process, pid-at, is-unborn}
+use Rattle.table.specs.Slots.{process, pid-at}
 use Rattle.rules.specs.Read.{climb}
 use Rattle.table.specs.Tests.{_and_, _or_, if_then_else_, any}
 use Rattle.table.specs.declared.Namespace.{Namespace}
@@ -34,10 +34,6 @@ keeps up level mark n m = mark m and climb up (level m) m n
 -- n is the root, or some namespace keeps it
 unfoldable pub kept-for : (ℕ → ℕ) → (ℕ → ℕ) → (ℕ → Bool) → ℕ → Bool
 kept-for up level mark n = eqb n 0 or any namespace-slots (keeps up level mark n)
-
--- nothing stands at the slot
-unfoldable pub is-blank : Namespace → Bool
-is-blank s = eqb (s .parent .0) 0 and eqb (s .level) 0 and eqb (s .last .0) 0 and is-unborn (s .life)
 
 unfoldable pub once-freed : (ℕ → ℕ) → (ℕ → ℕ) → (ℕ → Bool) → ℕ → Namespace → Namespace
 once-freed up level mark n s = if kept-for up level mark n then s else empty-namespace

@@ -16,13 +16,14 @@ use table::Table;
 use table::empty_namespace;
 use table::empty_process;
 use tree::below;
+use tree::is_blank_namespace;
 use tree::levels;
+use tree::mark;
 use tree::seen;
 use tree::ups;
 ghost use mathlib.Core.Path.{_≡_};
-ghost use mathlib.Core.Bool.{true};
 ghost use Prim.Native.Nat.{_<_};
-ghost use lib.ListN.{getD, set};
+ghost use lib.ListN.{getD};
 ghost use Rattle.rules.specs.Freeing.{freed};
 ghost use Rattle.table.specs.Limits.{process-slots};
 ghost use Rattle.table.specs.Slots.{no-namespace};
@@ -30,7 +31,7 @@ ghost use Rattle.table.specs.Records.{as-ended};
 ghost use Rattle.rules.specs.Read.{view, seen as seen-in};
 ghost use Rattle.tree.specs.Tree.{slot-in, level-in};
 ghost use Rattle.ending.specs.Ending.{killed as killed-by-9, dies-with, once-dead, marked-dead, falls-with, end-member, end-namespace, once-swept, swept, end-init, once-handed, handed-over, Ends};
-ghost use Rattle.ending.specs.Holding.{mark-at, with-marks, marks-of, kept-for, is-blank, once-freed};
+ghost use Rattle.ending.specs.Holding.{mark-at, with-marks, marks-of, kept-for, once-freed};
 
 // ---- one record
 
@@ -302,18 +303,6 @@ pub fn end_process(t: Table, slot: ProcSlot, how: End) -> Table
 
 // ---- freeing
 
-// Marks with one more; past the last slot there is none.
-fn with_mark(marks: [bool; NAMESPACE_SLOTS], n: NsSlot) -> [bool; NAMESPACE_SLOTS]
-    ensures { λ r. ⌜ r ≡ set marks (n .0) true ⌝ }
-{
-    let mut more = marks;
-    let i = n.0 as usize;
-    if i < NAMESPACE_SLOTS {
-        more[i] = true;
-    }
-    more
-}
-
 // Marks with those of one process: its own namespace, and the one for its children.
 fn with_marks(p: Process, marks: [bool; NAMESPACE_SLOTS]) -> [bool; NAMESPACE_SLOTS]
     ensures { λ r. ⌜ r ≡ with-marks p marks ⌝ }
@@ -323,7 +312,7 @@ fn with_marks(p: Process, marks: [bool; NAMESPACE_SLOTS]) -> [bool; NAMESPACE_SL
     }
     let own = p.own;
     let children = p.children;
-    with_mark(with_mark(marks, own), children)
+    mark(mark(marks, own), children)
 }
 
 // The namespaces that some process has as its own or for its children.
@@ -365,24 +354,6 @@ fn is_kept(
     false
 }
 
-// Whether nothing stands at a namespace slot.
-fn is_blank(s: Namespace) -> bool
-    ensures { λ r. ⌜ r ≡ is-blank s ⌝ }
-{
-    let parent = s.parent;
-    if parent.0 != 0 {
-        return false;
-    }
-    if s.level != 0 {
-        return false;
-    }
-    let last = s.last;
-    if last.0 != 0 {
-        return false;
-    }
-    s.is_unborn()
-}
-
 // What is left of the namespace s at slot n. Most slots are blank, and need no climbs.
 fn once_freed(
     up: [NsSlot; NAMESPACE_SLOTS],
@@ -393,7 +364,7 @@ fn once_freed(
 ) -> Namespace
     ensures { λ r. ⌜ r ≡ once-freed (slot-in up) (level-in levels) (mark-at marks) (n .0) s ⌝ }
 {
-    if is_blank(s) {
+    if is_blank_namespace(s) {
         return s;
     }
     if is_kept(up, levels, marks, n) {

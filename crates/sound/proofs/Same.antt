@@ -27,6 +27,7 @@ use Rattle.sound.specs.Quick as Q
 use Rattle.sound.specs.Quick.{pid-values, quick, process-at, namespace-at, top, pid-keys, unborn-keys}
 use Rattle.rules.proofs.Laws.OneHold.{zero-one, only-children}
 use Rattle.rules.proofs.Laws.Holds.{each-index}
+use Rattle.tree.specs.Tree.{is-blank-namespace}
 
 -- ---- keys
 
@@ -100,7 +101,7 @@ unfolding Q.blank
 blank-is v i = sym (zero-one v i)
 
 blank-namespace-is : (v : View) (n : ℕ) → Q.blank-namespace (namespace-at v n) ≡ zero-namespace v n
-unfolding Q.blank-namespace zero-namespace
+unfolding Q.blank-namespace is-blank-namespace zero-namespace
 blank-namespace-is v n = refl
 
 -- a living namespace is not unborn

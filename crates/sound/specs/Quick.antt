@@ -18,6 +18,7 @@ use Rattle.table.specs.declared.Process.{Process}
 use Rattle.table.specs.declared.State.{State}
 use Rattle.table.specs.declared.Traits.{Traits}
 use Rattle.table.specs.Traits.{blank-traits, bare-traits, traits-ok}
+use Rattle.tree.specs.Tree.{is-blank-namespace}
 
 -- ---- one slot: of a view, and of what the code has read
 
@@ -142,8 +143,10 @@ place-ok s above =
     above .taken and eqb (s .level) (suc (above .level)) and leb (s .level) deepest and not (is-unborn (above .life))
     and (is-dead (above .life) implies is-dead (s .life))
 
+-- an empty slot
 unfoldable pub blank-namespace : NamespaceRow → Bool
-blank-namespace s = eqb (s .up) 0 and eqb (s .level) 0 and eqb (s .last) 0 and is-unborn (s .life)
+blank-namespace s =
+    is-blank-namespace (record { parent = record { 0 = s .up }; level = s .level; last = record { 0 = s .last }; life = s .life })
 
 unfoldable pub filled-ok : ℕ → NamespaceRow → NamespaceRow → ProcessRow → Bool
 filled-ok n s above init =

@@ -22,14 +22,15 @@ use table::empty_namespace;
 use table::empty_process;
 use tree::below;
 use tree::holds_namespace;
+use tree::is_blank_namespace;
 use tree::levels;
+use tree::mark;
 use tree::parent_of;
 use tree::ups;
 ghost use mathlib.Core.Path.{_≡_};
-ghost use mathlib.Core.Bool.{not, true};
+ghost use mathlib.Core.Bool.{not};
 ghost use Prim.Native.Nat.{suc, _<_};
 ghost use lib.Dec.{eqb, ltb};
-ghost use lib.ListN.{getD, set};
 ghost use Rattle.table.proofs.MarkLoops.{Marks};
 ghost use Rattle.table.specs.Limits.{levels as level-count, process-slots, namespace-slots};
 ghost use Rattle.table.specs.Slots.{is-unborn, is-dead, pid-at};
@@ -39,7 +40,7 @@ ghost use Rattle.table.specs.Tests.{_and_, _implies_, agree, if_then_else_, all
 ghost use Rattle.table.specs.declared.State.the-variants.{Ended};
 ghost use Rattle.table.specs.Traits.{blank-traits, bare-traits, traits-ok};
 ghost use Rattle.tree.specs.Tree.{slot-in, level-in};
-ghost use Rattle.sound.specs.Quick.{process-row, namespace-row, process-at, ended-ok, living-ok, state-ok, pid-ok, pids-ok, member-ok, parent-ok, blank, process-ok, processes-ok, init-ok, life-ok, place-ok, blank-namespace, filled-ok, namespace-ok, namespaces-ok, mark-process, mark-namespace, held-by-processes, held-by-children, process-in, reach-ok, key-in, differs-at, differ, unborn-key, unborn-keys, raised, itself, pid-key, pid-keys, root-process-ok, root-namespace-ok};
+ghost use Rattle.sound.specs.Quick.{process-row, namespace-row, process-at, ended-ok, living-ok, state-ok, pid-ok, pids-ok, member-ok, parent-ok, blank, process-ok, processes-ok, init-ok, life-ok, place-ok, filled-ok, namespace-ok, namespaces-ok, mark-process, mark-namespace, held-by-processes, held-by-children, process-in, reach-ok, key-in, differs-at, differ, unborn-key, unborn-keys, raised, itself, pid-key, pid-keys, root-process-ok, root-namespace-ok};
 
 // ---- a process's traits
 
@@ -377,28 +378,12 @@ fn place_ok(n: NsSlot, s: Namespace, above: Namespace) -> bool
     dead_ok(s, above)
 }
 
-// Whether an empty namespace slot is all zero.
-fn is_blank_namespace(n: NsSlot, s: Namespace) -> bool
-    ensures { λ r. ⌜ r ≡ blank-namespace (namespace-row (n .0) s) ⌝ }
-{
-    if s.parent.0 != 0 {
-        return false;
-    }
-    if s.level != 0 {
-        return false;
-    }
-    if s.last.0 != 0 {
-        return false;
-    }
-    s.is_unborn()
-}
-
 // A namespace slot, with the parent of its namespace and its init.
 fn filled_ok(n: NsSlot, s: Namespace, above: Namespace, init: Process) -> bool
     ensures { λ r. ⌜ r ≡ filled-ok (n .0) (namespace-row (n .0) s) (namespace-row (s .parent .0) above) (process-row init) ⌝ }
 {
     if !holds_namespace(n, s) {
-        return is_blank_namespace(n, s);
+        return is_blank_namespace(s);
     }
     if !life_ok(n, s, init) {
         return false;
@@ -433,17 +418,6 @@ fn namespace_ok(n: NsSlot, held: bool, s: Namespace, above: Namespace, init: Pro
 }
 
 // ---- which namespaces something holds
-
-// One mark more. Past the last slot there is none to put.
-fn mark(mut marks: [bool; NAMESPACE_SLOTS], n: NsSlot) -> [bool; NAMESPACE_SLOTS]
-    ensures { λ r. ⌜ r ≡ set marks (n .0) true ⌝ }
-{
-    let i = n.0 as usize;
-    if i < NAMESPACE_SLOTS {
-        marks[i] = true;
-    }
-    marks
-}
 
 // A process, ended or not, holds its own namespace and that for its children.
 fn mark_process(marks: [bool; NAMESPACE_SLOTS], p: Process) -> [bool; NAMESPACE_SLOTS]

@@ -5,7 +5,7 @@ use mathlib.Core.Bool.{Bool, not}
 use mathlib.Core.List.{List}
 use lib.Dec.{eqb}
 use lib.ListN.{getD}
-use Rattle.table.specs.Slots.{no-namespace, pid-at}
+use Rattle.table.specs.Slots.{no-namespace, pid-at, is-unborn}
 use Rattle.rules.specs.Read.{climb}
 use Rattle.table.specs.Tests.{_and_, _or_, if_then_else_}
 use Rattle.table.specs.declared.Namespace.{Namespace}
@@ -43,3 +43,7 @@ named-from up level n l k p = seen-from up level n p and eqb (pid-at p l) k
 -- the slot n holds the namespace s, and does not lie empty
 abbrev pub holds-namespace : ℕ → Namespace → Bool
 holds-namespace n s = eqb n 0 or not (eqb (s .level) 0)
+
+-- nothing stands at a namespace slot with the record s: all zero, and unborn
+unfoldable pub is-blank-namespace : Namespace → Bool
+is-blank-namespace s = eqb (s .parent .0) 0 and eqb (s .level) 0 and eqb (s .last .0) 0 and is-unborn (s .life)

@@ -1,5 +1,5 @@
-// The tree of namespaces: what lies below what, who is seen from where and under which number, and the lowest free
-// slots. A pass over the table takes the table once; what it does at each slot takes one process, and the parents and
+// The tree of namespaces: what lies below what, who is seen from where and under which number, the lowest free slots, and
+// marks of namespaces. A pass over the table takes the table once; what it does at each slot takes one process, and the parents and
 // levels of the namespaces as small arrays.
 use table::NAMESPACE_SLOTS;
 use table::Namespace;
@@ -9,10 +9,12 @@ use table::Pid;
 use table::ProcSlot;
 use table::Process;
 use table::Table;
+ghost use mathlib.Core.Bool.{true};
 ghost use mathlib.Core.Path.{_≡_};
+ghost use lib.ListN.{set};
 ghost use Rattle.rules.specs.Read.{view, climb, find as find-in};
 ghost use Rattle.rules.specs.Pids.{free-slot, free-namespace-slot};
-ghost use Rattle.tree.specs.Tree.{ups-of, levels-of, slot-in, level-in, seen-from, pid-from, named-from, holds-namespace};
+ghost use Rattle.tree.specs.Tree.{ups-of, levels-of, slot-in, level-in, seen-from, pid-from, named-from, holds-namespace, is-blank-namespace};
 
 // ---- no slot
 
@@ -187,6 +189,22 @@ pub fn holds_namespace(slot: NsSlot, n: Namespace) -> bool
     n.level != 0
 }
 
+// Whether nothing stands at a namespace slot with this record: all zero, and unborn.
+pub fn is_blank_namespace(s: Namespace) -> bool
+    ensures { λ r. ⌜ r ≡ is-blank-namespace s ⌝ }
+{
+    if s.parent.0 != 0 {
+        return false;
+    }
+    if s.level != 0 {
+        return false;
+    }
+    if s.last.0 != 0 {
+        return false;
+    }
+    s.is_unborn()
+}
+
 // The lowest free namespace slot, or NO_NAMESPACE.
 pub fn free_namespace_slot(t: Table) -> NsSlot
     ensures { λ r. ⌜ r .0 ≡ free-namespace-slot (view t) ⌝ }
@@ -200,4 +218,17 @@ pub fn free_namespace_slot(t: Table) -> NsSlot
         slot += 1;
     }
     NsSlot(NO_NAMESPACE)
+}
+
+// ---- marks of namespaces
+
+// One mark more. Past the last slot there is none to put.
+pub fn mark(mut marks: [bool; NAMESPACE_SLOTS], n: NsSlot) -> [bool; NAMESPACE_SLOTS]
+    ensures { λ r. ⌜ r ≡ set marks (n .0) true ⌝ }
+{
+    let slot = n.0 as usize;
+    if slot < NAMESPACE_SLOTS {
+        marks[slot] = true;
+    }
+    marks
 }

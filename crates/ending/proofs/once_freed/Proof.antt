@@ -6,8 +6,8 @@ use Rattle.ending.specs.Holding.{once-freed}
 use Rattle.ending.proofs.once_freed.Statement.{statement}
 use Rattle.ending.proofs.once_freed.Tie as tie
 
-is-blank-requires : tie.Need-is-blank-requires
-is-blank-requires c κs = search needs
+is-blank-namespace-requires : tie.Need-is-blank-namespace-requires
+is-blank-namespace-requires c κs = search needs
 
 returns : tie.Need-returns
 returns c = search freed-blank
@@ -30,7 +30,7 @@ pub once-freed-spec : {M : Type 1} → statement M
 once-freed-spec =
     tie.close
     (tie.spec
-    is-blank-requires
+    is-blank-namespace-requires
     returns
     is-kept-requires
     returns-2

@@ -10,11 +10,11 @@ is-taken-requires c κs = search needs
 returns : tie.Need-returns
 returns c = search no-marks
 
-with-mark-requires : tie.Need-with-mark-requires
-with-mark-requires c κs = search needs
+mark-requires : tie.Need-mark-requires
+mark-requires c κs = search needs
 
-with-mark-requires-2 : tie.Need-with-mark-requires-2
-with-mark-requires-2 c κs = search needs
+mark-requires-2 : tie.Need-mark-requires-2
+mark-requires-2 c κs = search needs
 
 returns-2 : tie.Need-returns-2
 returns-2 c = search both-marks
@@ -22,4 +22,4 @@ returns-2 c = search both-marks
 pub with-marks-spec : {M : Type 1} → statement M
 with-marks-spec =
     tie.close
-    (tie.spec is-taken-requires returns with-mark-requires with-mark-requires-2 returns-2)
+    (tie.spec is-taken-requires returns mark-requires mark-requires-2 returns-2)

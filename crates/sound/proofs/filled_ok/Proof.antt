@@ -1,6 +1,6 @@
 -- An empty slot, or a namespace and its parent.
 use Rattle.sound.proofs.Rows.{slots, atoms}
-use Rattle.sound.specs.Quick.{filled-ok}
+use Rattle.sound.specs.Quick.{filled-ok, blank-namespace}
 use borrow.Author.Needs.{needs}
 use Rattle.sound.proofs.filled_ok.Statement.{statement}
 use Rattle.sound.proofs.filled_ok.Tie as tie
@@ -12,7 +12,7 @@ is-blank-namespace-requires : tie.Need-is-blank-namespace-requires
 is-blank-namespace-requires c κs = search needs
 
 returns : tie.Need-returns
-unfolding filled-ok
+unfolding filled-ok blank-namespace
 returns c = search (slots, atoms)
 
 life-ok-requires : tie.Need-life-ok-requires
