@@ -1,5 +1,5 @@
 -- What the declared types give: a table that a function is passed has the shape that the theorems assume, and no number of
--- a process is past 65,535.
+-- a process is past what 16 bits hold.
 use Prim.Native.Nat.{ℕ, zero, suc, _<_, _≤_, _^_}
 use native.Mathlib.Omega.{arith}
 use mathlib.Core.Bool.{So}
@@ -40,8 +40,12 @@ each-gives into f Q g d (x ∷ xs) (u ∷ us) s (suc i) q = each-gives into f Q 
 
 -- ---- a process
 
+-- how many numbers 16 bits hold
+abbrev pub pid-values : ℕ
+pid-values = 65536
+
 abbrev Fit : Process → Type 0
-Fit p = (l : ℕ) → pid-at p l < 65536
+Fit p = (l : ℕ) → pid-at p l < pid-values
 
 abbrev Shaped : Process → Type 0
 Shaped p = So (eqb (length (p .pids)) levels and traits-shaped (p .traits))
@@ -53,7 +57,7 @@ traits-fit x us s = both _ _ (lt-ltb _ (2 ^ signals) (s .1 .1 .0 .1)) (lt-ltb _ 
 module _ (p : Process) (u : Val) (s : shadow (P.the-field .row .own (P.the-field .into p) (u ∷ []))) where
   pids-fit : Fit p
   pids-fit l =
-      each-gives (K.the-field .into) (K.the-field .row .own) (λ (k : Pid). k .0 < 65536) (λ k v a. a .1 .1 .0 .1) no-pid (p .pids) _
+      each-gives (K.the-field .into) (K.the-field .row .own) (λ (k : Pid). k .0 < pid-values) (λ k v a. a .1 .1 .0 .1) no-pid (p .pids) _
       (s .1 .1 .1 .1 .1 .1 .1 .0 .1 .1) l (λ h. omega arith)
 
   process-shaped : Shaped p
@@ -64,7 +68,7 @@ module _ (p : Process) (u : Val) (s : shadow (P.the-field .row .own (P.the-field
 -- ---- a table: `is` is what a function knows of one that it is passed
 
 module _ (t : Table) (vs : List Val) (is : Is T.the-row t vs) where
-  pub pid-fits : (i l : ℕ) → pid-at (process t i) l < 65536
+  pub pid-fits : (i l : ℕ) → pid-at (process t i) l < pid-values
   pid-fits i =
       each-gives (P.the-field .into) (P.the-field .row .own) Fit pids-fit no-process (t .processes) _ (is .1 .1 .0 .1 .1) i (λ h l. omega arith)
 

@@ -1,5 +1,5 @@
 -- Whom a number names: nobody, if it is 0 or below or past what a Pid holds, and else the one that `find` gives.
-use Prim.Native.Nat.{ℕ, _<_}
+use Prim.Native.Nat.{ℕ, _<_, _≤_}
 use native.Mathlib.Decide.{decLt}
 use native.Mathlib.Omega.{arith}
 use mathlib.Core.Bool.{Bool, true, false, not}
@@ -14,7 +14,7 @@ use mir.Syntax.{w32}
 use mir.Val.{Val, SFits, toZ, ofZ}
 use mir.ValLaws.{toZ-ofZ}
 use Rattle.arguments.proofs.Named.{named-one, named-none}
-use Rattle.callers.proofs.Fits.{pid-fits}
+use Rattle.callers.proofs.Fits.{pid-values, pid-fits}
 use Rattle.rules.proofs.Laws.Find.{lowest-is}
 use Rattle.rules.proofs.Laws.Tests.{right}
 use Rattle.rules.proofs.Laws.ReadAt.{read-at}
@@ -28,7 +28,7 @@ use Rattle.table.specs.declared.Process.{Process}
 use Rattle.table.specs.declared.Table.{Table}
 
 -- nobody has a number past what a Pid holds
-find-none : (t : Table) (vs : List Val) → Is T.the-row t vs → (n k : ℕ) → 65535 < k → find (view t) n k ≡ process-slots
+find-none : (t : Table) (vs : List Val) → Is T.the-row t vs → (n k : ℕ) → pid-values ≤ k → find (view t) n k ≡ process-slots
 unfolding find pid-seen
 find-none t vs is n k h = go (decLt (find (view t) n k) process-slots)
   where
@@ -55,7 +55,7 @@ module _ (t : Table) (c : ℕ) (z : ℤ) (fits : SFits w32 z) (b : Bool) (e : b 
         named-one (view t) c z (sym crossed ∙ not-false b h)
         ∙ ap (find (view t) (view t .own c)) (sym (q ∙ ap natural (toZ-ofZ w32 z fits)))
 
-    pub names-too-far : (vs : List Val) → Is T.the-row t vs → 65535 < k → process-slots ≡ named (view t) c z
+    pub names-too-far : (vs : List Val) → Is T.the-row t vs → pid-values ≤ k → process-slots ≡ named (view t) c z
     names-too-far vs is f = sym (finds ∙ find-none t vs is (view t .own c) k f)
 
     -- p is the process read at the caller's slot

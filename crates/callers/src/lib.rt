@@ -7,6 +7,7 @@ use outcomes::answers;
 use outcomes::refuse_if;
 use table::DEEPEST;
 use table::Outcome;
+use table::PID_VALUES;
 use table::Pid;
 use table::ProcSlot;
 use table::Refusal;
@@ -62,7 +63,7 @@ pub fn named(t: Table, caller: ProcSlot, n: i32) -> ProcSlot
         return ProcSlot(NO_PROCESS);
     }
     let k = natural_of(n);
-    if 65535 < k {
+    if k >= PID_VALUES {
         return ProcSlot(NO_PROCESS);
     }
     let p = t.process(caller);

@@ -18,9 +18,12 @@ use Rattle.table.specs.declared.State.{State}
 use Rattle.table.specs.declared.State.the-variants.{Running, Stopped, Ended}
 use Rattle.table.specs.declared.Table.{Table}
 
--- words for each process, for each namespace, and in all
+-- words for each process, of which its numbers are the last; for each namespace; and in all
+abbrev pub pids-at : ℕ
+pids-at = 7
+
 abbrev pub process-words : ℕ
-process-words = 7 + levels
+process-words = pids-at + levels
 
 abbrev pub namespace-words : ℕ
 namespace-words = 5
@@ -64,7 +67,7 @@ process-from ws k =
       parent = record { 0 = byte-at ws (k + 2) };
       state = state-from (byte-at ws (k + 3)) (byte-at ws (k + 4));
       traits = record { handled = getD ws (k + 5) 0; pending = getD ws (k + 6) 0 };
-      pids = pids-from ws (k + 7);
+      pids = pids-from ws (k + pids-at);
     }
 
 -- parent, level, last number, condition, init

@@ -5,6 +5,7 @@ use table::Life;
 use table::NAMESPACE_SLOTS;
 use table::Namespace;
 use table::NsSlot;
+use table::PID_VALUES;
 use table::PROCESS_SLOTS;
 use table::Pid;
 use table::ProcSlot;
@@ -20,7 +21,10 @@ ghost use lib.ListN.{getD};
 ghost use Rattle.image.specs.Image.{image-words, process-words, namespace-words, byte-at, pid-at-word, state-from, life-from, pids-from, process-from, namespace-from, processes-from, namespaces-from, table-from};
 ghost use Rattle.table.specs.Limits.{levels};
 
-const PROCESS_WORDS: usize = 7 + LEVELS;
+// The words of a process before its numbers.
+const PIDS_AT: usize = 7;
+
+const PROCESS_WORDS: usize = PIDS_AT + LEVELS;
 
 const NAMESPACE_WORDS: usize = 5;
 
@@ -49,7 +53,7 @@ fn pid(words: &[u32], k: usize) -> Pid
     requires { do ⌜ k < (← ⟦words.len()⟧) ⌝ }
     ensures { λ r. ⌜ r ≡ pid-at-word (now (words .entry)) k ⌝ }
 {
-    let low = (word(words, k) % 65536) as u16;
+    let low = (word(words, k) % PID_VALUES) as u16;
     Pid(low)
 }
 
@@ -112,7 +116,7 @@ fn process(words: &[u32], k: usize) -> Process
         parent,
         state,
         traits,
-        pids: pids(words, k + 7),
+        pids: pids(words, k + PIDS_AT),
     }
 }
 

@@ -90,6 +90,10 @@ module _ (t : Table) (c k : ℕ) (p : Process) (u w : Table) (r : Outcome) (vs :
 
 -- ---- what is given by it: v is the verdict of `may_kill`, of the arguments as they came
 
+-- what `signal_of` gives of the argument z
+abbrev signal-of : ℤ → ℕ
+signal-of z = natural (toZ w32 (ofZ w32 z)) % 256
+
 abbrev Told : Verdict → ℤ → ℤ → Bool → Type 0
 Told v n z nobody =
     ((w : View) (d : ℕ) → (names-group n ≡ false → nobody ≡ eqb (length (targets w d n)) 0) → v ≡ verdict (kill-refusals w d n z)) × (v ≡ Granted → natural z < signals)
@@ -108,7 +112,7 @@ module _ (t : Table) (c : ℕ) (n z : ℤ) (fits-n : SFits w32 n) (fits : SFits 
     refused-so x h a = record { always = refuses (sends-by t c) x h a; as-defined = λ s. refuses (sends t c) x h a }
 
     -- k is what `signal_of` gives
-    module _ (k : ℕ) (g : v ≡ Granted) (q : k ≡ natural (toZ w32 (ofZ w32 z)) % 256) where
+    module _ (k : ℕ) (g : v ≡ Granted) (q : k ≡ signal-of z) where
       signal-sent : k ≡ natural (toZ w32 (ofZ w32 z))
       signal-sent = signal-is k (toZ w32 (ofZ w32 z)) q (m .1 g)
 
@@ -147,7 +151,7 @@ module _ (t : Table) (c i : ℕ) (n z : ℤ) (fits-n : SFits w32 n) (fits : SFit
   pub one-refused : (x : Refusal) → v ≡ Refused x → r ≡ refused t x → Kills t c n z r
   one-refused = refused-so t c n z fits-n fits (eqb i process-slots) v r m found
 
-  pub one-comes : (k : ℕ) → v ≡ Granted → k ≡ natural (toZ w32 (ofZ w32 z)) % 256 → Sends t c (i ∷ []) k r → Kills t c n z r
+  pub one-comes : (k : ℕ) → v ≡ Granted → k ≡ signal-of z → Sends t c (i ∷ []) k r → Kills t c n z r
   unfolding place
   one-comes k g q a =
       let none = passes t c n z fits-n fits (eqb i process-slots) v r m found g in
@@ -166,7 +170,7 @@ module _ (t : Table) (c : ℕ) (n z : ℤ) (fits-n : SFits w32 n) (fits : SFits 
   pub others-refused : (x : Refusal) → v ≡ Refused x → r ≡ refused t x → Kills t c n z r
   others-refused = refused-so t c n z fits-n fits (eqb (f .len) 0) v r m counted
 
-  pub others-come : (k : ℕ) → v ≡ Granted → k ≡ natural (toZ w32 (ofZ w32 z)) % 256 → (Lists f (others (view t) c) → Sends t c (others (view t) c) k r) → Kills t c n z r
+  pub others-come : (k : ℕ) → v ≡ Granted → k ≡ signal-of z → (Lists f (others (view t) c) → Sends t c (others (view t) c) k r) → Kills t c n z r
   others-come k g q a =
       sent-so t c n z fits-n fits (eqb (f .len) 0) v r m counted k g q (subst (λ is. Sends t c is k r) (sym all-others) (a l))
 

@@ -222,7 +222,7 @@ module _ (v : View) (p : Facts v) (h : Held v) where
       go i true t (no o) = p .parents i t o .1
       go i false e (no o) =
           let z : v .parent i ≡ 0 = zero-of v i (p .empty-process i (λ t. false≢true (sym e ∙ t))) .parent in
-          reach-step (v .parent) 63 i (reach-zero (v .parent) 63 (v .parent i) z)
+          reach-step (v .parent) (process-slots - 1) i (reach-zero (v .parent) (process-slots - 1) (v .parent i) z)
 
   quick-from : So (quick v)
   unfolding quick Q.processes-ok Q.namespaces-ok

@@ -7,6 +7,7 @@ use table::NAMESPACE_SLOTS;
 use table::NO_SLOT;
 use table::Namespace;
 use table::NsSlot;
+use table::PID_VALUES;
 use table::PROCESS_SLOTS;
 use table::Pid;
 use table::ProcSlot;
@@ -625,10 +626,7 @@ fn themselves() -> [NsSlot; NAMESPACE_SLOTS]
     tops
 }
 
-// As many as 16 bits hold, so that one key holds a slot and a number.
-const PID_VALUES: u32 = 65536;
-
-// The namespace of a process at a level and its number there, or 0 where it has none.
+// The namespace of a process at a level and its number there as one key, or 0 where it has none.
 fn pid_key(tops: [NsSlot; NAMESPACE_SLOTS], level: u8, p: Process) -> u32
     ensures { λ r. ⌜ r ≡ pid-key (slot-in tops) level (process-row p) ⌝ }
 {

@@ -28,6 +28,9 @@ pub const GREATEST_PID: u16 = 32767;
 
 pub const RESTART_PID: u16 = 300;
 
+// How many numbers 16 bits hold, as a Pid has them.
+pub const PID_VALUES: u32 = 65536;
+
 // Signal numbers are 0 to 31, and 0 is no signal.
 pub const SIGNALS: u8 = 32;
 
