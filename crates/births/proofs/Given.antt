@@ -43,8 +43,8 @@ clone-new-given t u r c n slot own level e p l q s b =
     ∙ ap (λ x. birth x c n) (namespace-given t u c n own level e p l q)
     ∙ ap (birth (new-namespace t c) c) e
 
--- In a sound table the child's number in any namespace m that it is seen from is the one that was taken there: the answer of
--- clone stands in its record.
+-- In a sound table the child's number in any namespace m that it is seen from is the one that was taken there: the
+-- answer of clone stands in its record.
 pub child-number : (v : View) → Facts v → (caller n m : ℕ) → Below v n m → v .level m < levels → pid-at (newborn v caller n) (v .level m) ≡ next-pid v m
 unfolding newborn new-pids
 child-number v p caller n m b h =

@@ -1,5 +1,5 @@
--- The walk from a namespace up by parents, one level at a time: at each it takes a number. `numbers-on` and `joins-on` are
--- what the walk makes of the child's numbers and of the namespaces, with k levels left from `at` on.
+-- The walk from a namespace up by parents, one level at a time: at each it takes a number. `numbers-on` and `joins-on`
+-- are what the walk makes of the child's numbers and of the namespaces, with k levels left from `at` on.
 use Prim.Native.Nat.{ℕ, zero, suc, _<_, _≤_, _+_, _-_}
 use mathlib.Core.Bool.{Bool, true, false}
 use mathlib.Core.List.{List}
@@ -154,8 +154,8 @@ module _ (v : View) (child : ℕ) where
 
 -- ---- the loop
 
--- With `left` levels left from `at` on, the walk makes of ps and ns what the whole walk from n makes of the child's empty
--- numbers and of the table's namespaces.
+-- With `left` levels left from `at` on, the walk makes of ps and ns what the whole walk from n makes of the child's
+-- empty numbers and of the table's namespaces.
 pub record Walking (t : Table) (child n left at : ℕ) (ps : List Pid) (ns : List Namespace) : Type 0 where
   pub numbers : numbers-on (view t) (suc (view t .level n)) n (replicate levels no-pid) ≡ numbers-on (view t) left at ps
   pub joins : joins-on (view t) child (suc (view t .level n)) n (t .namespaces) ≡ joins-on (view t) child left at ns

@@ -1,5 +1,5 @@
--- A birth and a new namespace, with the slot given. The definitions of `table` take the lowest free one; proofs/Given.antt
--- says that there these are the same.
+-- A birth and a new namespace, with the slot given. The definitions of `rules` take the lowest free one;
+-- proofs/Given.antt says that there these are the same.
 use Prim.Native.Nat.{ℕ}
 use mathlib.Core.List.{List}
 use Rattle.rules.specs.Births.{newborn, joined}
@@ -29,8 +29,8 @@ namespace-at t slot parent level =
 abbrev pub child-with : ℕ → ℕ → Traits → List Pid → Process
 child-with caller n x pids = with-traits (with-parent (of-namespace (blank-process pids) n) caller) x
 
--- a namespace in which the child at a slot takes the number k: it becomes the last; if the namespace is unborn the child is
--- its init
+-- a namespace in which the child at a slot takes the number k: it becomes the last; if the namespace is unborn the
+-- child is its init
 abbrev pub joined-by : ℕ → ℕ → Namespace → Namespace
 joined-by child k s =
     with-life (with-last s k) (if is-unborn (s .life) then Alive (record { 0 = child }) else s .life)

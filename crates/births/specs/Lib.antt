@@ -1,2 +1,2 @@
--- What the contracts of `births` cite beside the definitions of `table`.
+-- What the contracts of `births` cite beside the definitions of `rules`.
 pub mod Births

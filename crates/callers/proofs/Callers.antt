@@ -33,8 +33,8 @@ use Rattle.table.specs.declared.Table.{Table}
 use Rattle.tree.proofs.Sights.{pid-in-read}
 use Rattle.tree.specs.Tree.{slot-in, level-in, pid-from}
 
--- p is what the code read at the slot i, and f is the change. Past the last slot the code reads an empty process, and puts
--- nothing.
+-- p is what the code read at the slot i, and f is the change. Past the last slot the code reads an empty process, and
+-- puts nothing.
 pub put-changed : (t : Table) (i : ℕ) (p : Process) (f : Process → Process) → p ≡ getD (t .processes) i empty-process → put t i (f p) ≡ put t i (f (process t i))
 put-changed t i p f e = go (decLt i long)
   where

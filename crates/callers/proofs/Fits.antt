@@ -1,5 +1,5 @@
--- What the declared types give: a table that a function is passed has the shape that the theorems assume, and no number of
--- a process is past what 16 bits hold.
+-- What the declared types give: a table that a function is passed has the shape that the theorems assume, and no number
+-- of a process is past what 16 bits hold.
 use Prim.Native.Nat.{ℕ, zero, suc, _<_, _≤_, _^_}
 use native.Mathlib.Omega.{arith}
 use mathlib.Core.Bool.{So}

@@ -1,5 +1,5 @@
-// The caller: its namespace's level, whether its children are born into another one, whom a number names in its own, and
-// the calls that only ask: getpid and getppid.
+// The caller: its namespace's level, whether its children are born into another one, whom a number names in its own,
+// and the calls that only ask: getpid and getppid.
 use arguments::names_one;
 use arguments::natural_of;
 use outcomes::Verdict;
@@ -42,8 +42,9 @@ fn is_elsewhere(t: Table, caller: ProcSlot) -> bool
     p.children.0 != p.own.0
 }
 
-// Whether the caller may make a namespace, given its own level and whether there is no room: the refusals of clone new and of
-// unshare, the last one first.
+// Whether the caller may make a namespace, given its own level and whether there is no room: the refusals of clone new
+// and of unshare, the last one first. Every test is made, also where an earlier one refuses: a refused call pays for
+// all, and which refusal is given is the verdict's order.
 pub fn may_make(t: Table, caller: ProcSlot, level: u8, full: bool) -> Verdict
     ensures { λ r. ⌜ r ≡ verdict (refusals-at (view t) (caller .0) level full) ⌝ }
 {

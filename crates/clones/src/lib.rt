@@ -52,6 +52,8 @@ fn may_clone(t: Table, caller: ProcSlot, slot: ProcSlot) -> Verdict
     refuse_if(dead, Refusal::Enomem, room)
 }
 
+// The verdict needs to know whether a slot is free, so the search comes before it, and a refused call pays for it too.
+// Which refusal is given first is the verdict's order.
 pub fn clone(t: Table, caller: ProcSlot) -> Outcome
     ensures { λ r. ⌜ r ≡ clone-of t (caller .0) ⌝ }
 {
@@ -65,6 +67,7 @@ pub fn clone(t: Table, caller: ProcSlot) -> Outcome
     born(t, caller, slot, birth(t, slot, caller, n))
 }
 
+// Both slots are looked for before the verdict, as in clone.
 pub fn clone_new(t: Table, caller: ProcSlot) -> Outcome
     ensures { λ r. ⌜ r ≡ clone-new-of t (caller .0) ⌝ }
 {

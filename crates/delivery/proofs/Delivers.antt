@@ -1,6 +1,6 @@
--- For the loop that delivers to each of the first len slots of an array. The invariant is `Delivering t from s len l u i`: what is
--- left to do to u, from i on, makes of it what all of them make of t. `Going` says so of the definitions, which need the facts of
--- a sound table at each delivery.
+-- For the loop that delivers to each of the first len slots of an array. The invariant is
+-- `Delivering t from s len l u i`: what is left to do to u, from i on, makes of it what all of them make of t. `Going`
+-- says so of the definitions, which need the facts of a sound table at each delivery.
 use Prim.Native.Nat.{ℕ, suc, _<_, _≤_, _+_, min}
 use mathlib.Core.List.{List, [], _∷_, map}
 use mathlib.Core.Path.{_≡_, refl, sym, ap, subst, _∙_}
@@ -38,7 +38,7 @@ delivers-start t from s len l =
     }
 
 module _ {Y : Type 0} (g : ProcSlot → Y) (n : ℕ) (t : Table) (from s len : ℕ) (l : List ProcSlot) (u : Table) (i : ℕ) (w : Delivering t from s len l u i) where
-  -- count is the one that was given, and len that many slots at most; m is the table after the delivery to the slot at i
+  -- count is the one given, and len that many slots at most; m is the table after the delivery to the slot at i
   pub delivers-one : (count : ℕ) (m : Table) → i < len → len ≡ min count n → length (map g l) ≡ n → Delivers u from (getD l i no-one .0) s m → Delivering t from s len l m (i + 1)
   unfolding deliver-all deliver-all-by
   delivers-one count m h k e d =

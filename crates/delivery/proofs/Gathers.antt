@@ -1,5 +1,5 @@
--- For the loop that gathers whom a caller sees beside itself. The invariant is `Gathering t c n up levels pids r i`: r lists
--- those of the slots below i, and the small arrays read as the table does.
+-- For the loop that gathers whom a caller sees beside itself. The invariant is `Gathering t c n up levels pids r i`: r
+-- lists those of the slots below i, and the small arrays read as the table does.
 use Prim.Native.Nat.{ℕ, suc, _<_, _≤_, _+_}
 use mathlib.Core.Bool.{Bool, true, false, not}
 use mathlib.Core.List.{List}

@@ -1,6 +1,6 @@
--- For the loop that puts a slot at its place in the first len of an array. From the place on each element moves up by one:
--- the loop holds the one that is to be stored next. The invariant is `Placing f s len l₀ l held placed i`: what stands below i,
--- with what is held and the rest, is the whole list with s inserted.
+-- For the loop that puts a slot at its place in the first len of an array. From the place on each element moves up by
+-- one: the loop holds the one that is to be stored next. The invariant is `Placing f s len l₀ l held placed i`: what
+-- stands below i, with what is held and the rest, is the whole list with s inserted.
 use Prim.Native.Nat.{ℕ, suc, _<_, _≤_, _+_}
 use mathlib.Core.Bool.{Bool, true, false, true≢false}
 use mathlib.Core.List.{List, [], _∷_, _++_, map, append-nil}

@@ -1,4 +1,5 @@
--- What `kill` takes from `deliver`, and from `others` with `deliver_all`: from a sound table it is delivered to the definition's targets.
+-- What `kill` takes from `deliver`, and from `others` with `deliver_all`: from a sound table it is delivered to the
+-- definition's targets.
 use Prim.Native.Nat.{ℕ, _<_}
 use mathlib.Core.List.{[], _∷_}
 use mathlib.Core.Path.{_≡_, sym, ap, subst, _∙_}

@@ -1,4 +1,5 @@
--- A list by ascending f, from which some numbers are left out: to leave them out at the end, or never to put them in, is the same.
+-- A list by ascending f, from which some numbers are left out: to leave them out at the end, or never to put them in,
+-- is the same.
 use Prim.Native.Nat.{ℕ, zero, suc, _<_, _≤_}
 use mathlib.Core.Bool.{Bool, true, false}
 use mathlib.Core.List.{List, [], _∷_}

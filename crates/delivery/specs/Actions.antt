@@ -1,5 +1,5 @@
--- What a signal does, by the few things that the definition reads of its target: whether it lives, whether it is the init of
--- its own namespace, that namespace, and its handled signals.
+-- What a signal does, by the few things that the definition reads of its target: whether it lives, whether it is the
+-- init of its own namespace, that namespace, and its handled signals.
 use Prim.Native.Nat.{ℕ}
 use mathlib.Core.Bool.{Bool, not}
 use lib.Dec.{eqb}

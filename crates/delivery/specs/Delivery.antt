@@ -1,5 +1,5 @@
--- A delivery as the code brings it about: the definitions', but for an end, which is that of `ending`. Where the facts of a sound
--- table hold, but for namespaces that nobody holds, it is the definitions' own.
+-- A delivery as the code brings it about: the definitions', but for an end, which is that of `ending`. Where the facts
+-- of a sound table hold, but for namespaces that nobody holds, it is the definitions' own.
 use Prim.Native.Nat.{ℕ, _<_}
 use mathlib.Core.List.{List, [], _∷_}
 use mathlib.Core.Path.{_≡_}

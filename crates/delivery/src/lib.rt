@@ -239,7 +239,7 @@ fn insert(found: Targets, pids: [Pid; PROCESS_SLOTS], slot: ProcSlot) -> Targets
     }
 }
 
-// Whether a process is seen from n and is neither the caller nor number 1 there. The climb takes longest, so it is last.
+// Whether a process is seen from n and is neither the caller nor number 1 there. The climb, the longest, comes last.
 fn is_other(
     up: [NsSlot; NAMESPACE_SLOTS],
     levels: [u8; NAMESPACE_SLOTS],

@@ -1,6 +1,6 @@
--- The end of a namespace by its members takes its whole subtree down, and touches nothing else. What is told of a table on
--- the way is only that each process is as it was or ended, and each namespace as it was or dead: so an end that has been
--- brought about stays, whatever else ends later.
+-- The end of a namespace by its members takes its whole subtree down, and touches nothing else. What is told of a table
+-- on the way is only that each process is as it was or ended, and each namespace as it was or dead: so an end that has
+-- been brought about stays, whatever else ends later.
 use Prim.Native.Nat.{ℕ, zero, suc, _<_, _≤_, _+_}
 use mathlib.Core.Bool.{Bool, false, not, So, false≢true}
 use mathlib.Core.List.{List}

@@ -1,6 +1,7 @@
--- The end of an init as the code brings it about: its namespace ends with its members, one after the other; each that is
--- the init of a namespace right below takes that one down by the same rule, the levels left falling; then those whose
--- parent is inside are removed. proofs/Fallen.antt has the law that this is the change that the definitions make at one go.
+-- The end of an init as the code brings it about: its namespace ends with its members, one after the other; each that
+-- is the init of a namespace right below takes that one down by the same rule, the levels left falling; then those
+-- whose parent is inside are removed. proofs/Fallen.antt has the law that this is the change that the definitions make
+-- at one go.
 use Prim.Native.Nat.{ℕ, zero, suc}
 use mathlib.Core.Bool.{Bool, true, false, not, So}
 use mathlib.Core.List.{List}
@@ -40,7 +41,7 @@ unfoldable pub marked-dead : Table → ℕ → Table
 marked-dead t n =
     record { processes = t .processes; namespaces = changed-to (once-dead n) no-namespace namespace-slots (t .namespaces) }
 
--- the process p at slot i ends as n does: it is a member of n that has not ended, or the init of a namespace right below
+-- the process p at slot i ends as n does: a member of n that has not ended, or the init of a namespace right below
 unfoldable pub falls-with : List Namespace → ℕ → ℕ → Process → Bool
 falls-with ss n i p =
     not (eqb (pid-at p 0) 0)
@@ -56,7 +57,8 @@ end-member-by lower t n i =
 unfoldable pub member-turn : (Table → ℕ → Table) → ℕ → ℕ → Table → Table
 member-turn lower n i t = if falls-with (t .namespaces) n i (process t i) then end-member-by lower t n i else t
 
--- the end of a namespace, with that many levels left below it
+-- The end of a namespace, with that many levels left below it. With none left a namespace right below would stay; on a
+-- sound table there is none then.
 unfoldable pub end-namespace : ℕ → Table → ℕ → Table
 end-namespace zero t n = turns process-slots (member-turn (λ u m. u) n) (marked-dead t n)
 end-namespace (suc left) t n = turns process-slots (member-turn (end-namespace left) n) (marked-dead t n)
@@ -76,7 +78,7 @@ unfoldable pub swept : Table → ℕ → Table
 swept t n =
     record { processes = changed-to (once-swept (seen (view t) n)) no-process process-slots (t .processes); namespaces = t .namespaces }
 
--- the init at p ends for the reason e, which it keeps
+-- the init at p ends for the reason e, which it keeps; no namespace lies deeper than `deepest` levels below another
 unfoldable pub end-init : Table → ℕ → End → Table
 end-init t p e =
     let q = getD (t .processes) p empty-process in
@@ -102,8 +104,8 @@ end-process t p e =
     let k = init-of (namespace t (getD (t .processes) p empty-process .own .0) .life) in
     if eqb k p then end-init t p e else handed-over t p e k
 
--- r is what the end of the process at p leaves: always by the rules above; and document 01's end at one go, if the facts of
--- a sound table hold, but for namespaces that nobody holds, and p has not ended
+-- r is what the end of the process at p leaves: always by the rules above; and document 01's end at one go, if the
+-- facts of a sound table hold, but for namespaces that nobody holds, and p has not ended
 pub record Ends (t : Table) (p : ℕ) (e : End) (r : Table) : Type 0 where
   pub always : r ≡ end-process t p e
   pub as-defined : Facts (view t) → So (living (view t) p) → r ≡ end t p e

@@ -1,3 +1,3 @@
--- What the contracts of `ending` cite beside the definitions of `table`.
+-- What the contracts of `ending` cite beside the definitions of `rules`.
 pub mod Ending
 pub mod Holding

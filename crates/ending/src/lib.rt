@@ -164,7 +164,7 @@ fn end_namespace(t: Table, n: NsSlot, left: u8) -> Table
 }
 
 // Ends the process at i, which falls with n. A member of n is ended by signal 9; the init of a namespace right below
-// takes its own namespace down.
+// takes its own namespace down. That no level is left is never met on a sound table: nothing lies below the deepest.
 fn end_member(t: Table, n: NsSlot, i: usize, left: u8) -> Table
     requires { ⌜ i < process-slots ⌝ }
     ensures { λ r. ⌜ r ≡ end-member left t (n .0) i ⌝ }
@@ -243,8 +243,8 @@ fn sweep(t: Table, n: NsSlot) -> Table
     u
 }
 
-// The end of an init: its namespace ends with all below it, which are at most DEEPEST levels; the init keeps its own
-// reason, and whoever has its parent inside is removed.
+// The end of an init: its namespace ends with all below it; the init keeps its own reason, and whoever has its parent
+// inside is removed. No namespace lies deeper than DEEPEST levels below another, so that many left are enough.
 fn end_init(t: Table, slot: ProcSlot, how: End) -> Table
     ensures { λ r. ⌜ r ≡ end-init t (slot .0) how ⌝ }
 {

@@ -52,7 +52,8 @@ fn send_one(t: Table, caller: ProcSlot, slot: ProcSlot, s: u8) -> Outcome
     answers(free_unheld(deliver(t, own, slot, s)), 0)
 }
 
-// A signal to the one that a number names.
+// A signal to the one that a number names. The verdict needs to know whether it names somebody, so the search comes
+// before it, and a refused call pays for it too. Which refusal is given first is the verdict's order.
 fn kill_one(t: Table, caller: ProcSlot, n: i32, s: i32) -> Outcome
     ensures { λ r. ⌜ (names-everyone n ≡ false → Kills t (caller .0) n s r) ⌝ }
 {
@@ -73,7 +74,8 @@ fn send_all(t: Table, caller: ProcSlot, found: Targets, s: u8) -> Outcome
     answers(free_unheld(deliver_all(t, own, found, s)), 0)
 }
 
-// A signal to all that the caller sees but itself and number 1.
+// A signal to all that the caller sees but itself and number 1. They are listed before the signal is tested, for the
+// same reason as in kill_one.
 fn kill_others(t: Table, caller: ProcSlot, n: i32, s: i32) -> Outcome
     ensures { λ r. ⌜ (names-everyone n ≡ true → Kills t (caller .0) n s r) ⌝ }
 {

@@ -33,6 +33,8 @@ fn set_children(t: Table, caller: ProcSlot, n: NsSlot) -> Table
     free_unheld(t.with_process(caller, q))
 }
 
+// The verdict needs to know whether a slot is free, so the search comes before it, and a refused call pays for it too.
+// Which refusal is given first is the verdict's order.
 pub fn unshare(t: Table, caller: ProcSlot) -> Outcome
     ensures { λ r. ⌜ r ≡ unshare-of t (caller .0) ⌝ }
 {
@@ -48,7 +50,8 @@ pub fn unshare(t: Table, caller: ProcSlot) -> Outcome
     answers(set_children(u, caller, n), 0)
 }
 
-// Whether children may be born into the namespace of the process at a slot, the one that setns found.
+// Whether children may be born into the namespace of the process at a slot, the one that setns found. Where it found
+// nobody, the record read is an empty one, and the first test refuses.
 fn may_setns(t: Table, slot: ProcSlot) -> Verdict
     ensures { λ r. ⌜ ((c : ℕ) (n : ℤ) → slot .0 ≡ named-in (view t) c n → r ≡ verdict (setns-refusals (view t) c n)) ⌝ }
 {
@@ -60,6 +63,7 @@ fn may_setns(t: Table, slot: ProcSlot) -> Verdict
     )
 }
 
+// Whom the number names is looked for before the verdict, as a free slot in unshare.
 pub fn setns(t: Table, caller: ProcSlot, n: i32) -> Outcome
     ensures { λ r. ⌜ r ≡ setns-of t (caller .0) n ⌝ }
 {

@@ -1,7 +1,7 @@
--- For a function that makes a row of tests, of any length, and leaves with `false` at the first that fails. The definition
--- joins the same tests by `and`. `by-row _ _ (search row depth 20)` closes each `return`: one test failed, or all but the
--- last hold and the last is what is returned. The laws have no bound; `search` reads 128 records of what the code found, which
--- was enough for nine and ten tests, not for eleven. Split a longer function.
+-- For a function that makes a row of tests, of any length, and leaves with `false` at the first that fails. The
+-- definition joins the same tests by `and`. `by-row _ _ (search row depth 20)` closes each `return`: one test failed,
+-- or all but the last hold and the last is what is returned. The laws have no bound; `search` reads 128 records of what
+-- the code found, which was enough for nine and ten tests, not for eleven. Split a longer function.
 use Prim.Native.Nat.{ℕ, _<_, _≤_}
 use mathlib.Core.Bool.{Bool, true, false, not, true≢false, false≢true}
 use mathlib.Core.Path.{_≡_, refl, sym, ap, _∙_}
@@ -16,8 +16,8 @@ pub ruleset atoms = (same, eq-eqb, ne-eqb, lt-ltb, le-ltb, le-leb, lt-leb, told,
 
 -- ---- rows
 
--- Each of the next three is a path, as a type of its own: so `search` goes down the row, at its end asks what the code found,
--- and never goes round in circles.
+-- Each of the next three is a path, as a type of its own: so `search` goes down the row, at its end asks what the code
+-- found, and never goes round in circles.
 
 -- x is what the row says
 pub data Says (x b : Bool) : Type 0 where

@@ -1,6 +1,6 @@
--- The way in which the code decides whether a table is sound: each process once with the namespaces and the parent that it
--- names, each namespace once with its parent and its init, and the numbers by one key for each process and level.
--- proofs/Same.antt shows that it says what specs/Sound.antt of the table says.
+-- The way in which the code decides whether a table is sound: each process once with the namespaces and the parent that
+-- it names, each namespace once with its parent and its init, and the numbers by one key for each process and level.
+-- proofs/Same.antt shows that it says what specs/Sound.antt of `rules` says.
 use Prim.Native.Nat.{ℕ, zero, suc, _+_, _*_, _-_}
 use mathlib.Core.Bool.{Bool, true, not}
 use mathlib.Core.List.{List}
@@ -124,7 +124,8 @@ processes-ok v =
 abbrev pub process-in : List ProcSlot → ℕ → ℕ
 process-in slots i = getD slots i (record { 0 = 0 }) .0
 
--- an empty slot has slot 0 for its parent, so it reaches slot 0 too
+-- An empty slot has slot 0 for its parent, so it reaches slot 0 too. As many steps as there are slots are enough: a
+-- longer chain comes to a slot twice.
 unfoldable pub reach-ok : (ℕ → ℕ) → Bool
 reach-ok parent = all process-slots (reaches-root parent process-slots)
 

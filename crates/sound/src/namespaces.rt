@@ -23,7 +23,8 @@ ghost use Rattle.sound.specs.Quick.{process-row, namespace-row, init-ok,
 
 // ---- its condition
 
-// The init of a living namespace belongs to it, has not ended and has number 1 there.
+// The init of a living namespace belongs to it, has not ended and has number 1 there. What the first two tests ask is
+// found before them: where the first refuses, the second was found for nothing. The order is the definition's.
 fn init_ok(n: NsSlot, s: Namespace, init: Process) -> bool
     ensures { λ r. ⌜ r ≡ init-ok (n .0) (namespace-row (n .0) s) (process-row init) ⌝ }
 {

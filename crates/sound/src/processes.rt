@@ -90,7 +90,8 @@ fn holds_rightly(p: Process, inner: Namespace) -> bool
     true
 }
 
-// A living process's namespace is not dead, and the one for its children is its own or below.
+// A living process's namespace is not dead, and the one for its children is its own or below. What the first two tests
+// ask is found before them: where the first refuses, the second was found for nothing. The order is the definition's.
 fn living_ok(up: [NsSlot; NAMESPACE_SLOTS], p: Process, home: Namespace, inner: Namespace) -> bool
     ensures { λ r. ⌜ r ≡ living-ok (slot-in up) (process-row p) (namespace-row (p .own .0) home) (namespace-row (p .children .0) inner) ⌝ }
 {
@@ -174,7 +175,8 @@ fn pids_ok(p: Process, level: u8) -> bool
     true
 }
 
-// All that a process is held to beside its parent: home is its own namespace, inner the one for its children.
+// All that a process is held to beside its parent: home is its own namespace, inner the one for its children. What the
+// first two tests ask is found before them, as in living_ok.
 fn member_ok(up: [NsSlot; NAMESPACE_SLOTS], p: Process, home: Namespace, inner: Namespace) -> bool
     ensures { λ r. ⌜ r ≡ member-ok (slot-in up) (process-row p) (namespace-row (p .own .0) home) (namespace-row (p .children .0) inner) ⌝ }
 {

@@ -23,8 +23,8 @@ pub(crate) fn parents(t: Table) -> [ProcSlot; PROCESS_SLOTS]
     parents
 }
 
-// Whether following parents from a slot reaches slot 0. What lies past the last slot reads as empty, with slot 0 for its
-// parent.
+// Whether following parents from a slot reaches slot 0, in as many steps as there are slots: a longer chain comes to a
+// slot twice and goes round for ever. What lies past the last slot reads as empty, with slot 0 for its parent.
 fn reaches_root(parents: [ProcSlot; PROCESS_SLOTS], slot: usize) -> bool
     ensures { λ r. ⌜ r ≡ reaches-root (process-in parents) process-slots slot ⌝ }
 {

@@ -1,2 +1,2 @@
--- What the contracts of `tree` cite beside the definitions of `table`.
+-- What the contracts of `tree` cite beside the definitions of `rules`.
 pub mod Tree

@@ -1,5 +1,5 @@
--- The definitions of `table` read a view, that is a table by its slots. The code takes a table's parents and levels out once,
--- as small arrays, and one process at a time: these say the same of such arrays and of a process.
+-- The definitions of `rules` read a view, that is a table by its slots. The code takes a table's parents and levels out
+-- once, as small arrays, and one process at a time: these say the same of such arrays and of a process.
 use Prim.Native.Nat.{ℕ}
 use mathlib.Core.Bool.{Bool, not}
 use mathlib.Core.List.{List}
@@ -28,7 +28,7 @@ level-in levels n = getD levels n 0
 
 -- ---- one process, given the parents and the levels
 
--- it is seen from n
+-- it is seen from n: a climb of as many steps as its own namespace's level, which come to the root
 abbrev pub seen-from : (ℕ → ℕ) → (ℕ → ℕ) → ℕ → Process → Bool
 seen-from up level n p = not (eqb (pid-at p 0) 0) and climb up (level (p .own .0)) (p .own .0) n
 

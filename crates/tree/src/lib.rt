@@ -1,6 +1,6 @@
-// The tree of namespaces: what lies below what, who is seen from where and under which number, the lowest free slots, and
-// marks of namespaces. A pass over the table takes the table once; what it does at each slot takes one process, and the parents and
-// levels of the namespaces as small arrays.
+// The tree of namespaces: what lies below what, who is seen from where and under which number, the lowest free slots,
+// and marks of namespaces. A pass over the table takes the table once; what it does at each slot takes one process, and
+// the parents and levels of the namespaces as small arrays.
 use table::NAMESPACE_SLOTS;
 use table::Namespace;
 use table::NsSlot;
@@ -77,7 +77,8 @@ pub fn level_of(levels: [u8; NAMESPACE_SLOTS], n: NsSlot) -> u8
 
 // ---- below
 
-// Whether the climb from a, which has this level, to its parent and so on comes to b.
+// Whether the climb from a, which has this level, to its parent and so on comes to b. It takes at most as
+// many steps as the level: in a sound table that many come to the root.
 pub fn below(up: [NsSlot; NAMESPACE_SLOTS], a: NsSlot, b: NsSlot, level: u8) -> bool
     ensures { λ r. ⌜ r ≡ climb (slot-in up) level (a .0) (b .0) ⌝ }
 {

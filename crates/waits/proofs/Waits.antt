@@ -1,4 +1,4 @@
--- exit; and wait: the search for the ended child with the lowest number, by turns over the slots, and what becomes of it.
+-- exit; and wait: the search for the ended child with the lowest number, slot by slot, and what becomes of it.
 use Prim.Native.Nat.{ℕ, _<_, _≤_, _+_}
 use mathlib.Core.Bool.{Bool, true, false, not, true≢false}
 use mathlib.Core.List.{List}

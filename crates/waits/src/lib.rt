@@ -128,6 +128,8 @@ fn may_wait(t: Table, caller: ProcSlot) -> Verdict
     refuse_if(!has_child(t, caller), Refusal::Echild, Verdict::Granted)
 }
 
+// Where no child has ended, first_ended gives NO_PROCESS. That slot reads as an empty record, which is running, so the
+// answer is 0.
 pub fn wait(t: Table, caller: ProcSlot) -> Outcome
     ensures { λ r. ⌜ r ≡ wait-of t (caller .0) ⌝ }
 {

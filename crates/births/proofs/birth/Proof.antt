@@ -1,4 +1,5 @@
--- `birth` is the walk up from the child's namespace: what it makes of the numbers and of the namespaces is the definition's.
+-- `birth` is the walk up from the child's namespace: what it makes of the numbers and of the namespaces is the
+-- definition's.
 use borrow.Author.Needs.{needs}
 use Rattle.table.proofs.Slots.{length-mapped}
 use Rattle.births.proofs.Walk.{Walking, walks, walk-done}
