@@ -12,7 +12,7 @@ use Rattle.rules.specs.Calls.{within, natural, named, targets, others, names-gr
 use Rattle.table.specs.Limits.{process-slots, signals, sigkill, sigstop}
 use Rattle.rules.specs.Read.{View, find}
 use Rattle.table.specs.Tests.{_and_, _or_, if_then_else_}
-use Rattle.arguments.specs.Arguments.{names-everyone}
+use Rattle.arguments.specs.Arguments.{names-everyone, byte-values}
 
 -- ---- numbers of processes
 
@@ -61,5 +61,5 @@ pub handled-below : (z : ℤ) → (not (within 1 signals z) or eqb (natural z) s
 handled-below z h = within-below 1 signals z (not-false (within 1 signals z) (or-left _ _ (or-left _ _ h)))
 
 -- a signal that passed a test fits: k is what `signal_of` gives
-pub signal-is : (k : ℕ) (z : ℤ) → k ≡ natural z % 256 → natural z < signals → k ≡ natural z
+pub signal-is : (k : ℕ) (z : ℤ) → k ≡ natural z % byte-values → natural z < signals → k ≡ natural z
 signal-is k z e h = e ∙ mod-eq-of-lt (omega arith)

@@ -1,6 +1,6 @@
 -- Signed numbers and their bits. What the code holds is `toZ w (ofZ w z)`, which is z where z fits (`toZ-ofZ`); the
 -- laws are on z itself.
-use Prim.Native.Nat.{ℕ, zero, suc, _<_, _≤_, _%_, _-_}
+use Prim.Native.Nat.{ℕ, zero, suc, pred, _<_, _≤_, _%_, _-_}
 use native.Mathlib.Omega.{arith}
 use mathlib.Core.Bool.{Bool, true, false, not, true≢false}
 use mathlib.Core.Path.{_≡_, refl, sym, ap, _∙_}
@@ -15,7 +15,7 @@ use mir.ValLaws.{toZ-pos}
 use Rattle.rules.specs.Calls.{within, natural, status, names-group}
 use Rattle.table.specs.Limits.{signals, sigkill, sigstop, statuses}
 use Rattle.table.specs.Tests.{_and_, _or_}
-use Rattle.arguments.specs.Arguments.{names-everyone}
+use Rattle.arguments.specs.Arguments.{names-everyone, byte-values}
 
 -- ---- the number, or 0
 
@@ -103,17 +103,17 @@ status-small : (z : ℤ) → status z < statuses
 status-small (pos n) = omega arith
 status-small (negsuc n) = omega arith
 
-low-bits : (z : ℤ) → SFits w32 z → ofZ w32 z % 256 ≡ status z
+low-bits : (z : ℤ) → SFits w32 z → ofZ w32 z % statuses ≡ status z
 low-bits (pos n) f = refl
 low-bits (negsuc n) f = let b = f .sfits in omega arith
 
-pub status-is : (z : ℤ) → SFits w32 z → toZ w32 (bitAnd (ofZ w32 z) 255) ≡ pos (status z)
+pub status-is : (z : ℤ) → SFits w32 z → toZ w32 (bitAnd (ofZ w32 z) (pred statuses)) ≡ pos (status z)
 status-is z f =
     ap (toZ w32) (and-mask (ofZ w32 z) 8 ∙ low-bits z f)
     ∙ toZ-pos w32 (status z) (omega (arith, status-small z))
 
--- what a mask below 256 leaves is a byte
-pub masked-cast : (n m : ℕ) → m < 256 → T (nonNeg (toZ w32 (bitAnd n m))) × Fits w8 (natAbs (toZ w32 (bitAnd n m)))
+-- what a mask of a byte leaves is a byte
+pub masked-cast : (n m : ℕ) → m < byte-values → T (nonNeg (toZ w32 (bitAnd n m))) × Fits w8 (natAbs (toZ w32 (bitAnd n m)))
 masked-cast n m h =
     let b = and-le-r n m in
     rw (toZ-pos w32 (bitAnd n m) (omega arith)) (tt, record { fits = omega arith })

@@ -6,7 +6,7 @@ ghost use lib.Dec.{eqb, ltb};
 ghost use Rattle.rules.specs.Calls.{within, natural, status, names-group};
 ghost use Rattle.table.specs.Limits.{signals, sigkill, sigstop};
 ghost use Rattle.table.specs.Tests.{_or_};
-ghost use Rattle.arguments.specs.Arguments.{names-everyone};
+ghost use Rattle.arguments.specs.Arguments.{names-everyone, byte-values};
 
 // Signals at the width of an argument.
 const SIGNALS: u32 = table::SIGNALS as u32;
@@ -14,6 +14,12 @@ const SIGNALS: u32 = table::SIGNALS as u32;
 const SIGKILL: u32 = table::SIGKILL as u32;
 
 const SIGSTOP: u32 = table::SIGSTOP as u32;
+
+// The bits of a status.
+const STATUS_BITS: i32 = (table::STATUSES - 1) as i32;
+
+// How many numbers a byte can hold.
+const BYTE_VALUES: u32 = 256;
 
 // The number, or 0 for one below 0: nobody has the number 0, and where a signal is meant one below 0 is refused first.
 pub fn natural_of(n: i32) -> u32
@@ -53,7 +59,7 @@ pub fn names_everyone(n: i32) -> bool
 pub fn exit_status(s: i32) -> u8
     ensures { λ r. ⌜ r ≡ status s ⌝ }
 {
-    (s & 255) as u8
+    (s & STATUS_BITS) as u8
 }
 
 // What kill takes for a signal: 0 to 31.
@@ -86,7 +92,7 @@ pub fn cannot_handle(s: i32) -> bool
 // The signal itself, once it has passed one of the two tests: then it is below 32 and the remainder changes nothing. Of
 // another number, which no call passes on, the low eight bits.
 pub fn signal_of(s: i32) -> u8
-    ensures { λ r. ⌜ r ≡ natural s % 256 ⌝ }
+    ensures { λ r. ⌜ r ≡ natural s % byte-values ⌝ }
 {
-    (natural_of(s) % 256) as u8
+    (natural_of(s) % BYTE_VALUES) as u8
 }

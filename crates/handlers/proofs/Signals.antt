@@ -10,6 +10,7 @@ use mir.Syntax.{w32}
 use mir.Val.{SFits, toZ, ofZ}
 use mir.ValLaws.{toZ-ofZ}
 use Rattle.arguments.proofs.Named.{handled-below, signal-is}
+use Rattle.arguments.specs.Arguments.{byte-values}
 use Rattle.callers.proofs.Callers.{put-changed}
 use Rattle.outcomes.proofs.Verdicts.{judged-grants, judged-refuses, none-holds, one-more}
 use Rattle.outcomes.specs.Verdicts.{verdict}
@@ -67,14 +68,14 @@ module _ (z : ℤ) (fits : SFits w32 z) (v : Verdict) (e : v ≡ verdict (handle
   handle-asks g = handled-below (toZ w32 (ofZ w32 z)) (none-holds (handle-refusals (toZ w32 (ofZ w32 z))) v e g Einval)
 
   -- s is what `signal_of` gives
-  signal-is-it : (s : ℕ) → v ≡ Granted → s ≡ natural (toZ w32 (ofZ w32 z)) % 256 → s ≡ natural (toZ w32 (ofZ w32 z))
+  signal-is-it : (s : ℕ) → v ≡ Granted → s ≡ natural (toZ w32 (ofZ w32 z)) % byte-values → s ≡ natural (toZ w32 (ofZ w32 z))
   signal-is-it s g q = signal-is s (toZ w32 (ofZ w32 z)) q (handle-asks g)
 
-  pub handle-asks-of : (s : ℕ) → v ≡ Granted → s ≡ natural (toZ w32 (ofZ w32 z)) % 256 → s < signals
+  pub handle-asks-of : (s : ℕ) → v ≡ Granted → s ≡ natural (toZ w32 (ofZ w32 z)) % byte-values → s < signals
   handle-asks-of s g q = subst (λ k. k < signals) (sym (signal-is-it s g q)) (handle-asks g)
 
   pub handle-does : (t u : Table) (c s : ℕ) (p q : Process) (on : Bool) (r : Outcome) → v ≡ Granted → p ≡ getD (t .processes) c empty-process
-      → s ≡ natural (toZ w32 (ofZ w32 z)) % 256 → q ≡ (if on then handle-on p s else handle-off p s) → u ≡ put t c q → r ≡ answers u 0 → r ≡ handle t c z on
+      → s ≡ natural (toZ w32 (ofZ w32 z)) % byte-values → q ≡ (if on then handle-on p s else handle-off p s) → u ≡ put t c q → r ≡ answers u 0 → r ≡ handle t c z on
   unfolding handle
   handle-does t u c s p q on r g d k m w a =
       judged-grants t (handle-refusals z) (handle-gives t c z on) v ruled r g

@@ -20,6 +20,7 @@ use Rattle.script.proofs.Arguments.{number-length}
 use Rattle.script.proofs.Decimals.{decimal-length}
 use Rattle.script.specs.Outputs.{answer-line, bad-line, end-text, removed-text}
 use Rattle.script.specs.Reading.{read-line}
+use Rattle.script.specs.Sizes.{answer-bytes}
 use Rattle.script.specs.Texts.{bytes, line-feed, decimal, number}
 use Rattle.script.specs.declared.Parsed.{Parsed}
 use Rattle.session.proofs.Writing.{nothing-last, wrote-length}
@@ -36,7 +37,7 @@ use Rattle.table.specs.declared.End.the-variants.{Exited, Signaled}
 use Rattle.table.specs.declared.Table.{Table}
 use Rattle.host.specs.Run.{short, needed, told, filled}
 
--- ---- an answer has at most 32 bytes
+-- ---- no answer is longer than the room for one
 
 end-short : (e : End) → length (end-text e) ≤ 18
 unfolding end-text
@@ -61,19 +62,19 @@ answer-length a =
     let y = length-append (number (number-of a)) (removed-text (end-of a)) in
     x ∙ ap (λ k. k + 1) y
 
-answer-short : (a : Answer) → length (answer-line a) ≤ 32
+answer-short : (a : Answer) → length (answer-line a) ≤ answer-bytes
 answer-short a =
     let n = number-length (number-of a) in
     let e = removed-short (end-of a) in
     let s = answer-length a in
     omega arith
 
-line-short : (t : Table) (p : Parsed) → length (run-line t p .text) ≤ 32
+line-short : (t : Table) (p : Parsed) → length (run-line t p .text) ≤ answer-bytes
 unfolding run-line bad-line
 line-short t Parsed.Bad = omega arith
 line-short t (Parsed.Good slot c) = answer-short (step t (slot .0) c .reply .answer)
 
-answers-short : (t : Table) (ls : List (List ℕ)) → length (run-all t ls .text) ≤ 32 * length ls
+answers-short : (t : Table) (ls : List (List ℕ)) → length (run-all t ls .text) ≤ answer-bytes * length ls
 unfolding run-all
 answers-short t [] = omega arith
 answers-short t (l ∷ ls) =
@@ -85,15 +86,15 @@ answers-short t (l ∷ ls) =
 
 -- ---- too short a buffer
 
-is-short : (script : List ℕ) (size n : ℕ) → n ≡ length (lines script) → size / 32 < n → ltb size (needed script) ≡ true
+is-short : (script : List ℕ) (size n : ℕ) → n ≡ length (lines script) → size / answer-bytes < n → ltb size (needed script) ≡ true
 unfolding needed
-is-short script size n e h = lt-ltb size (32 * length (lines script)) (omega arith)
+is-short script size n e h = lt-ltb size (answer-bytes * length (lines script)) (omega arith)
 
-pub short-told : (script : List ℕ) (size n : ℕ) → n ≡ length (lines script) → size / 32 < n → short ≡ told script size
+pub short-told : (script : List ℕ) (size n : ℕ) → n ≡ length (lines script) → size / answer-bytes < n → short ≡ told script size
 unfolding told
 short-told script size n e h = if-yes (ltb size (needed script)) short short (length (run script)) (is-short script size n e h) refl
 
-pub short-filled : (script before : List ℕ) (n : ℕ) → n ≡ length (lines script) → length before / 32 < n → before ≡ filled script before
+pub short-filled : (script before : List ℕ) (n : ℕ) → n ≡ length (lines script) → length before / answer-bytes < n → before ≡ filled script before
 unfolding filled
 short-filled script before n e h =
     if-yes (ltb (length before) (needed script)) before before (run script ++ drop (length (run script)) before)
@@ -101,7 +102,7 @@ short-filled script before n e h =
 
 -- ---- a buffer with room
 
-has-room : (script : List ℕ) (size n : ℕ) → n ≡ length (lines script) → n ≤ size / 32 → needed script ≤ size
+has-room : (script : List ℕ) (size n : ℕ) → n ≡ length (lines script) → n ≤ size / answer-bytes → needed script ≤ size
 unfolding needed
 has-room script size n e h = omega arith
 
@@ -109,7 +110,7 @@ lines-parts : (script : List ℕ) → length (lines script) ≡ length (ended []
 unfolding lines
 lines-parts script = length-append (ended [] script) (last-line (left [] script))
 
-pub room-for-ended : (script : List ℕ) (size n : ℕ) → n ≡ length (lines script) → n ≤ size / 32 → 32 * length (ended [] script) ≤ size
+pub room-for-ended : (script : List ℕ) (size n : ℕ) → n ≡ length (lines script) → n ≤ size / answer-bytes → answer-bytes * length (ended [] script) ≤ size
 room-for-ended script size n e h = let p = lines-parts script in omega arith
 
 pub wrote-told : (script before after : List ℕ) (r : ℕ) → needed script ≤ length before → Wrote (run script) before after r → (r ≡ told script (length before)) × (after ≡ filled script before)
@@ -151,7 +152,7 @@ pub record Fed-whole (script before mid : List ℕ) (r : Fed) : Type 0 where
   pub table-is : r .session .table ≡ run-all fresh (ended [] script) .table
   pub carries : Carries (r .session .line) (left [] script)
 
-pub fed-whole : (script before mid : List ℕ) (n : ℕ) (s : Session) (r : Fed) → n ≡ length (lines script) → n ≤ length before / 32 → (s .table ≡ fresh) × Carries (s .line) [] → ((l : List ℕ) → Carries (cut (s .line)) l → Feeds s l script before mid r) → Fed-whole script before mid r
+pub fed-whole : (script before mid : List ℕ) (n : ℕ) (s : Session) (r : Fed) → n ≡ length (lines script) → n ≤ length before / answer-bytes → (s .table ≡ fresh) × Carries (s .line) [] → ((l : List ℕ) → Carries (cut (s .line)) l → Feeds s l script before mid r) → Fed-whole script before mid r
 fed-whole script before mid n s r e h b f =
     let w : Feeds s [] script before mid r = f [] (carries-cut (s .line) [] (b .1)) in
     record {
@@ -170,7 +171,7 @@ last-one k [] c z = let s = c .size in absurd (z (omega arith))
 last-one k (x ∷ xs) c z = refl
 
 -- what was written fits into the room for the lines that ended
-fed-short : (script before mid : List ℕ) (r : Fed) → Fed-whole script before mid r → r .used ≤ 32 * length (ended [] script)
+fed-short : (script before mid : List ℕ) (r : Fed) → Fed-whole script before mid r → r .used ≤ answer-bytes * length (ended [] script)
 fed-short script before mid r w =
     let a = answers-short fresh (ended [] script) in
     let s = w .wrote .size in
@@ -185,7 +186,7 @@ fed-length script before mid r w =
     wrote-length (run-all fresh (ended [] script) .text) before mid (r .used) (w .wrote) (omega arith)
 
 -- Where a line is left open there is room for its answer.
-pub room-left : (script before mid : List ℕ) (r : Fed) → Fed-whole script before mid r → (r .session .line .len ≡ 0 → ⊥) → r .used + 32 ≤ length mid
+pub room-left : (script before mid : List ℕ) (r : Fed) → Fed-whole script before mid r → (r .session .line .len ≡ 0 → ⊥) → r .used + answer-bytes ≤ length mid
 unfolding needed
 room-left script before mid r w z =
     let u = fed-short script before mid r w in
@@ -217,7 +218,7 @@ rest-back u mid part =
     ap (λ l. take u mid ++ l)
     (ap (λ l. part ++ l) (drop-of-length-le (drop u mid) {i = length mid - u} (omega arith)) ∙ append-nil part)
 
-pub last-asks : (script before mid : List ℕ) (r : Fed) → Fed-whole script before mid r → (r .session .line .len ≡ 0 → ⊥) → 32 ≤ length (take (length mid - r .used) (drop (r .used) mid))
+pub last-asks : (script before mid : List ℕ) (r : Fed) → Fed-whole script before mid r → (r .session .line .len ≡ 0 → ⊥) → answer-bytes ≤ length (take (length mid - r .used) (drop (r .used) mid))
 last-asks script before mid r w z =
     let h = room-left script before mid r w z in
     let d = length-drop (r .used) mid in

@@ -6,11 +6,8 @@ use lib.Dec.{ltb}
 use lib.ListN.{length, drop}
 use Rattle.lines.specs.Runs.{run}
 use Rattle.lines.specs.Splitting.{lines}
+use Rattle.script.specs.Sizes.{answer-bytes}
 use Rattle.table.specs.Tests.{if_then_else_}
-
--- An answer has at most so many bytes.
-abbrev pub answer-bytes : ℕ
-answer-bytes = 32
 
 -- "the buffer is too short"
 abbrev pub short : ℕ

@@ -2,6 +2,7 @@
 use image::IMAGE_WORDS;
 use image::table;
 use numbers::next_pid;
+use script::ANSWER_BYTES;
 use session::feed;
 use session::finish;
 use session::start;
@@ -14,9 +15,6 @@ ghost use Rattle.host.specs.Run.{told, filled};
 ghost use Rattle.host.specs.Verdict.{verdict, next-number};
 
 // ---- a script
-
-// An answer has at most so many bytes.
-const ANSWER_BYTES: usize = 32;
 
 // Tells that the buffer is too short. No buffer is so long, so it is no count of answers.
 const SHORT: usize = 18446744073709551615;

@@ -1,6 +1,6 @@
--- What is carried of an open line: its first 65 bytes. That is one more than a good line may have, so a line that is
--- too long is still seen to be.
-use Prim.Native.Nat.{ℕ, _≤_, _<_, min, max}
+-- What is carried of an open line: its first bytes, one more than a good line may have, so that a line that is too long
+-- is still seen to be.
+use Prim.Native.Nat.{ℕ, suc, _≤_, _<_, min, max}
 use mathlib.Core.Bool.{true, false}
 use mathlib.Core.List.{List, [], _∷_}
 use mathlib.Core.Path.{_≡_}
@@ -8,17 +8,18 @@ use lib.ListN.{length, take, drop}
 use Rattle.lines.specs.Splitting.{ended, left}
 use Rattle.lines.specs.declared.Line.{Line}
 use Rattle.lines.specs.declared.Taken.{Taken}
+use Rattle.script.specs.Sizes.{line-bytes}
 
 abbrev pub carried : ℕ
-carried = 65
+carried = suc line-bytes
 
 -- t carries the line l
 pub record Carries (t : Line) (l : List ℕ) : Type 0 where
   pub size : t .len ≡ min carried (length l)
   pub holds : take (t .len) (t .bytes) ≡ take carried l
 
--- A line as it is taken in: a length above 65 counts as 65. So cut, every line carries something (`carries-own` of
--- proofs/Carrying.antt).
+-- A line as it is taken in: a length above `carried` counts as `carried`. So cut, every line carries something
+-- (`carries-own` of proofs/Carrying.antt).
 abbrev pub cut : Line → Line
 cut t = record { bytes = t .bytes; len = min carried (t .len) }
 

@@ -1,4 +1,5 @@
 // An input that comes in chunks, cut into lines.
+use script::LINE_BYTES;
 use script::Parsed;
 use script::parse;
 ghost use mathlib.Core.Path.{_≡_};
@@ -8,9 +9,12 @@ ghost use lib.ListN.{take};
 ghost use Rattle.lines.specs.Carried.{Carries, cut as cut-line, Took};
 ghost use Rattle.script.specs.Reading.{read-line};
 
-// The first bytes of a line: enough to see that it is too long.
+// What is kept of a line is one byte more than a line may have: enough to see that it is too long.
+const CARRIED: usize = LINE_BYTES + 1;
+
+// The first bytes of a line.
 pub struct Line {
-    pub bytes: [u8; 65],
+    pub bytes: [u8; CARRIED],
     pub len: usize,
 }
 
@@ -18,20 +22,20 @@ pub fn empty() -> Line
     ensures { λ r. ⌜ Carries r [] ⌝ }
 {
     Line {
-        bytes: [0; 65],
+        bytes: [0; CARRIED],
         len: 0,
     }
 }
 
-// A length above 65 counts as 65.
+// A length above CARRIED counts as CARRIED.
 fn cut(line: Line) -> Line
     ensures { λ r. ⌜ r ≡ cut-line line ⌝ }
 {
-    if line.len <= 65 {
+    if line.len <= CARRIED {
         return line;
     }
     let mut t = line;
-    t.len = 65;
+    t.len = CARRIED;
     t
 }
 
@@ -40,7 +44,7 @@ fn add(line: Line, b: u8) -> Line
     ensures { λ r. ⌜ ((l : List ℕ) → Carries line l → Carries r (l ++ b ∷ [])) ⌝ }
 {
     let at = line.len;
-    if at >= 65 {
+    if at >= CARRIED {
         return line;
     }
     let mut t = line;
@@ -86,7 +90,7 @@ pub fn read(line: Line) -> Parsed
     ensures { λ r. ⌜ r ≡ read-line (take (line .len) (line .bytes)) ⌝ }
 {
     let n = line.len;
-    if n > 64 {
+    if n > LINE_BYTES {
         return Parsed::Bad;
     }
     let bytes = line.bytes;

@@ -31,7 +31,7 @@ use Rattle.sameness.proofs.Twins.{flip-twin, Pair, Twin, Twins, flip-pa
 use Rattle.rules.specs.Answers.{answers, granted}
 use Rattle.rules.specs.Calls.{named, others, targets, natural}
 use Rattle.rules.specs.Delivery.{act, action-on, deliver, deliver-all, resumed, with-pending}
-use Rattle.table.specs.Limits.{process-slots, signals}
+use Rattle.table.specs.Limits.{process-slots, signals, sigcont, sigkill, sigstop}
 use Rattle.table.specs.Slots.{is-ended, pid-at, process, put}
 use Rattle.rules.specs.Read.{View, alive, all-seen, pid-seen, seen, view, below, is-init, living, taken}
 use Rattle.table.specs.SignalSets.{has, with-signal}
@@ -171,7 +171,7 @@ is-finish Pend = false
 finish-own : (v : View) (f x n : ℕ) → action-on v f x n ≡ Finish → So (is-init v x) → v .own x ≡ f → ⊥
 unfolding action-on _and_
 finish-own v f x n e h q =
-    let no-finish : is-finish (action-on v f x n) ≡ false = rw (h, eq-eqb (v .own x) f q, action-on) (go (eqb n 0 or not (living v x)) (eqb n 18) (eqb n 9 or eqb n 19) (has (v .traits x .handled) n)) in
+    let no-finish : is-finish (action-on v f x n) ≡ false = rw (h, eq-eqb (v .own x) f q, action-on) (go (eqb n 0 or not (living v x)) (eqb n sigcont) (eqb n sigkill or eqb n sigstop) (has (v .traits x .handled) n)) in
     false≢true (sym no-finish ∙ ap is-finish e)
   where
     go : (a b c d : Bool) → is-finish (if a then Nothing else (if b then Resume else (if c then Nothing else (if d then Pend else Nothing)))) ≡ false
@@ -183,14 +183,14 @@ finish-own v f x n e h q =
 
 pub resumed-placed : (p : Process) → Placed (resumed p) p
 unfolding resumed with-pending
-resumed-placed p = choose (λ q. Placed q p) (has (p .traits .handled) 18) (λ a. (refl, refl, refl)) (λ a. (refl, refl, refl))
+resumed-placed p = choose (λ q. Placed q p) (has (p .traits .handled) sigcont) (λ a. (refl, refl, refl)) (λ a. (refl, refl, refl))
 
 resumed-shown : {t u : Table} {s r : ℕ} {p q : Process} → Shown t u s r p q → Shown t u s r (resumed p) (resumed q)
 unfolding resumed with-pending
-resumed-shown {t} {u} {s} {r} {p} {q} z = subst (λ b. Shown t u s r (resumed p) (if b then with-pending (with-state q Running) 18 else with-state q Running)) (ap (λ (x : Traits). has (x .handled) 18) (z .traitss)) (go (has (p .traits .handled) 18))
+resumed-shown {t} {u} {s} {r} {p} {q} z = subst (λ b. Shown t u s r (resumed p) (if b then with-pending (with-state q Running) sigcont else with-state q Running)) (ap (λ (x : Traits). has (x .handled) sigcont) (z .traitss)) (go (has (p .traits .handled) sigcont))
   where
-    go : (b : Bool) → Shown t u s r (if b then with-pending (with-state p Running) 18 else with-state p Running) (if b then with-pending (with-state q Running) 18 else with-state q Running)
-    go true = shown-as z refl (ap (λ (x : Traits). with-signals x (x .handled) (with-signal (x .pending) 18)) (z .traitss))
+    go : (b : Bool) → Shown t u s r (if b then with-pending (with-state p Running) sigcont else with-state p Running) (if b then with-pending (with-state q Running) sigcont else with-state q Running)
+    go true = shown-as z refl (ap (λ (x : Traits). with-signals x (x .handled) (with-signal (x .pending) sigcont)) (z .traitss))
     go false = shown-as z refl (z .traitss)
 
 -- signal 0 ends nobody

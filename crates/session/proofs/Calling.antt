@@ -12,6 +12,7 @@ use Rattle.lines.specs.Carried.{carried, Carries, cut}
 use Rattle.lines.specs.Runs.{run-line, run-all}
 use Rattle.lines.specs.Splitting.{ended, left, last-line}
 use Rattle.script.specs.Outputs.{answer-line}
+use Rattle.script.specs.Sizes.{answer-bytes}
 use Rattle.script.specs.Texts.{line-feed}
 use Rattle.script.specs.declared.Parsed.{Parsed}
 use Rattle.session.proofs.Seeking.{twice, end-next}
@@ -35,9 +36,9 @@ pub record Passed (t₀ : Table) (p₀ : Place) (chunk before : List ℕ) (t : T
   pub gives : run-at t₀ chunk p₀ ≡ and-then text (run-at t chunk p)
   pub wrote : Puts text (p₀ .used) before out (p .used)
   pub leaves : (m : List ℕ) → Leaves chunk p₀ m → Leaves chunk p m
-  pub room : p .used + 32 * left-at chunk p ≤ length before
+  pub room : p .used + answer-bytes * left-at chunk p ≤ length before
 
-pub passed-starts : (t : Table) (p : Place) (chunk out : List ℕ) → p .used + 32 * left-at chunk p ≤ length out → Passed t p chunk out t p out
+pub passed-starts : (t : Table) (p : Place) (chunk out : List ℕ) → p .used + answer-bytes * left-at chunk p ≤ length out → Passed t p chunk out t p out
 passed-starts t p chunk out h =
     record {
       text = [];
@@ -65,7 +66,7 @@ passed-length t₀ p₀ chunk before t p out w =
     let m = w .room in
     puts-length (w .text) (p₀ .used) (p .used) before out (w .wrote) (omega arith)
 
-pub passed-room : (t₀ : Table) (p₀ : Place) (chunk before : List ℕ) (t : Table) (p : Place) (out : List ℕ) → Passed t₀ p₀ chunk before t p out → p .found ≡ true → p .used + 32 * suc (length (lines-after chunk p)) ≤ length out
+pub passed-room : (t₀ : Table) (p₀ : Place) (chunk before : List ℕ) (t : Table) (p : Place) (out : List ℕ) → Passed t₀ p₀ chunk before t p out → p .found ≡ true → p .used + answer-bytes * suc (length (lines-after chunk p)) ≤ length out
 passed-room t₀ p₀ chunk before t p out w f =
     let m = w .room in
     let n = found-left chunk p f in
@@ -113,7 +114,7 @@ passed-all t₀ p₀ chunk before t p out w f =
 
 -- ---- a whole chunk
 
-pub chunk-room : {Y : Type 0} (y : ℕ → Y) (s : Session) (chunk before mid : List ℕ) (p : Place) → length (map y (s .line .bytes)) ≡ carried → 32 * length (ended [] chunk) ≤ length before → ((l : List ℕ) → Carries (cut (s .line)) l → Sought [] l chunk 0 0 before mid p) → p .used + 32 * left-at chunk p ≤ length mid
+pub chunk-room : {Y : Type 0} (y : ℕ → Y) (s : Session) (chunk before mid : List ℕ) (p : Place) → length (map y (s .line .bytes)) ≡ carried → answer-bytes * length (ended [] chunk) ≤ length before → ((l : List ℕ) → Carries (cut (s .line)) l → Sought [] l chunk 0 0 before mid p) → p .used + answer-bytes * left-at chunk p ≤ length mid
 chunk-room y s chunk before mid p e h q =
     let own : List ℕ = take (cut (s .line) .len) (s .line .bytes) in
     let w = q own (carries-own y (s .line) e) in
@@ -144,7 +145,7 @@ one-line : (l : List ℕ) → ended l (line-feed ∷ []) ≡ l ∷ []
 unfolding ended
 one-line l = refl
 
-pub last-room : (out : List ℕ) → 32 ≤ length out → 32 * length (ended [] (line-feed ∷ [])) ≤ length out
+pub last-room : (out : List ℕ) → answer-bytes ≤ length out → answer-bytes * length (ended [] (line-feed ∷ [])) ≤ length out
 last-room out h = let n = ap length (one-line []) in omega arith
 
 pub last-fed : (s : Session) (before after : List ℕ) (r : Fed) → (s .line .len ≡ 0 → ⊥) → ((l : List ℕ) → Carries (cut (s .line)) l → Feeds s l (line-feed ∷ []) before after r) → (l : List ℕ) → Carries (cut (s .line)) l → Wrote (run-all (s .table) (last-line l) .text) before after (r .used)

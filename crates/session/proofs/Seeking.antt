@@ -14,6 +14,7 @@ use Rattle.lines.specs.declared.Line.{Line}
 use Rattle.lines.specs.declared.Taken.{Taken}
 use Rattle.script.specs.Outputs.{bad-line, Written, Copied}
 use Rattle.script.specs.Reading.{read-line}
+use Rattle.script.specs.Sizes.{answer-bytes}
 use Rattle.script.specs.declared.Parsed.{Parsed}
 use Rattle.script.specs.declared.Text.{Text}
 use Rattle.session.proofs.Writing.{puts-none, puts-text, puts-more, puts-length}
@@ -36,8 +37,8 @@ pub record Going (l chunk : List ℕ) (from start : ℕ) (before : List ℕ) (k 
   pub gives : (t : Table) → run-all t (ended l (drop from chunk)) ≡ and-then text (run-all t (ended line (drop at chunk)))
   pub left-is : left l (drop from chunk) ≡ left line (drop at chunk)
   pub wrote : Puts text start before out used
-  pub room : used + 32 * length (ended line (drop at chunk)) ≤ start + 32 * length (ended l (drop from chunk))
-  pub fits : start + 32 * length (ended l (drop from chunk)) ≤ length before
+  pub room : used + answer-bytes * length (ended line (drop at chunk)) ≤ start + answer-bytes * length (ended l (drop from chunk))
+  pub fits : start + answer-bytes * length (ended l (drop from chunk)) ≤ length before
 
 -- The same for every line that may stand before the place `from`, of which there is one.
 pub record Seeking (k₀ : Taken) (chunk : List ℕ) (from start : ℕ) (before : List ℕ) (k : Taken) (used : ℕ) (out : List ℕ) : Type 0 where
@@ -104,7 +105,7 @@ going-next l chunk from start before k used out p u next k′ after g h r b w c 
 
 -- ---- the loop
 
-pub seeking-starts : {Y : Type 0} (y : ℕ → Y) (line : Line) (k : Taken) (chunk : List ℕ) (from start : ℕ) (out : List ℕ) → length (map y (line .bytes)) ≡ carried → start + 32 * length (ended [] (drop from chunk)) ≤ length out → ((l : List ℕ) → Carries (cut line) l → Took l chunk from k) → Seeking k chunk from start out k start out
+pub seeking-starts : {Y : Type 0} (y : ℕ → Y) (line : Line) (k : Taken) (chunk : List ℕ) (from start : ℕ) (out : List ℕ) → length (map y (line .bytes)) ≡ carried → start + answer-bytes * length (ended [] (drop from chunk)) ≤ length out → ((l : List ℕ) → Carries (cut line) l → Took l chunk from k) → Seeking k chunk from start out k start out
 seeking-starts y line k chunk from start out e h q =
     let own : List ℕ = take (cut line .len) (line .bytes) in
     record {
@@ -136,7 +137,7 @@ seeking-length k₀ chunk from start before k used out w =
     let f = a .fits in
     puts-length (a .text) start used before out (a .wrote) (omega arith)
 
-pub seeking-room : (k₀ : Taken) (chunk : List ℕ) (from start : ℕ) (before : List ℕ) (k : Taken) (used : ℕ) (out : List ℕ) (u : Text) → Seeking k₀ chunk from start before k used out → k .ended ≡ true → Written u bad-line → (u .len ≤ 32) × (used + u .len ≤ length out)
+pub seeking-room : (k₀ : Taken) (chunk : List ℕ) (from start : ℕ) (before : List ℕ) (k : Taken) (used : ℕ) (out : List ℕ) (u : Text) → Seeking k₀ chunk from start before k used out → k .ended ≡ true → Written u bad-line → (u .len ≤ answer-bytes) × (used + u .len ≤ length out)
 seeking-room k₀ chunk from start before k used out u w h v =
     let a = any-of k₀ chunk from start before k used out w in
     let n = ap length (a .took .on-end h .lines-are) in
@@ -221,7 +222,7 @@ pub ruleset seek-loop = (seeking-starts, seeking-length, seeking-next, seeking-l
 
 -- ---- after an answer
 
-pub answer-sought : (u : Text) (a : List ℕ) (chunk before mid after : List ℕ) (from at next : ℕ) (e : Line) (r : Place) → at + 32 * suc (length (ended [] (drop from chunk))) ≤ length before → Written u a → Copied u at before mid next → Carries e [] → ((l : List ℕ) → Carries (cut e) l → Sought [] l chunk from next mid after r) → Sought a [] chunk from at before after r
+pub answer-sought : (u : Text) (a : List ℕ) (chunk before mid after : List ℕ) (from at next : ℕ) (e : Line) (r : Place) → at + answer-bytes * suc (length (ended [] (drop from chunk))) ≤ length before → Written u a → Copied u at before mid next → Carries e [] → ((l : List ℕ) → Carries (cut e) l → Sought [] l chunk from next mid after r) → Sought a [] chunk from at before after r
 answer-sought u a chunk before mid after from at next e r h w c z q =
     let s = q [] (carries-cut e [] z) in
     let x = w .room in

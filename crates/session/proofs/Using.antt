@@ -14,14 +14,15 @@ use Rattle.lines.specs.Runs.{run-all}
 use Rattle.lines.specs.Splitting.{ended, last-line}
 use Rattle.lines.proofs.Line as L
 use Rattle.lines.proofs.Line.Laws as L′
+use Rattle.script.specs.Sizes.{answer-bytes}
 use Rattle.session.proofs.Session as S
 use Rattle.session.proofs.Session.Laws as S′
 use Rattle.session.specs.Sessions.{Wrote, Feeds}
 use Rattle.session.specs.declared.Fed.{Fed}
 use Rattle.session.specs.declared.Session.{Session}
 
--- A chunk of n bytes asks for at most 32 n bytes of room.
-pub enough-room : (chunk out : List ℕ) → 32 * length chunk ≤ length out → 32 * length (ended [] chunk) ≤ length out
+-- A chunk asks for at most as much room as an answer for each of its bytes.
+pub enough-room : (chunk out : List ℕ) → answer-bytes * length chunk ≤ length out → answer-bytes * length (ended [] chunk) ≤ length out
 enough-room chunk out h = let f = ended-few [] chunk in omega arith
 
 -- What is known of every session that is passed or returned: that it is one of the declared type.

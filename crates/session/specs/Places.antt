@@ -7,6 +7,7 @@ use lib.ListN.{length, take, drop}
 use Rattle.lines.specs.Carried.{Carries}
 use Rattle.lines.specs.Runs.{Ran, run-line, run-all}
 use Rattle.lines.specs.Splitting.{ended, left}
+use Rattle.script.specs.Sizes.{answer-bytes}
 use Rattle.script.specs.declared.Parsed.{Parsed}
 use Rattle.session.specs.declared.Place.{Place}
 use Rattle.session.specs.declared.Stand.{Stand}
@@ -51,8 +52,8 @@ pub record Sought (first l chunk : List ℕ) (from used : ℕ) (before after : L
   pub wrote : Puts (first ++ text) used before after (r .used)
   pub gives : (t : Table) → run-all t (ended l (drop from chunk)) ≡ and-then text (run-at t chunk r)
   pub leaves : Leaves chunk r (left l (drop from chunk))
-  pub short : length first ≤ 32
-  pub room : r .used + 32 * left-at chunk r ≤ used + length first + 32 * length (ended l (drop from chunk))
+  pub short : length first ≤ answer-bytes
+  pub room : r .used + answer-bytes * left-at chunk r ≤ used + length first + answer-bytes * length (ended l (drop from chunk))
 
 -- All lines that were left at p were run on the table t.
 pub record Called (t : Table) (p : Place) (chunk before after : List ℕ) (r : Stand) : Type 0 where

@@ -21,6 +21,7 @@ ghost use Rattle.lines.specs.Carried.{Carries, cut};
 ghost use Rattle.lines.specs.Runs.{run-all};
 ghost use Rattle.lines.specs.Splitting.{ended, last-line};
 ghost use Rattle.script.specs.Outputs.{answer-line};
+ghost use Rattle.script.specs.Sizes.{answer-bytes};
 ghost use Rattle.table.specs.Fresh.{fresh as fresh-table};
 ghost use Rattle.session.specs.Places.{left-at, Sought, Called};
 ghost use Rattle.session.specs.Sessions.{Wrote, Feeds};
@@ -54,7 +55,7 @@ struct Place {
 
 // Reads lines up to the first that is a call, and answers those that are none.
 fn seek(line: Line, from: usize, start: usize, chunk: &[u8], out: &mut [u8]) -> Place
-    requires { ⌜ start + 32 * length (ended [] (drop from (now chunk))) ≤ length (now out) ⌝ }
+    requires { ⌜ start + answer-bytes * length (ended [] (drop from (now chunk))) ≤ length (now out) ⌝ }
     ensures { λ r. ⌜ ((l : List ℕ) → Carries (cut line) l → Sought [] l (now (chunk .entry)) from start (now (out .entry)) (now (out .exit)) r) ⌝ }
 {
     let mut used = start;
@@ -90,7 +91,7 @@ fn seek(line: Line, from: usize, start: usize, chunk: &[u8], out: &mut [u8]) -> 
 
 // Answers the call that was found, and reads on.
 fn go_on(p: Place, reply: Reply, chunk: &[u8], out: &mut [u8]) -> Place
-    requires { ⌜ p .used + 32 * suc (length (ended [] (drop (p .at) (now chunk)))) ≤ length (now out) ⌝ }
+    requires { ⌜ p .used + answer-bytes * suc (length (ended [] (drop (p .at) (now chunk)))) ≤ length (now out) ⌝ }
     ensures { λ r. ⌜ Sought (answer-line (reply .answer)) [] (now (chunk .entry)) (p .at) (p .used) (now (out .entry)) (now (out .exit)) r ⌝ }
 {
     let answer = reply.answer;
@@ -106,7 +107,7 @@ struct Stand {
 
 // Makes the calls of a chunk one by one, on one table that is lent for each.
 fn run_calls(mut t: Table, p: Place, chunk: &[u8], out: &mut [u8]) -> Stand
-    requires { ⌜ p .used + 32 * left-at (now chunk) p ≤ length (now out) ⌝ }
+    requires { ⌜ p .used + answer-bytes * left-at (now chunk) p ≤ length (now out) ⌝ }
     ensures { λ r. ⌜ Called t p (now (chunk .entry)) (now (out .entry)) (now (out .exit)) r ⌝ }
 {
     let mut q = p;
@@ -125,10 +126,10 @@ pub struct Fed {
     pub used: usize,
 }
 
-// Runs the lines that end in a chunk, and writes what they give from the start of `out`. An answer has at most 32
-// bytes.
+// Runs the lines that end in a chunk, and writes what they give from the start of `out`. There is room for an answer to
+// each.
 pub fn feed(s: Session, chunk: &[u8], out: &mut [u8]) -> Fed
-    requires { ⌜ 32 * length (ended [] (now chunk)) ≤ length (now out) ⌝ }
+    requires { ⌜ answer-bytes * length (ended [] (now chunk)) ≤ length (now out) ⌝ }
     ensures { λ r. ⌜ ((l : List ℕ) → Carries (cut (s .line)) l → Feeds s l (now (chunk .entry)) (now (out .entry)) (now (out .exit)) r) ⌝ }
 {
     let line = s.line;
@@ -149,7 +150,7 @@ pub fn feed(s: Session, chunk: &[u8], out: &mut [u8]) -> Fed
 
 // Runs the last line, if its line feed is missing and there is a byte on it. Gives how many bytes were written.
 pub fn finish(s: Session, out: &mut [u8]) -> usize
-    requires { ⌜ 32 ≤ length (now out) ⌝ }
+    requires { ⌜ answer-bytes ≤ length (now out) ⌝ }
     ensures { λ r. ⌜ ((l : List ℕ) → Carries (cut (s .line)) l → Wrote (run-all (s .table) (last-line l) .text) (now (out .entry)) (now (out .exit)) r) ⌝ }
 {
     let line = s.line;

@@ -1,4 +1,4 @@
--- `cut` keeps a line's bytes, and of its length at most 65.
+-- `cut` keeps a line's bytes, and of its length at most as much as is carried.
 use Rattle.lines.proofs.Carrying.{cut-laws}
 use Rattle.lines.proofs.cut.Statement.{statement}
 use Rattle.lines.proofs.cut.Tie as tie

@@ -28,7 +28,7 @@ use Rattle.rules.specs.Delivery.{act, action-on, deliver, deliver-all, r
 use Rattle.rules.specs.Ends.{end}
 use Rattle.rules.specs.Freeing.{freed}
 use Rattle.table.specs.Fresh.{empty-process}
-use Rattle.table.specs.Limits.{deepest, namespace-slots, process-slots, signals}
+use Rattle.table.specs.Limits.{deepest, namespace-slots, process-slots, signals, sigcont, sigkill, sigstop}
 use Rattle.rules.specs.Pids.{free-namespace-slot, free-slot}
 use Rattle.table.specs.Slots.{is-ended, process, put}
 use Rattle.rules.specs.Read.{View, dead, unborn, view, children}
@@ -122,16 +122,16 @@ made-sound t u h (born-in-new c n x l m) = birth-keeps (new-namespace t c) (chan
 
 -- ---- deliveries are runs
 
-resumed-run : (t u : Table) → Run t u → Sane u → (i : ℕ) → Lives (view u) i → (b : Bool) → has (view u .traits i .handled) 18 ≡ b → Run t (put u i (resumed (process u i)))
+resumed-run : (t u : Table) → Run t u → Sane u → (i : ℕ) → Lives (view u) i → (b : Bool) → has (view u .traits i .handled) sigcont ≡ b → Run t (put u i (resumed (process u i)))
 unfolding resumed with-pending
-resumed-run t u r s i l true e = rw (e, resumed) (more r (alters i l Running refl refl _ (pend-fine _ (its-traits u s i l) 18 (omega arith) e)))
+resumed-run t u r s i l true e = rw (e, resumed) (more r (alters i l Running refl refl _ (pend-fine _ (its-traits u s i l) sigcont (omega arith) e)))
 resumed-run t u r s i l false e = rw (e, resumed) (more r (alters i l Running refl refl _ (its-traits u s i l)))
 
 -- what a signal does to a process is a run
 pub act-run : (t u : Table) → Run t u → Sane u → (i k : ℕ) → k < signals → (e : Action) → Good (view u) i k e → Run t (act u i k e)
 unfolding act with-pending
 act-run t u r s i k l Nothing g = r
-act-run t u r s i k l Resume g = resumed-run t u r s i g (has (view u .traits i .handled) 18) refl
+act-run t u r s i k l Resume g = resumed-run t u r s i g (has (view u .traits i .handled) sigcont) refl
 act-run t u r s i k l Stop g = more r (alters i g Stopped refl refl _ (its-traits u s i g))
 act-run t u r s i k l Finish g = more r (ends i (Signaled k) (g .0) (g .1) (both _ _ (le-leb 1 k (g .2)) (lt-ltb k signals l)))
 act-run t u r s i k l Pend g =
@@ -183,7 +183,7 @@ module _ (t : Table) (c : ℕ) (h : SoundTable t) (r : So (runs (view t) c)) whe
   reaped Stopped e = nothing-done
   reaped (Ended x) e = freed-after _ (more start (reaps (first-ended v c) (ap is-ended e)))
 
-  handled : (s : ℕ) → 1 ≤ s → s < signals → (s ≡ 9 → ⊥) → (s ≡ 19 → ⊥) → (b : Bool) → Made t (put t c (if b then handle-on (process t c) s else handle-off (process t c) s))
+  handled : (s : ℕ) → 1 ≤ s → s < signals → (s ≡ sigkill → ⊥) → (s ≡ sigstop → ⊥) → (b : Bool) → Made t (put t c (if b then handle-on (process t c) s else handle-off (process t c) s))
   unfolding handle-on handle-off
   handled s x y n m true = altered c lives _ (on-fine _ fine s x y n m)
   handled s x y n m false = altered c lives _ (off-fine _ fine s)
@@ -228,7 +228,7 @@ module _ (t : Table) (c : ℕ) (h : SoundTable t) (r : So (runs (view t) c)) whe
   gives-made (Handle s on) n =
       let a = n Einval in
       let (x, y) = K.natural-within s (isnt-not _ (or-false-left _ _ (or-false-left _ _ a))) in
-      handled (natural s) x y (eqb-false _ 9 (or-false-right _ _ (or-false-left _ _ a))) (eqb-false _ 19 (or-false-right _ _ a)) on
+      handled (natural s) x y (eqb-false _ sigkill (or-false-right _ _ (or-false-left _ _ a))) (eqb-false _ sigstop (or-false-right _ _ a)) on
   gives-made Poll n =
       choose (Gives t) (eqb (lowest-signal (process t c .traits .pending)) signals) (λ a. nothing-done) (λ a. altered c lives _ (poll-fine _ fine _))
 

@@ -41,10 +41,10 @@ module _ (v : View) (i from s : ℕ) where
   ByNine Nothing = Unit {0}
   ByNine Resume = Unit {0}
   ByNine Stop = Unit {0}
-  ByNine Finish = So (is-init v i) → (s ≡ 9) × (v .own i ≡ from → ⊥)
+  ByNine Finish = So (is-init v i) → (s ≡ sigkill) × (v .own i ≡ from → ⊥)
   ByNine Pend = Unit {0}
 
-  default-nine : (s ≡ 9) ⊎ (s ≡ 19) → (is-init v i and eqb (v .own i) from ≡ false) → ByNine (default-action s)
+  default-nine : (s ≡ sigkill) ⊎ (s ≡ sigstop) → (is-init v i and eqb (v .own i) from ≡ false) → ByNine (default-action s)
   unfolding default-action _or_
   default-nine (inl e) o = rw e (λ z. (refl, λ q. no-so o (both _ _ z (eq-eqb _ from q))))
   default-nine (inr e) o = rw e tt

@@ -14,7 +14,7 @@ use Rattle.rules.proofs.Laws.Holds.{ended-none, none-past, parent-holds
 use Rattle.rules.proofs.Laws.Tests.{false-and, isnt-so, choose, left, both, right}
 use Rattle.rules.specs.Ends.{end, init-ends, namespace-dies, member-ends}
 use Rattle.table.specs.Fresh.{empty-process}
-use Rattle.table.specs.Limits.{levels, namespace-slots, no-slot, process-slots}
+use Rattle.table.specs.Limits.{levels, namespace-slots, no-slot, process-slots, sigkill}
 use Rattle.table.specs.Slots.{is-ended, namespace, no-pid, pid-at, process, no-process, changed, hold-at}
 use Rattle.rules.specs.Read.{View, below, is-init, seen, view, child-of, init, taken}
 use Rattle.rules.specs.Sound.{kept-end, shaped}
@@ -33,27 +33,27 @@ use Rattle.table.specs.Traits.{ended-traits}
 module _ (e : End) (q : Process) where
   -- what no end changes
   plain : {B : Type 0} (r : Process → B) (a b c d : Bool) → ((x : End) → r (as-ended q x) ≡ r q)
-      → r (if not a then q else (if b then empty-process else (if c then as-ended q e else (if d then q else as-ended q (Signaled 9))))) ≡ (if a and b then r empty-process else r q)
+      → r (if not a then q else (if b then empty-process else (if c then as-ended q e else (if d then q else as-ended q (Signaled sigkill))))) ≡ (if a and b then r empty-process else r q)
   unfolding _and_
   plain r false b c d h = refl
   plain r true true c d h = refl
   plain r true false true d h = h e
   plain r true false false true h = refl
-  plain r true false false false h = h (Signaled 9)
+  plain r true false false false h = h (Signaled sigkill)
 
   -- what an end clears
   cleared : {B : Type 0} (r : Process → B) (x : B) (a b c d : Bool) → ((y : End) → r (as-ended q y) ≡ x) → (So a → So d → r q ≡ x)
-      → r (if not a then q else (if b then empty-process else (if c then as-ended q e else (if d then q else as-ended q (Signaled 9))))) ≡ (if a and b then r empty-process else (if a then x else r q))
+      → r (if not a then q else (if b then empty-process else (if c then as-ended q e else (if d then q else as-ended q (Signaled sigkill))))) ≡ (if a and b then r empty-process else (if a then x else r q))
   unfolding _and_
   cleared r x false b c d h k = refl
   cleared r x true true c d h k = refl
   cleared r x true false true d h k = h e
   cleared r x true false false true h k = k refl refl
-  cleared r x true false false false h k = h (Signaled 9)
+  cleared r x true false false false h k = h (Signaled sigkill)
 
   stated : (a b c d : Bool)
-      → (if not a then q else (if b then empty-process else (if c then as-ended q e else (if d then q else as-ended q (Signaled 9))))) .state
-      ≡ (if a and b then empty-process .state else (if a then (if c then Ended e else (if d then q .state else Ended (Signaled 9))) else q .state))
+      → (if not a then q else (if b then empty-process else (if c then as-ended q e else (if d then q else as-ended q (Signaled sigkill))))) .state
+      ≡ (if a and b then empty-process .state else (if a then (if c then Ended e else (if d then q .state else Ended (Signaled sigkill))) else q .state))
   unfolding _and_
   stated false b c d = refl
   stated true true c d = refl
@@ -61,7 +61,7 @@ module _ (e : End) (q : Process) where
   stated true false false true = refl
   stated true false false false = refl
 
-  shaped-cased : (a b c d : Bool) → So (process-shaped q) → So (process-shaped (if not a then q else (if b then empty-process else (if c then as-ended q e else (if d then q else as-ended q (Signaled 9))))))
+  shaped-cased : (a b c d : Bool) → So (process-shaped q) → So (process-shaped (if not a then q else (if b then empty-process else (if c then as-ended q e else (if d then q else as-ended q (Signaled sigkill))))))
   shaped-cased false b c d h = h
   shaped-cased true true c d h = both _ _ refl none-shaped
   shaped-cased true false true d h = both _ _ (left _ _ h) (ended-shaped _ (right _ _ h))

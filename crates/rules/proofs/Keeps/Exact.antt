@@ -22,7 +22,7 @@ use Rattle.rules.specs.Claims.{EndsExactly, EndExact}
 use Rattle.rules.specs.Delivery.{act, action-on, default-action, deliver, deliver-all}
 use Rattle.rules.specs.Ends.{end, init-ends}
 use Rattle.rules.specs.Freeing.{freed}
-use Rattle.table.specs.Limits.{process-slots, signals}
+use Rattle.table.specs.Limits.{process-slots, signals, sigkill}
 use Rattle.rules.specs.Read.{View, is-init, seen, taken, view}
 use Rattle.table.specs.Slots.{process}
 use Rattle.rules.specs.Sound.{SoundTable, kept-end}
@@ -40,7 +40,7 @@ use Rattle.table.specs.declared.Table.{Table}
 abbrev Fallen : View → ℕ → ℕ → End → View → Type 0
 Fallen v n c e u =
     ((i : ℕ) → Taken v i → (Taken u i → ⊥) ↔ (Seen v n i × Seen v n (v .parent i)))
-    × ((i : ℕ) → Seen v n i → (Seen v n (v .parent i) → ⊥) → u .state i ≡ (if eqb i c then Ended e else (if v .ended i then v .state i else Ended (Signaled 9))))
+    × ((i : ℕ) → Seen v n i → (Seen v n (v .parent i) → ⊥) → u .state i ≡ (if eqb i c then Ended e else (if v .ended i then v .state i else Ended (Signaled sigkill))))
 
 gone-removed : (v : View) (n c : ℕ) (e : End) → Fallen v n c e (subtree-gone v n c e)
 unfolding taken gone
@@ -83,7 +83,7 @@ by-exit t c s h r z o =
 
 -- ---- by a signal
 
-pub kill-acts : (v : View) (i from : ℕ) → Lives v i → (v .own i ≡ from → ⊥) → action-on v from i 9 ≡ Finish
+pub kill-acts : (v : View) (i from : ℕ) → Lives v i → (v .own i ≡ from → ⊥) → action-on v from i sigkill ≡ Finish
 unfolding action-on default-action _or_ _and_
 kill-acts v i from l o = rw (l, and-not (is-init v i) (ne-eqb (v .own i) from o))
 
@@ -124,11 +124,11 @@ module _ (t : Table) (c i : ℕ) (h : SoundTable t) (r : So (runs (view t) c)) (
   unfolding deliver act answers granted
   finish-made s l e = ap (λ (o : Outcome). o .table) (kill-answers s l) ∙ ap (λ a. freed (act t i s a)) e
 
-by-signal : (t : Table) (c i : ℕ) → SoundTable t → So (runs (view t) c) → Lives (view t) i → So (is-init (view t) i) → Seen (view t) (view t .own c) i → (view t .own i ≡ view t .own c → ⊥) → EndsExactly t (step t c (Kill (pos (pid-to (view t) c i)) (pos 9)) .table) i (Signaled 9)
+by-signal : (t : Table) (c i : ℕ) → SoundTable t → So (runs (view t) c) → Lives (view t) i → So (is-init (view t) i) → Seen (view t) (view t .own c) i → (view t .own i ≡ view t .own c → ⊥) → EndsExactly t (step t c (Kill (pos (pid-to (view t) c i)) (pos sigkill)) .table) i (Signaled sigkill)
 unfolding _and_
 by-signal t c i h r l z s o =
-    subst (λ x. EndsExactly t x i (Signaled 9)) (sym (finish-made t c i h r s 9 (omega arith) (kill-acts (view t) i (view t .own c) l o)))
-    (ends-exactly t (sane t h) i (Signaled 9) l other refl z)
+    subst (λ x. EndsExactly t x i (Signaled sigkill)) (sym (finish-made t c i h r s sigkill (omega arith) (kill-acts (view t) i (view t .own c) l o)))
+    (ends-exactly t (sane t h) i (Signaled sigkill) l other refl z)
   where
     other : i ≡ 0 → ⊥
     other x = o (ap (view t .own) x ∙ facts t h .root-own ∙ sym (K.safe-seen (view t) (facts t h) (view t .own c) i s x))

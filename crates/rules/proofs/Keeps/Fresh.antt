@@ -49,7 +49,7 @@ next-rule v f n =
     Rule : ℕ → Type 0
     Rule k =
         ((v .last n < k) × ((j : ℕ) → v .last n < j → j < k → Unused v n j → ⊥))
-        ⊎ (((j : ℕ) → v .last n < j → j ≤ 32767 → Unused v n j → ⊥) × (300 ≤ k) × ((j : ℕ) → 300 ≤ j → j < k → Unused v n j → ⊥))
+        ⊎ (((j : ℕ) → v .last n < j → j ≤ greatest-pid → Unused v n j → ⊥) × (restart-pid ≤ k) × ((j : ℕ) → restart-pid ≤ j → j < k → Unused v n j → ⊥))
 
     beyond : leb (low v n) greatest-pid ≡ false → Dec (greatest-pid < low v n) → greatest-pid < low v n
     beyond e (yes l) = l

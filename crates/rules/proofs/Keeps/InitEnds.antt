@@ -12,7 +12,7 @@ use Rattle.rules.proofs.Laws.Holds.{blank-holds}
 use Rattle.rules.proofs.Laws.Reach.{reach-zero, reach-step, reach-cases}
 use Rattle.rules.proofs.Laws.Tests.{yes-or-no, no-so, isnt-so, false-and, zero-or, left, right, both}
 use Rattle.table.specs.Fresh.{empty-process}
-use Rattle.table.specs.Limits.{no-slot, process-slots, hold-slots}
+use Rattle.table.specs.Limits.{no-slot, process-slots, hold-slots, sigkill}
 use Rattle.table.specs.Slots.{init-of, is-alive, is-ended, hold-at}
 use Rattle.rules.specs.Read.{View, alive, below, dead, init, is-init, living, namespace-taken, pid-seen, seen, taken, unborn}
 use Rattle.rules.specs.Sound.{kept-end, reaches-root, zero-namespace, zero-process}
@@ -35,7 +35,7 @@ subtree-gone v n p e =
       own = λ i. if gone v n i then 0 else v .own i;
       hold = λ i k. if gone v n i then hold-at empty-process k else (if seen v n i then no-slot else v .hold i k);
       parent = λ i. if gone v n i then 0 else v .parent i;
-      state = λ i. if gone v n i then Running else (if seen v n i then (if eqb i p then Ended e else (if v .ended i then v .state i else Ended (Signaled 9))) else v .state i);
+      state = λ i. if gone v n i then Running else (if seen v n i then (if eqb i p then Ended e else (if v .ended i then v .state i else Ended (Signaled sigkill))) else v .state i);
       ended = λ i. if gone v n i then false else (if seen v n i then true else v .ended i);
       traits = λ i. if gone v n i then no-traits else (if seen v n i then ended-traits (v .traits i) else v .traits i);
       pid = λ i l. if gone v n i then 0 else v .pid i l;
@@ -139,7 +139,7 @@ module _ (v : View) (f : Facts v) (p : ℕ) (e : End) (lives : Lives v p) (its-i
   traits-w : (i : ℕ) → Taken v i → So (traits-ok (if seen v n i then ended-traits (v .traits i) else v .traits i))
   traits-w i t = ⊎-elim (λ s. rw s (ended-ok _ (f .traits i t))) (λ o. rw o (f .traits i t)) (yes-or-no (seen v n i))
 
-  ended-kept : (i : ℕ) → Taken v i → (a b c : Bool) → So (kept-end (if a then (if b then Ended e else (if c then v .state i else Ended (Signaled 9))) else v .state i))
+  ended-kept : (i : ℕ) → Taken v i → (a b c : Bool) → So (kept-end (if a then (if b then Ended e else (if c then v .state i else Ended (Signaled sigkill))) else v .state i))
   ended-kept i t true true c = ok
   ended-kept i t true false true = f .ends-kept i t
   ended-kept i t true false false = both _ _ refl refl
@@ -173,7 +173,7 @@ module _ (v : View) (f : Facts v) (p : ℕ) (e : End) (lives : Lives v p) (its-i
   bare-w : (i : ℕ) → Taken v i → So (if seen v n i then true else v .ended i) → So (bare-traits (if seen v n i then ended-traits (v .traits i) else v .traits i))
   bare-w i t = ⊎-elim (λ s. rw s (λ h. ended-are-bare _)) (λ o. rw o (f .ended-traits i t)) (yes-or-no (seen v n i))
 
-  ended-as : (a b c : Bool) (i : ℕ) (d : Bool) → v .ended i ≡ d → (if a then false else (if b then true else v .ended i)) ≡ is-ended (if a then Running else (if b then (if c then Ended e else (if d then v .state i else Ended (Signaled 9))) else v .state i))
+  ended-as : (a b c : Bool) (i : ℕ) (d : Bool) → v .ended i ≡ d → (if a then false else (if b then true else v .ended i)) ≡ is-ended (if a then Running else (if b then (if c then Ended e else (if d then v .state i else Ended (Signaled sigkill))) else v .state i))
   ended-as true b c i d h = refl
   ended-as false false c i d h = f .ended-is i
   ended-as false true true i d h = refl

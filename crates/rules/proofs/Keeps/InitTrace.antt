@@ -24,8 +24,9 @@ use Rattle.table.specs.declared.Process.{Process}
 use Rattle.table.specs.declared.Table.{Table}
 use Rattle.table.specs.Records.{with-parent, as-ended}
 use Rattle.table.specs.Traits.{ended-traits}
+use Rattle.table.specs.Limits.{sigkill}
 
-module _ (k from : ℕ) (P : ℕ → Type 0) (u : Table) (s : Sane u) (j : ℕ) (l : Lives (view u) j) (yes-init : So (is-init (view u) j)) (nine : k ≡ 9) where
+module _ (k from : ℕ) (P : ℕ → Type 0) (u : Table) (s : Sane u) (j : ℕ) (l : Lives (view u) j) (yes-init : So (is-init (view u) j)) (nine : k ≡ sigkill) where
   abbrev v : View
   v = view u
 
@@ -54,7 +55,7 @@ module _ (k from : ℕ) (P : ℕ → Type 0) (u : Table) (s : Sane u) (j : ℕ) 
   unfolding init-ends
   left-at i a b = init-ended-at u s j (Signaled k) here yes-init i ∙ rw (a, b, nine) (⊎-elim (λ e. self e) (λ e. rw e) (same-or i j))
     where
-      self : i ≡ j → (if eqb i j then as-ended (process u i) (Signaled 9) else over 9 (process u i)) ≡ over 9 (process u i)
+      self : i ≡ j → (if eqb i j then as-ended (process u i) (Signaled sigkill) else over sigkill (process u i)) ≡ over sigkill (process u i)
       self e = let d : is-ended (process u i .state) ≡ false = isnt-so (not-ended v i (subst (Lives v) (sym e) l)) in rw (eq-eqb i j e, d)
 
   -- the three cases

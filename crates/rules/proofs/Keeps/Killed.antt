@@ -33,7 +33,7 @@ use Rattle.rules.specs.Read.{View, all-seen, init, is-init, living, seen
 use Rattle.rules.specs.Refusals.{meant, numbered}
 use Rattle.rules.specs.Sound.{SoundTable}
 use Rattle.rules.specs.Step.{runs, step}
-use Rattle.table.specs.Limits.{process-slots, signals}
+use Rattle.table.specs.Limits.{process-slots, signals, sigkill}
 use Rattle.table.specs.Slots.{is-ended, pid-at, process}
 use Rattle.table.specs.Tests.{_and_, if_then_else_}
 use Rattle.table.specs.declared.Action.the-variants.{Finish}
@@ -103,7 +103,7 @@ module _ (t : Table) (c : ℕ) (h : SoundTable t) (r : So (runs (view t) c)) (n 
 
   ends-init-of : (m : ℕ) → Fell t w m → (j : ℕ) × So (ends-init v c n s j) × Below v m (v .own j)
   unfolding ends-init
-  ends-init-of m z = let (j, a, b, l, i, o, d) = x .heads m z in (j, both _ _ (both _ _ (both _ _ (both _ _ a l) i) (not-iff _ .1 (λ e. o (eqb-true _ from e)))) (eq-eqb k 9 b), d)
+  ends-init-of m z = let (j, a, b, l, i, o, d) = x .heads m z in (j, both _ _ (both _ _ (both _ _ (both _ _ a l) i) (not-iff _ .1 (λ e. o (eqb-true _ from e)))) (eq-eqb k sigkill b), d)
 
   seen-up : (m j i : ℕ) → Below v m (v .own j) → Seen v m i → Seen v (v .own j) i
   seen-up m j i b a = is-seen v (v .own j) i (seen-taken v m i a) (below-trans v f _ m _ (seen-below v m i a) b)
@@ -124,7 +124,7 @@ module _ (t : Table) (c : ℕ) (h : SoundTable t) (r : So (runs (view t) c)) (n 
       let m = left _ _ (left _ _ (left _ _ (left _ _ d))) in
       let l = right _ _ (left _ _ (left _ _ (left _ _ d))) in
       let o = not-iff _ .0 (right _ _ (left _ _ d)) in
-      let e : k ≡ 9 = eqb-true k 9 (right _ _ d) in
+      let e : k ≡ sigkill = eqb-true k sigkill (right _ _ d) in
       let q : action-on v from j k ≡ Finish = ap (action-on v from j) e ∙ kill-acts v j from l (λ z. o (eq-eqb _ from z)) in
       ⊎-elim (λ z. fallen j z a) (λ z. not-ended (view w) j a (ap (λ (p : Process). is-ended (p .state)) (z ∙ ap (λ y. with-parent (after-action (process t j) k y) (view w .parent j)) q))) (hit j m)
 
@@ -198,12 +198,12 @@ module _ (t : Table) (c : ℕ) (h : SoundTable t) (r : So (runs (view t) c)) (n 
   as-then i q e = at i ∙ e ∙ ap (with-parent q) (sym (parent-after-then i))
 
   abbrev swept-by : ℕ → Process
-  swept-by i = if v .ended i then process t i else as-ended (process t i) (Signaled 9)
+  swept-by i = if v .ended i then process t i else as-ended (process t i) (Signaled sigkill)
 
   swept-as : (i j : ℕ) → So (ends-init v c n s j) → Seen v (v .own j) i → Taken (view w) i → process w i ≡ with-parent (swept-by i) (parent-after t w i)
   unfolding ends-init
   swept-as i j d b y =
-      let e : k ≡ 9 = eqb-true k 9 (right _ _ d) in
+      let e : k ≡ sigkill = eqb-true k sigkill (right _ _ d) in
       x .ended i y (fallen i (v .own j, ends-init-fell j d, b)) ∙ ap (λ (z : ℕ). with-parent (if v .ended i then process t i else as-ended (process t i) (Signaled z)) (view w .parent i)) e
       ∙ ap (with-parent (swept-by i)) (x .parents i y)
 

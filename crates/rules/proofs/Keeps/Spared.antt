@@ -27,7 +27,7 @@ use Rattle.rules.specs.Read.{View, is-init, namespace-taken, view}
 use Rattle.rules.specs.Sound.{SoundTable, zero-namespace}
 use Rattle.rules.specs.Step.{runs, step}
 use Rattle.table.specs.Fresh.{empty-namespace}
-use Rattle.table.specs.Limits.{deepest, namespace-slots, process-slots}
+use Rattle.table.specs.Limits.{deepest, namespace-slots, process-slots, sigkill}
 use Rattle.table.specs.Slots.{is-unborn, namespace, no-namespace, no-process}
 use Rattle.table.specs.Tests.{_and_, _or_, if_then_else_}
 use Rattle.table.specs.declared.Action.the-variants.{Nothing}
@@ -114,16 +114,16 @@ module _ (t : Table) (c : ℕ) (h : SoundTable t) (r : So (runs (view t) c)) (z 
       subst (λ i. pid-to (view t) c i ≡ 1) (eqb-true _ c z)
       (init-pid (view t) (facts t h) (view t .own c) (living-own-alive (view t) (facts t h) c lives))
 
-  nothing : action-on (view t) (view t .own c) c 9 ≡ Nothing
+  nothing : action-on (view t) (view t .own c) c sigkill ≡ Nothing
   unfolding action-on _or_ _and_
   nothing = rw (lives, z, eq-eqb (view t .own c) (view t .own c) refl)
 
-  unmoved : step t c (Kill (pos 1) (pos 9)) ≡ answers t 0
+  unmoved : step t c (Kill (pos 1) (pos sigkill)) ≡ answers t 0
   unfolding deliver act
   unmoved =
-      subst (λ k. step t c (Kill (pos k) (pos 9)) ≡ answers t 0) first
-      (kill-answers t c c h r (is-seen (view t) _ c (lives-taken (view t) c lives) (below-refl (view t) _)) 9 (omega arith)
-      ∙ ap (λ a. answers (freed (act t c 9 a)) 0) nothing
+      subst (λ k. step t c (Kill (pos k) (pos sigkill)) ≡ answers t 0) first
+      (kill-answers t c c h r (is-seen (view t) _ c (lives-taken (view t) c lives) (below-refl (view t) _)) sigkill (omega arith)
+      ∙ ap (λ a. answers (freed (act t c sigkill a)) 0) nothing
       ∙ ap (λ u. answers u 0) (freed-none t h))
 
 pub init-spared : InitSpared

@@ -23,7 +23,7 @@ use Rattle.table.specs.declared.Table.{Table}
 use Rattle.table.specs.declared.State.the-variants.{Ended}
 use Rattle.table.specs.Records.{with-parent, as-ended}
 use Rattle.table.specs.Traits.{ended-traits}
-use Rattle.table.specs.Limits.{no-slot}
+use Rattle.table.specs.Limits.{no-slot, sigkill}
 
 -- the record of one that has ended, by signal k if not before
 abbrev pub over : ℕ → Process → Process
@@ -35,7 +35,7 @@ Fell t u n = So (alive (view t) n) × (Lives (view u) (init (view t) n) → ⊥)
 
 -- n lies in the subtree of an init in P that 9 ends, sent from a namespace above
 abbrev pub Head : ℕ → ℕ → (ℕ → Type 0) → View → ℕ → Type 0
-Head k from P v n = (j : ℕ) × P j × (k ≡ 9) × Lives v j × So (is-init v j) × (v .own j ≡ from → ⊥) × Below v n (v .own j)
+Head k from P v n = (j : ℕ) × P j × (k ≡ sigkill) × Lives v j × So (is-init v j) × (v .own j ≡ from → ⊥) × Below v n (v .own j)
 
 -- what signal k, sent from a namespace to processes in P, leaves
 pub record Trace (k from : ℕ) (P : ℕ → Type 0) (t u : Table) : Type 0 where

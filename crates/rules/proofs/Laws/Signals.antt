@@ -7,7 +7,7 @@ use mathlib.Core.Bool.{false, So, false≢true}
 use mathlib.Core.Path.{_≡_, refl, _∙_, ap, sym, subst}
 use borrow.Author.Tests.{eq-eqb, ne-eqb}
 use lib.Dec.{eqb}
-use Rattle.table.specs.Limits.{signals}
+use Rattle.table.specs.Limits.{signals, sigkill, sigstop}
 use Rattle.table.specs.SignalSets.{has, with-signal, without-signal}
 
 -- what is in a set with a signal more, or one less
@@ -51,7 +51,7 @@ without-signal-le m (suc s) = omega (arith, without-signal-le (m / 2) s)
 
 -- the two sets as a sound table has them
 abbrev pub SignalsOk : ℕ → ℕ → Type 0
-SignalsOk h q = (((So (has h 0) → ⊥) × (So (has h 9) → ⊥)) × (So (has h 19) → ⊥)) × ((s : ℕ) → s < signals → So (has q s) → So (has h s))
+SignalsOk h q = (((So (has h 0) → ⊥) × (So (has h sigkill) → ⊥)) × (So (has h sigstop) → ⊥)) × ((s : ℕ) → s < signals → So (has q s) → So (has h s))
 
 no-bits : (s : ℕ) → So (has 0 s) → ⊥
 unfolding has
@@ -59,7 +59,7 @@ no-bits zero h = false≢true h
 no-bits (suc s) h = no-bits s h
 
 pub no-signals : SignalsOk 0 0
-no-signals = (((no-bits 0, no-bits 9), no-bits 19), λ s l h. absurd (no-bits s h))
+no-signals = (((no-bits 0, no-bits sigkill), no-bits sigstop), λ s l h. absurd (no-bits s h))
 
 has-less : (q s b : ℕ) → So (has (without-signal q s) b) → (b ≡ s → ⊥) × So (has q b)
 has-less q s b y = go (ℕ-discrete b s)
@@ -80,9 +80,9 @@ pend-ok h q s k x = (k .0, λ b l y. go b l y (ℕ-discrete b s))
 pub poll-ok : (h q s : ℕ) → SignalsOk h q → SignalsOk h (without-signal q s)
 poll-ok h q s k = (k .0, λ b l y. k .1 b l (has-less q s b y .1))
 
-pub on-ok : (h q s : ℕ) → 1 ≤ s → (s ≡ 9 → ⊥) → (s ≡ 19 → ⊥) → SignalsOk h q → SignalsOk (with-signal h s) q
+pub on-ok : (h q s : ℕ) → 1 ≤ s → (s ≡ sigkill → ⊥) → (s ≡ sigstop → ⊥) → SignalsOk h q → SignalsOk (with-signal h s) q
 on-ok h q s a n m k =
-    (((λ x. k .0 .0 .0 (sym (has-with-other h s 0 (λ e. omega arith)) ∙ x), λ x. k .0 .0 .1 (sym (has-with-other h s 9 (λ e. n (sym e))) ∙ x)), λ x. k .0 .1 (sym (has-with-other h s 19 (λ e. m (sym e))) ∙ x)), λ b l y. go b (k .1 b l y) (ℕ-discrete b s))
+    (((λ x. k .0 .0 .0 (sym (has-with-other h s 0 (λ e. omega arith)) ∙ x), λ x. k .0 .0 .1 (sym (has-with-other h s sigkill (λ e. n (sym e))) ∙ x)), λ x. k .0 .1 (sym (has-with-other h s sigstop (λ e. m (sym e))) ∙ x)), λ b l y. go b (k .1 b l y) (ℕ-discrete b s))
   where
     go : (b : ℕ) → So (has h b) → Dec (b ≡ s) → So (has (with-signal h s) b)
     go b y (yes e) = subst (λ n. So (has (with-signal h s) n)) (sym e) (has-with-same h s)
@@ -90,4 +90,4 @@ on-ok h q s a n m k =
 
 pub off-ok : (h q s : ℕ) → SignalsOk h q → SignalsOk (without-signal h s) (without-signal q s)
 off-ok h q s k =
-    (((λ x. k .0 .0 .0 (has-less h s 0 x .1), λ x. k .0 .0 .1 (has-less h s 9 x .1)), λ x. k .0 .1 (has-less h s 19 x .1)), λ b l y. let (o, z) = has-less q s b y in has-without-other h s b o ∙ k .1 b l z)
+    (((λ x. k .0 .0 .0 (has-less h s 0 x .1), λ x. k .0 .0 .1 (has-less h s sigkill x .1)), λ x. k .0 .1 (has-less h s sigstop x .1)), λ b l y. let (o, z) = has-less q s b y in has-without-other h s b o ∙ k .1 b l z)

@@ -6,7 +6,7 @@ use mathlib.Core.Path.{_≡_, refl, sym}
 use borrow.Author.Tests.{lt-ltb, ltb-true, eqb-true}
 use Rattle.rules.proofs.Laws.Signals.{SignalsOk, no-signals, pend-ok, poll-ok, on-ok, off-ok, with-signal-lt, without-signal-le}
 use Rattle.rules.proofs.Laws.Tests.{tests, left, right, both}
-use Rattle.table.specs.Limits.{signals}
+use Rattle.table.specs.Limits.{signals, sigkill, sigstop}
 use Rattle.table.specs.SignalSets.{has, with-signal, without-signal}
 use Rattle.table.specs.Tests.{_and_}
 use Rattle.table.specs.Traits.{no-traits, blank-traits, born-traits, ended-traits, bare-traits, with-signals, handled-ok, pending-ok, traits-ok, traits-shaped}
@@ -92,7 +92,7 @@ module _ (x : Traits) (f : Fine x) (s : ℕ) where
   pub pend-fine : s < signals → So (has (x .handled) s) → Fine (with-signals x (x .handled) (with-signal (x .pending) s))
   pend-fine l h = signals-fine x _ _ f (pend-ok _ _ s k h) handled-low (with-signal-lt signals _ s pending-low l)
 
-  pub on-fine : 1 ≤ s → s < signals → (s ≡ 9 → ⊥) → (s ≡ 19 → ⊥) → Fine (with-signals x (with-signal (x .handled) s) (x .pending))
+  pub on-fine : 1 ≤ s → s < signals → (s ≡ sigkill → ⊥) → (s ≡ sigstop → ⊥) → Fine (with-signals x (with-signal (x .handled) s) (x .pending))
   on-fine a l n m = signals-fine x _ _ f (on-ok _ _ s a n m k) (with-signal-lt signals _ s handled-low l) pending-low
 
   pub off-fine : Fine (with-signals x (without-signal (x .handled) s) (without-signal (x .pending) s))

@@ -53,6 +53,7 @@ use Rattle.entry.proofs.apply.Symbol as apply-def
 use Rattle.entry.proofs.apply.Symbol.{name as #entry·apply}
 use Rattle.entry.proofs.apply.Met as apply-thm
 use Rattle.script.specs.Outputs.{answer-line}
+use Rattle.script.specs.Sizes.{answer-bytes}
 use Rattle.table.specs.declared.Table.{Table}
 use Rattle.table.specs.declared.Reply.{Reply}
 use Rattle.table.proofs.Table as T
@@ -202,7 +203,7 @@ module _ {M : Type 1} (𝓤 : URA M) (H : Heap 𝓤) (A : Atoms 𝓤) (W : Given
   abbrev to-go-on : Place → Reply → Val → List ℕ → ℕ → GName → GoOn 𝓤 H A at-mem run .Ghost
   to-go-on d r v l ν δ = (((κ, (ν ∷ [], tt)), (q, (fullShare, tt)), tt, (d, (r, (c, (to-out δ l, tt)))), (mach-p d ∷ [], (v ∷ [], (c-val ∷ [], (o-val ∷ [], tt))))), tt)
 
-  asks-go-on : (d : Place) (r : Reply) (v : Val) (l : List ℕ) (ν : ℕ) (δ : GName) → Is P.the-row d (mach-p d ∷ []) → Is R.the-row r (v ∷ []) → d .used + 32 * suc (length (lines-after (c .now) d)) ≤ length l
+  asks-go-on : (d : Place) (r : Reply) (v : Val) (l : List ℕ) (ν : ℕ) (δ : GName) → Is P.the-row d (mach-p d ∷ []) → Is R.the-row r (v ∷ []) → d .used + answer-bytes * suc (length (lines-after (c .now) d)) ≤ length l
       → ent 𝓤 (sep 𝓤 (sep 𝓤 (sem 𝓤 H A Chunk) (sem 𝓤 H A (Again l ν δ))) (sep 𝓤 (A .lft (ν ∷ []) fullShare) (A .lft κ q))) (GoOn 𝓤 H A at-mem run .pre (to-go-on d r v l ν δ))
   asks-go-on d r v l ν δ d-is r-is room =
       qed W ((‵ Chunk ⊛ ‵ (Again l ν δ)) ∷ ‵ (flft (ν ∷ []) fullShare) ∷ ‵ (flft κ q) ∷ []) ∵ says ! room $ nothing ! $ move ! (2 ∷ 0 ∷ []) $ join ! $ move ! (2 ∷ 0 ∷ []) $ join ! $ frame ! $
@@ -326,7 +327,7 @@ module _ {M : Type 1} (𝓤 : URA M) (H : Heap 𝓤) (A : Atoms 𝓤) (W : Given
       turns-all : (y : St) → Sq W (At y) (runs C Λ En mir.t-3 (atRet En Post))
       turns-all y = first ! $ blocks ! $ loops ! 𝓣 (Fewer t p (c .now) ys) (Fewer-wf t p (c .now) ys) At turns y
 
-    walk : p .used + 32 * left-at (c .now) p ≤ length ys → ent 𝓤 (onEntry 𝓤 H A run-calls.signature (κ, (κ′, tt)) (q, (q′, tt)) x at) (WpFn 𝓤 H C Λ code.function (mach t ∷ mach-p p ∷ c-val ∷ o-val ∷ []) Post)
+    walk : p .used + answer-bytes * left-at (c .now) p ≤ length ys → ent 𝓤 (onEntry 𝓤 H A run-calls.signature (κ, (κ′, tt)) (q, (q′, tt)) x at) (WpFn 𝓤 H C Λ code.function (mach t ∷ mach-p p ∷ c-val ∷ o-val ∷ []) Post)
     walk room =
         qed W ((‵ (flft κ q) ⊛ ‵ (flft κ′ q′) ⊛ ‵ ftrue) ∷ ‵ (owns (T.the-row ∷ P.the-row ∷ ShrSlice (named 0) κ u8 ∷ MutSlice (named 1) κ′ u8 ∷ []) x at) ∷ []) ∵ enter ! C Λ code.function (mach t ∷ mach-p p ∷ c-val ∷ o-val ∷ []) _ $
         alloc1 ! (λ l₀. alloc1 ! (λ l₁. alloc1 ! (λ l₂. alloc1 ! (λ l₃. alloc1 ! (λ l₄. alloc1 ! (λ l₅. alloc1 ! (λ l₆. alloc1 ! (λ l₇. alloc1 ! (λ l₈. alloc1 ! (λ l₉. alloc1 ! (λ l₁₀. alloc1 ! (λ l₁₁. alloc1 ! (λ l₁₂. alloc0 ! $ params1 ! $
@@ -343,7 +344,7 @@ module _ {M : Type 1} (𝓤 : URA M) (H : Heap 𝓤) (A : Atoms 𝓤) (W : Given
   run-calls-walks : Walks 𝓤 H A run-calls.ended stayed (WpFn 𝓤 H (𝓣 .C) (𝓣 .Λ) code.function) (run-calls.clauses 𝓤 H A mem run)
   run-calls-walks = walked 𝓤 H A run-calls.ended stayed (run-calls.clauses 𝓤 H A mem run) (WpFn 𝓤 H (𝓣 .C) (𝓣 .Λ) code.function) (λ κs. (LL.vals T.the-type T′.the-laws, (LL.vals P.the-type P′.the-laws, (slice-vals, (slice-vals, tt)))))
       (λ κs. (LL.tells T.the-type T′.the-laws, (LL.tells P.the-type P′.the-laws, (shr-slice-tells (named 0) (κs .0) u8, (mut-slice-tells (named 1) (κs .1 .0) u8, tt)))))
-      (λ κs qs bounds a _ are. needs 𝓤 (a .1 .0 .used + 32 * left-at (a .1 .1 .0 .now) (a .1 .0) ≤ length (a .1 .1 .1 .0 .now)) _
+      (λ κs qs bounds a _ are. needs 𝓤 (a .1 .0 .used + answer-bytes * left-at (a .1 .1 .0 .now) (a .1 .0) ≤ length (a .1 .1 .1 .0 .now)) _
       (walk 𝓤 H A W mem run (κs .0) (κs .1 .0) (qs .0) (qs .1 .0) (a .0) (are .0) (a .1 .0) (are .1 .0) (a .1 .1 .0) (a .1 .1 .1 .0 .ptr .0) (a .1 .1 .1 .0 .ptr .1) (a .1 .1 .1 .0 .name) (a .1 .1 .1 .0 .now) (are .1 .1 .0 .0 .1) (are .1 .1 .1 .0 .0 .1) 𝓣 (fmOf 𝓤 H (W .laws) 𝓣) known-apply known-go-on))
 
   run-calls-meets : Meets 𝓤 H A run-calls.signature (WpFn 𝓤 H (𝓣 .C) (𝓣 .Λ) code.function) (run-calls.spec 𝓤 H A mem run)

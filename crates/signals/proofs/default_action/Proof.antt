@@ -3,9 +3,9 @@
 use borrow.Author.Needs.{needs}
 use Rattle.rules.specs.Delivery.{default-action}
 use Rattle.table.specs.Limits.{signals}
-use Rattle.table.specs.Tests.{_or_}
+use Rattle.table.specs.Tests.{_or_, values}
 use Rattle.table.specs.declared.Action.the-variants.{Nothing}
-use Rattle.signals.proofs.Defaults.{listed, listed-at, default-past}
+use Rattle.signals.proofs.Defaults.{values-at, default-past}
 use Rattle.signals.proofs.default_action.Statement.{statement}
 use Rattle.signals.proofs.default_action.Tie as tie
 
@@ -13,8 +13,8 @@ array-copy-out-result : tie.Need-array-copy-out-result
 array-copy-out-result c = search needs
 
 returns : tie.Need-returns
-unfolding listed default-action _or_
-returns c = listed-at default-action Nothing signals (c .before .before .args .s) (search needs)
+unfolding values default-action _or_
+returns c = values-at default-action Nothing signals (c .before .before .args .s) (search needs)
 
 returns-2 : tie.Need-returns-2
 returns-2 c = default-past (c .before .args .s) (search needs)
