@@ -27,8 +27,8 @@ use Rattle.table.specs.declared.Life.{Life}
 use Rattle.table.specs.declared.Life.the-variants.{Unborn, Alive, Dead}
 use Rattle.table.specs.declared.Namespace.{Namespace}
 use Rattle.table.specs.declared.Table.{Table}
-use Rattle.tree.specs.Tree.{is-blank-namespace}
-use Rattle.ending.specs.Holding.{mark-at, with-marks, marks-of, kept-for, keeps, once-freed}
+use Rattle.tree.specs.Tree.{is-blank-namespace, mark-process}
+use Rattle.ending.specs.Holding.{mark-at, marks-of, kept-for, keeps, once-freed}
 use Rattle.rules.proofs.Laws.OneHold.{kept-one}
 
 -- ---- the marks
@@ -39,9 +39,9 @@ holder t m i = (taken (view t) i and eqb (view t .own i) m) or (taken (view t) i
 
 -- a mark says whether some process holds the namespace
 says-held : (t : Table) (m : ℕ) → m < namespace-slots → mark-at (marks-of t) m ≡ any process-slots (holder t m)
-unfolding marks-of with-marks taken
+unfolding marks-of taken
 says-held t =
-    marked-alone namespace-slots (λ i l. with-marks (process t i) l) (λ i m. holder t m i)
+    marked-alone namespace-slots (λ i l. mark-process l (process t i)) (λ i m. holder t m i)
     (λ i. marks-if namespace-slots (taken (view t) i) (view t .own i) (children (view t) i)) process-slots .says
 
 -- ---- who is kept

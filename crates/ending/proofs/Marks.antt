@@ -1,13 +1,12 @@
--- Arrays of marks: who is seen, and which namespaces are held.
+-- Arrays of marks: who is seen.
 use Prim.Native.Nat.{ℕ, _≤_}
-use mathlib.Core.Bool.{Bool, true, false, not}
+use mathlib.Core.Bool.{Bool, false, not}
 use mathlib.Core.List.{List, map}
 use mathlib.Core.Path.{_≡_, refl, sym, ap, _∙_}
 use native.Mathlib.Omega.{arith}
-use borrow.Author.Tests.{not-true, not-false}
 use lib.Dec.{eqb}
-use lib.ListN.{length, set, replicate, List·getD-eq-default}
-use Rattle.table.proofs.Chains.{pick-yes, pick-no, and-false}
+use lib.ListN.{length, replicate, List·getD-eq-default}
+use Rattle.table.proofs.Chains.{and-false}
 use Rattle.table.proofs.MapLoops.{Mapped, map-done, changed-reads}
 use Rattle.table.proofs.Slots.{length-mapped}
 use Rattle.table.specs.Limits.{process-slots}
@@ -18,20 +17,7 @@ use Rattle.table.specs.declared.Process.{Process}
 use Rattle.table.specs.declared.Table.{Table}
 use Rattle.ending.proofs.Members.{processes-changed}
 use Rattle.ending.specs.Ending.{once-swept, swept}
-use Rattle.ending.specs.Holding.{mark-at, with-marks}
-
--- an empty slot has none
-pub no-marks : (p : Process) (marks : List Bool) (r : Bool) → r ≡ not (eqb (pid-at p 0) 0) → not r ≡ true → marks ≡ with-marks p marks
-unfolding with-marks
-no-marks p marks r t s =
-    sym (pick-no (not (eqb (pid-at p 0) 0)) (set (set marks (p .own .0) true) (p .children .0) true) marks (sym t ∙ not-true r s))
-
--- a and b are the results for the two marks
-pub both-marks : (p : Process) (marks a b : List Bool) (r : Bool) → r ≡ not (eqb (pid-at p 0) 0) → not r ≡ false → a ≡ set marks (p .own .0) true → b ≡ set a (p .children .0) true → b ≡ with-marks p marks
-unfolding with-marks
-both-marks p marks a b r t s e f =
-    f ∙ ap (λ l. set l (p .children .0) true) e
-    ∙ sym (pick-yes (not (eqb (pid-at p 0) 0)) (set (set marks (p .own .0) true) (p .children .0) true) marks (sym t ∙ not-false r s))
+use Rattle.ending.specs.Holding.{mark-at}
 
 -- nobody is seen past the last slot
 pub unseen-past : (t : Table) (n i : ℕ) → length (t .processes) ≡ process-slots → process-slots ≤ i → seen (view t) n i ≡ false

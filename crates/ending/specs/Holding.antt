@@ -1,31 +1,26 @@
 -- Which namespaces are held, as marks, and which are kept for them.
 use Prim.Native.Nat.{ℕ}
-use mathlib.Core.Bool.{Bool, true, false, not}
+use mathlib.Core.Bool.{Bool, false}
 use mathlib.Core.List.{List}
 use lib.Dec.{eqb}
-use lib.ListN.{getD, set, replicate}
+use lib.ListN.{getD, replicate}
 use Rattle.table.proofs.FoldLoops.{turns}
 use Rattle.table.specs.Fresh.{empty-namespace}
 use Rattle.table.specs.Limits.{namespace-slots, process-slots}
-use Rattle.table.specs.Slots.{process, pid-at}
+use Rattle.table.specs.Slots.{process}
 use Rattle.rules.specs.Read.{climb}
 use Rattle.table.specs.Tests.{_and_, _or_, if_then_else_, any}
 use Rattle.table.specs.declared.Namespace.{Namespace}
-use Rattle.table.specs.declared.Process.{Process}
 use Rattle.table.specs.declared.Table.{Table}
+use Rattle.tree.specs.Tree.{mark-process}
 
 -- a mark, and none past the last
 abbrev pub mark-at : List Bool → ℕ → Bool
 mark-at marks n = getD marks n false
 
--- marks with those of one process: its own namespace, and the one for its children
-unfoldable pub with-marks : Process → List Bool → List Bool
-with-marks p marks =
-    if not (eqb (pid-at p 0) 0) then set (set marks (p .own .0) true) (p .children .0) true else marks
-
--- those of all processes
+-- the marks of all processes
 unfoldable pub marks-of : Table → List Bool
-marks-of t = turns process-slots (λ i marks. with-marks (process t i) marks) (replicate namespace-slots false)
+marks-of t = turns process-slots (λ i marks. mark-process marks (process t i)) (replicate namespace-slots false)
 
 -- m is marked and lies in the subtree of n
 unfoldable pub keeps : (ℕ → ℕ) → (ℕ → ℕ) → (ℕ → Bool) → ℕ → ℕ → Bool

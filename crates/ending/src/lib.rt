@@ -18,7 +18,7 @@ use table::empty_process;
 use tree::below;
 use tree::is_blank_namespace;
 use tree::levels;
-use tree::mark;
+use tree::mark_process;
 use tree::seen;
 use tree::ups;
 ghost use mathlib.Core.Path.{_≡_};
@@ -31,7 +31,7 @@ ghost use Rattle.table.specs.Records.{as-ended};
 ghost use Rattle.rules.specs.Read.{view, seen as seen-in};
 ghost use Rattle.tree.specs.Tree.{slot-in, level-in};
 ghost use Rattle.ending.specs.Ending.{killed as killed-by-9, dies-with, once-dead, marked-dead, falls-with, end-member, end-namespace, once-swept, swept, end-init, once-handed, handed-over, Ends};
-ghost use Rattle.ending.specs.Holding.{mark-at, with-marks, marks-of, kept-for, once-freed};
+ghost use Rattle.ending.specs.Holding.{mark-at, marks-of, kept-for, once-freed};
 
 // ---- one record
 
@@ -303,18 +303,6 @@ pub fn end_process(t: Table, slot: ProcSlot, how: End) -> Table
 
 // ---- freeing
 
-// Marks with those of one process: its own namespace, and the one for its children.
-fn with_marks(p: Process, marks: [bool; NAMESPACE_SLOTS]) -> [bool; NAMESPACE_SLOTS]
-    ensures { λ r. ⌜ r ≡ with-marks p marks ⌝ }
-{
-    if !p.is_taken() {
-        return marks;
-    }
-    let own = p.own;
-    let children = p.children;
-    mark(mark(marks, own), children)
-}
-
 // The namespaces that some process has as its own or for its children.
 fn held(t: Table) -> [bool; NAMESPACE_SLOTS]
     ensures { λ r. ⌜ r ≡ marks-of t ⌝ }
@@ -323,7 +311,7 @@ fn held(t: Table) -> [bool; NAMESPACE_SLOTS]
     let mut i: usize = 0;
     while i < PROCESS_SLOTS {
         let p = t.processes[i];
-        let more = with_marks(p, marks);
+        let more = mark_process(marks, p);
         marks = more;
         i += 1;
     }

@@ -14,15 +14,15 @@ use Rattle.table.specs.Limits.{process-slots, namespace-slots}
 use Rattle.table.specs.Slots.{no-namespace}
 use Rattle.rules.specs.Read.{View, view, taken, namespace-taken, children}
 use Rattle.rules.specs.Sound.{held}
-use Rattle.table.specs.Tests.{_and_, _or_, any}
+use Rattle.table.specs.Tests.{_and_, _or_, if_then_else_, any}
 use Rattle.table.specs.declared.Namespace.{Namespace}
 use Rattle.table.specs.declared.Table.{Table}
-use Rattle.sound.specs.Quick.{mark-process, mark-namespace, process-at, namespace-row, held-by-processes, held-by-children}
+use Rattle.sound.specs.Quick.{mark-namespace, namespace-row, held-by-processes, held-by-children}
 use Rattle.rules.proofs.Laws.OneHold.{holds-one}
 
 -- the turn of the process at i, and of the namespace at i
 abbrev pub process-turn : View → ℕ → List Bool → List Bool
-process-turn v i m = mark-process m (process-at v i)
+process-turn v i m = if taken v i then set (set m (v .own i) true) (children v i) true else m
 
 abbrev pub namespace-turn : List Namespace → ℕ → List Bool → List Bool
 namespace-turn s i m = mark-namespace m i (namespace-row i (getD s i no-namespace))
@@ -66,8 +66,3 @@ children-marked s =
 pub marks-all : (t : Table) (n : ℕ) → held-by-processes (view t) n or held-by-children (t .namespaces) n ≡ held (view t) n
 unfolding held held-by-processes held-by-children namespace-taken
 marks-all t n = refl
-
--- ---- the code's marks of one process
-
-pub two-marks : (m a b : List Bool) (i j : ℕ) → a ≡ set m i true → b ≡ set a j true → b ≡ set (set m i true) j true
-two-marks m a b i j p q = q ∙ ap (λ x. set x j true) p

@@ -164,9 +164,6 @@ namespaces-ok v =
 
 -- ---- which namespaces something holds, as marks
 
-abbrev pub mark-process : List Bool → ProcessRow → List Bool
-mark-process m p = if p .taken then set (set m (p .own) true) (p .children) true else m
-
 abbrev pub mark-namespace : List Bool → ℕ → NamespaceRow → List Bool
 mark-namespace m n s = if not (eqb n 0) and s .taken then set m (s .up) true else m
 

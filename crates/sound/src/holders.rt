@@ -8,25 +8,14 @@ use table::Table;
 use table::empty_namespace;
 use tree::holds_namespace;
 use tree::mark;
+use tree::mark_process;
 ghost use mathlib.Core.Path.{_≡_};
 ghost use Rattle.table.proofs.MarkLoops.{Marks};
 ghost use Rattle.table.specs.Limits.{namespace-slots};
 ghost use Rattle.rules.specs.Read.{view};
-ghost use Rattle.sound.specs.Quick.{process-row, namespace-row, mark-process, mark-namespace, held-by-processes, held-by-children, key-in, unborn-key, unborn-keys};
+ghost use Rattle.sound.specs.Quick.{process-row, namespace-row, mark-namespace, held-by-processes, held-by-children, key-in, unborn-key, unborn-keys};
 
 // ---- which namespaces something holds
-
-// A process, ended or not, holds its own namespace and that for its children.
-fn mark_process(marks: [bool; NAMESPACE_SLOTS], p: Process) -> [bool; NAMESPACE_SLOTS]
-    ensures { λ r. ⌜ r ≡ mark-process marks (process-row p) ⌝ }
-{
-    if !p.is_taken() {
-        return marks;
-    }
-    let own = p.own;
-    let children = p.children;
-    mark(mark(marks, own), children)
-}
 
 // A namespace but the root holds its parent.
 fn mark_namespace(

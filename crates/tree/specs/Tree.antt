@@ -1,10 +1,10 @@
 -- The definitions of `rules` read a view, that is a table by its slots. The code takes a table's parents and levels out
 -- once, as small arrays, and one process at a time: these say the same of such arrays and of a process.
 use Prim.Native.Nat.{ℕ}
-use mathlib.Core.Bool.{Bool, not}
+use mathlib.Core.Bool.{Bool, true, not}
 use mathlib.Core.List.{List}
 use lib.Dec.{eqb}
-use lib.ListN.{getD}
+use lib.ListN.{getD, set}
 use Rattle.table.specs.Slots.{no-namespace, pid-at, is-unborn}
 use Rattle.rules.specs.Read.{climb}
 use Rattle.table.specs.Tests.{_and_, _or_, if_then_else_}
@@ -47,3 +47,7 @@ holds-namespace n s = eqb n 0 or not (eqb (s .level) 0)
 -- nothing stands at a namespace slot with the record s: all zero, and unborn
 unfoldable pub is-blank-namespace : Namespace → Bool
 is-blank-namespace s = eqb (s .parent .0) 0 and eqb (s .level) 0 and eqb (s .last .0) 0 and is-unborn (s .life)
+
+-- marks of namespaces with those of one process, if it is there: its own, and the one for its children
+abbrev pub mark-process : List Bool → Process → List Bool
+mark-process m p = if not (eqb (pid-at p 0) 0) then set (set m (p .own .0) true) (p .children .0) true else m

@@ -14,7 +14,7 @@ ghost use mathlib.Core.Path.{_≡_};
 ghost use lib.ListN.{set};
 ghost use Rattle.rules.specs.Read.{view, climb, find as find-in};
 ghost use Rattle.rules.specs.Pids.{free-slot, free-namespace-slot};
-ghost use Rattle.tree.specs.Tree.{ups-of, levels-of, slot-in, level-in, seen-from, pid-from, named-from, holds-namespace, is-blank-namespace};
+ghost use Rattle.tree.specs.Tree.{ups-of, levels-of, slot-in, level-in, seen-from, pid-from, named-from, holds-namespace, is-blank-namespace, mark-process};
 
 // ---- no slot
 
@@ -232,4 +232,14 @@ pub fn mark(mut marks: [bool; NAMESPACE_SLOTS], n: NsSlot) -> [bool; NAMESPACE_S
         marks[slot] = true;
     }
     marks
+}
+
+// The marks with those of a process: ended or not, it holds its own namespace and that for its children.
+pub fn mark_process(marks: [bool; NAMESPACE_SLOTS], p: Process) -> [bool; NAMESPACE_SLOTS]
+    ensures { λ r. ⌜ r ≡ mark-process marks p ⌝ }
+{
+    if !p.is_taken() {
+        return marks;
+    }
+    mark(mark(marks, p.own), p.children)
 }

@@ -4,13 +4,14 @@ use borrow.Author.Needs.{needs}
 use Rattle.table.proofs.FoldLoops.{Turned, fold-loops}
 use Rattle.table.specs.Limits.{process-slots}
 use Rattle.table.specs.Slots.{process}
-use Rattle.ending.specs.Holding.{with-marks, marks-of}
+use Rattle.tree.specs.Tree.{mark-process}
+use Rattle.ending.specs.Holding.{marks-of}
 use Rattle.ending.proofs.held.Statement.{statement}
 use Rattle.ending.proofs.held.Tie as tie
 
 abbrev Inv-loop : tie.InvT-loop
 Inv-loop t marks₀ i₀ marks i =
-    Turned process-slots (λ k m. with-marks (process t k) m) marks₀ marks i
+    Turned process-slots (λ k m. mark-process m (process t k)) marks₀ marks i
 
 abbrev μ-loop : tie.MeasureT-loop
 μ-loop t marks₀ i₀ marks i = process-slots - i
@@ -24,8 +25,8 @@ mul-p c = search needs
 element-copy-out-p : tie.Need-element-copy-out-p Inv-loop μ-loop
 element-copy-out-p c = search needs
 
-with-marks-requires : tie.Need-with-marks-requires Inv-loop μ-loop
-with-marks-requires c κs = search needs
+mark-process-requires : tie.Need-mark-process-requires Inv-loop μ-loop
+mark-process-requires c κs = search needs
 
 add-i : tie.Need-add-i Inv-loop μ-loop
 add-i c = search needs
@@ -49,7 +50,7 @@ held-spec =
     loop-holds
     mul-p
     element-copy-out-p
-    with-marks-requires
+    mark-process-requires
     add-i
     loop-less
     loop-again

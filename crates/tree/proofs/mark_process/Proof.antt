@@ -1,15 +1,15 @@
 -- A process that is there makes two marks.
 use Rattle.table.proofs.Chains.{chains}
-use Rattle.sound.proofs.Marks.{two-marks}
+use Rattle.tree.proofs.Marks.{two-marks}
 use borrow.Author.Needs.{needs}
-use Rattle.sound.proofs.holders.mark_process.Statement.{statement}
-use Rattle.sound.proofs.holders.mark_process.Tie as tie
+use Rattle.tree.proofs.mark_process.Statement.{statement}
+use Rattle.tree.proofs.mark_process.Tie as tie
 
 is-taken-requires : tie.Need-is-taken-requires
 is-taken-requires c κs = search needs
 
 returns : tie.Need-returns
-returns c = search (chains, two-marks)
+returns c = search chains
 
 mark-requires : tie.Need-mark-requires
 mark-requires c κs = search needs
