@@ -1,10 +1,15 @@
 // A script from a descriptor, chunk by chunk, and its answers to standard output.
 use crate::faults::may_retry;
 use crate::faults::write_out;
+use script::ANSWER_BYTES;
 use session::Session;
 use session::feed;
 use session::finish;
 use session::start;
+
+// So many bytes are read at once. They end at most as many lines, and the kit's large buffer has room for that many
+// answers of ANSWER_BYTES.
+const CHUNK: usize = 2048;
 
 // A session after a chunk: whether reading goes on, and whether the input came to its end, so that an open line is whole.
 struct Progress {
@@ -13,10 +18,9 @@ struct Progress {
     ended: bool,
 }
 
-// Reads a chunk, runs the lines that end in it, and writes what they give. A chunk of 2,048 bytes ends at most as many
-// lines, and an answer has at most 32 bytes.
+// Reads a chunk, runs the lines that end in it, and writes what they give.
 fn read_some(fd: i32, source: &[u8], s: Session) -> Progress {
-    let mut chunk = [0u8; 2048];
+    let mut chunk = [0u8; CHUNK];
     let mut out = io::large_buffer();
     let got = libc::read(fd, &mut chunk);
     if got < 0 {
@@ -66,7 +70,7 @@ pub fn run(fd: i32, source: &[u8]) {
         return;
     }
     let s = read.session;
-    let mut out = [0u8; 32];
+    let mut out = [0u8; ANSWER_BYTES];
     let used = finish(s, &mut out);
     write_out(&out[..used]);
 }
