@@ -20,7 +20,7 @@ use Rattle.table.proofs.Process as P
 use Rattle.table.proofs.Slots.{length-mapped}
 use Rattle.table.proofs.Table as T
 use Rattle.table.proofs.Traits as X
-use Rattle.table.specs.Limits.{process-slots, namespace-slots, levels, signals}
+use Rattle.table.specs.Limits.{process-slots, namespace-slots, levels, pid-values, signals}
 use Rattle.table.specs.Slots.{no-pid, no-process, process, pid-at}
 use Rattle.rules.specs.Read.{view}
 use Rattle.rules.specs.Sound.{SoundTable, shaped, sound}
@@ -39,10 +39,6 @@ each-gives into f Q g d (x ∷ xs) (u ∷ us) s zero q = g x u (s .0)
 each-gives into f Q g d (x ∷ xs) (u ∷ us) s (suc i) q = each-gives into f Q g d xs us (s .1) i (λ h. q (omega arith))
 
 -- ---- a process
-
--- how many numbers 16 bits hold
-abbrev pub pid-values : ℕ
-pid-values = 65536
 
 abbrev Fit : Process → Type 0
 Fit p = (l : ℕ) → pid-at p l < pid-values

@@ -14,14 +14,14 @@ use mir.Syntax.{w32}
 use mir.Val.{Val, SFits, toZ, ofZ}
 use mir.ValLaws.{toZ-ofZ}
 use Rattle.arguments.proofs.Named.{named-one, named-none}
-use Rattle.callers.proofs.Fits.{pid-values, pid-fits}
+use Rattle.callers.proofs.Fits.{pid-fits}
 use Rattle.rules.proofs.Laws.Find.{lowest-is}
 use Rattle.rules.proofs.Laws.Tests.{right}
 use Rattle.rules.proofs.Laws.ReadAt.{read-at}
 use Rattle.table.proofs.Table as T
 use Rattle.rules.specs.Calls.{natural, named}
 use Rattle.table.specs.Fresh.{empty-process}
-use Rattle.table.specs.Limits.{process-slots}
+use Rattle.table.specs.Limits.{process-slots, pid-values}
 use Rattle.rules.specs.Read.{view, seen, pid-seen, find}
 use Rattle.table.specs.Tests.{_and_}
 use Rattle.table.specs.declared.Process.{Process}

@@ -5,7 +5,7 @@ use mathlib.Core.List.{List, [], _∷_}
 use lib.Dec.{eqb}
 use lib.ListN.{getD, replicate}
 use Rattle.table.specs.Fresh.{empty-process, empty-namespace}
-use Rattle.table.specs.Limits.{process-slots, namespace-slots, levels}
+use Rattle.table.specs.Limits.{process-slots, namespace-slots, levels, pid-values}
 use Rattle.table.specs.Slots.{no-pid}
 use Rattle.table.specs.Tests.{if_then_else_, changed-to}
 use Rattle.table.specs.declared.End.the-variants.{Exited, Signaled}
@@ -39,7 +39,7 @@ unfoldable pub byte-at : List ℕ → ℕ → ℕ
 byte-at ws k = getD ws k 0 % 256
 
 unfoldable pub pid-at-word : List ℕ → ℕ → Pid
-pid-at-word ws k = record { 0 = getD ws k 0 % 65536 }
+pid-at-word ws k = record { 0 = getD ws k 0 % pid-values }
 
 -- 0 is running, 1 stopped, 2 ended with a number, any other ended by a signal
 unfoldable pub state-from : ℕ → ℕ → State

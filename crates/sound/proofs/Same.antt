@@ -14,7 +14,7 @@ use Rattle.rules.proofs.Laws.Facts.{Facts, Held, Holder, root, member, for-chil
 use Rattle.rules.proofs.Laws.Tests.{tests, and-iff, not-iff, left, right, both, cases, all-intro, all-elim}
 use Rattle.rules.proofs.Laws.Reach.{reach-zero, reach-step}
 use Rattle.rules.proofs.Laws.Tree.{Stepwise, below-refl, climb-cases}
-use Rattle.table.specs.Limits.{process-slots, namespace-slots, levels, deepest, greatest-pid, no-slot}
+use Rattle.table.specs.Limits.{process-slots, namespace-slots, levels, deepest, greatest-pid, pid-values, no-slot}
 use Rattle.table.specs.Slots.{is-alive, is-unborn}
 use Rattle.rules.specs.Read.{View, taken, namespace-taken, alive, dead, unborn, init, below, climb, above-at, up-by, pid-seen, children}
 use Rattle.rules.specs.Sound.{sound-view, zero-process, zero-namespace, reaches-root, kept-end, held}
@@ -24,7 +24,7 @@ use Rattle.table.specs.declared.Life.{Life}
 use Rattle.table.specs.declared.Life.the-variants.{Unborn, Alive, Dead}
 use Rattle.table.specs.Traits.{traits-ok, bare-traits, ended-traits}
 use Rattle.sound.specs.Quick as Q
-use Rattle.sound.specs.Quick.{pid-values, quick, process-at, namespace-at, top, pid-keys, unborn-keys}
+use Rattle.sound.specs.Quick.{quick, process-at, namespace-at, top, pid-keys, unborn-keys}
 use Rattle.rules.proofs.Laws.OneHold.{zero-one, only-children}
 use Rattle.rules.proofs.Laws.Holds.{each-index}
 use Rattle.tree.specs.Tree.{is-blank-namespace}

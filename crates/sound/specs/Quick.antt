@@ -6,7 +6,7 @@ use mathlib.Core.Bool.{Bool, true, not}
 use mathlib.Core.List.{List}
 use lib.Dec.{eqb, leb, ltb}
 use lib.ListN.{getD, set}
-use Rattle.table.specs.Limits.{process-slots, namespace-slots, levels, deepest, greatest-pid, no-slot}
+use Rattle.table.specs.Limits.{process-slots, namespace-slots, levels, deepest, greatest-pid, pid-values, no-slot}
 use Rattle.table.specs.Slots.{no-namespace, pid-at, is-running, is-ended, is-unborn, is-alive, is-dead, init-of}
 use Rattle.rules.specs.Read.{View, taken, namespace-taken, climb, children}
 use Rattle.rules.specs.Sound.{root-process, root-namespace, reaches-root, kept-end, holds, held}
@@ -208,10 +208,6 @@ raised up level l top n = if ltb l (level n) then up (top n) else top n
 unfoldable pub top : (ℕ → ℕ) → (ℕ → ℕ) → ℕ → ℕ → ℕ
 top up level zero = itself
 top up level (suc k) = raised up level (deepest - k) (top up level k)
-
--- as many as a number's 16 bits hold
-abbrev pub pid-values : ℕ
-pid-values = 65536
 
 -- the namespace at a level and the number there as one key
 unfoldable pub pid-key : (ℕ → ℕ) → ℕ → ProcessRow → ℕ

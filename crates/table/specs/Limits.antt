@@ -22,6 +22,10 @@ greatest-pid = 32767
 abbrev pub restart-pid : ℕ
 restart-pid = 300
 
+-- How many numbers 16 bits hold, as a process number has them.
+abbrev pub pid-values : ℕ
+pid-values = 65536
+
 -- A field that holds a slot holds this one for "none".
 abbrev pub no-slot : ℕ
 no-slot = 255

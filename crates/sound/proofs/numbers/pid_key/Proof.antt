@@ -2,7 +2,8 @@
 use Prim.Native.Nat.{_+_, _*_}
 use mathlib.Core.Path.{refl, ap₂}
 use Rattle.table.proofs.Chains.{if-yes, if-no, told-equal, told-other}
-use Rattle.sound.specs.Quick.{pid-values, pid-key}
+use Rattle.sound.specs.Quick.{pid-key}
+use Rattle.table.specs.Limits.{pid-values}
 use borrow.Author.Needs.{needs}
 use Rattle.sound.proofs.numbers.pid_key.Statement.{statement}
 use Rattle.sound.proofs.numbers.pid_key.Tie as tie
