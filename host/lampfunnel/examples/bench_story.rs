@@ -13,7 +13,10 @@ const STORY: [(&str, &str); 15] = [
     ("4 clone", "a helper of the display, at slot 5, has number 2 there"),
     ("5 exit 0", "it ends"),
     ("4 wait", "and is removed: in that namespace number 2 is nobody's now"),
-    ("4 kill 2 9", "the display signals the old number, which is also the converter's in the other namespace: it finds nobody"),
+    (
+        "4 kill 2 9",
+        "the display signals the old number, which is also the converter's in the other namespace: it finds nobody",
+    ),
     ("4 kill -1 9", "nor does it find anyone by signalling all that it sees"),
     ("2 getpid", "the converter lives"),
     ("3 getpid", "and so does the judge"),

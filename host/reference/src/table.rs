@@ -34,15 +34,8 @@ pub struct Process {
 }
 
 impl Process {
-    pub const EMPTY: Process = Process {
-        own: 0,
-        children: 0,
-        parent: 0,
-        state: State::Running,
-        handled: 0,
-        pending: 0,
-        pids: [0; LEVELS],
-    };
+    pub const EMPTY: Process =
+        Process { own: 0, children: 0, parent: 0, state: State::Running, handled: 0, pending: 0, pids: [0; LEVELS] };
 
     pub fn is_taken(&self) -> bool {
         self.pids[0] != 0

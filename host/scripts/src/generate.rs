@@ -233,5 +233,6 @@ pub fn bytes(seed: u64, lines: usize) -> Vec<u8> {
 pub fn arbitrary(seed: u64, length: usize) -> Vec<u8> {
     let mut random = Random::from_seed(seed);
     let of_scripts = b"0012 \n\n-cloneexitpollwait";
-    (0..length).map(|_| if seed % 2 == 0 { random.below(256) as u8 } else { random.pick(of_scripts) }).collect()
+    let all = seed.is_multiple_of(2);
+    (0..length).map(|_| if all { random.below(256) as u8 } else { random.pick(of_scripts) }).collect()
 }
