@@ -2,7 +2,7 @@
 //! the caller sees.
 
 use crate::random::Random;
-use reference::script::run_line;
+use crate::writer::Writer;
 use reference::table::{State, Table, DEEPEST};
 
 /// What a kind of script is made of: how often each call is drawn, and how full the table is kept.
@@ -67,19 +67,16 @@ const BAD_LINES: [&str; 32] = [
 
 /// A script of a kind from the fresh table.
 pub fn script(kind: &Kind, seed: u64, lines: usize) -> Vec<u8> {
-    let mut random = Random::from_seed(seed);
-    let mut table = Table::fresh();
-    let mut script = Vec::new();
+    let mut writer = Writer::from_seed(seed);
     for k in 0..lines {
         let in_chain = kind.deep && k < DEEPEST as usize;
-        let good = if in_chain { format!("{k} clone new") } else { good_line(kind, &table, &mut random) };
+        let random = &mut writer.random;
+        let good = if in_chain { format!("{k} clone new") } else { good_line(kind, &writer.table, random) };
         let bad = kind.bad != 0 && random.one_in(kind.bad);
-        let line = if bad { bad_line(&good, &mut random) } else { good };
-        run_line(&mut table, line.as_bytes());
-        script.extend_from_slice(line.as_bytes());
-        script.push(b'\n');
+        let line = if bad { bad_line(&good, random) } else { good };
+        writer.line(&line);
     }
-    script
+    writer.script()
 }
 
 /// A line that is no call, or one by a caller that may not call; now and then it is a good one after all.
@@ -184,26 +181,6 @@ fn a_reaper(t: &Table, random: &mut Random) -> Option<u8> {
     (!parents.is_empty() && !random.one_in(4)).then(|| random.pick(&parents))
 }
 
-/// The numbers of all namespaces from the root to a level go round together: births, ends and waits in the deepest of
-/// them until 32,767 is passed. Some children whose numbers are near 300 stay, so that the search finds those taken.
-pub fn round(level: usize, seed: u64) -> Vec<u8> {
-    let mut random = Random::from_seed(seed);
-    let mut script: String = (0..level).map(|caller| format!("{caller} clone new\n")).collect();
-    let mut slot = level + 1;
-    for turn in 0..33_000 {
-        script += &format!("{level} clone\n");
-        if (290..320).contains(&turn) && random.one_in(2) {
-            slot += 1;
-            continue;
-        }
-        script += &format!("{slot} exit {turn}\n{level} wait\n");
-        if random.one_in(500) {
-            script += &format!("{level} kill {} 0\n{} getppid\n", random.between(295, 325), slot - 1);
-        }
-    }
-    script.into_bytes()
-}
-
 /// Good lines with bytes changed, put in, taken out, and line feeds in odd places; the last one may be missing.
 pub fn bytes(seed: u64, lines: usize) -> Vec<u8> {
     let mut random = Random::from_seed(seed);
@@ -230,9 +207,8 @@ pub fn bytes(seed: u64, lines: usize) -> Vec<u8> {
 }
 
 /// Any bytes: all 256, or those of scripts alone, which make good lines now and then.
-pub fn arbitrary(seed: u64, length: usize) -> Vec<u8> {
+pub fn arbitrary(all: bool, seed: u64, length: usize) -> Vec<u8> {
     let mut random = Random::from_seed(seed);
     let of_scripts = b"0012 \n\n-cloneexitpollwait";
-    let all = seed.is_multiple_of(2);
     (0..length).map(|_| if all { random.below(256) as u8 } else { random.pick(of_scripts) }).collect()
 }

@@ -1,5 +1,7 @@
-//! Scripts for the comparison and the benchmark. Each is made from a seed, so it is the same in every run.
+//! Scripts for the comparison and the benchmark. Each is made from a seed: the same seed gives the same script.
 
 pub mod generate;
 pub mod kept;
 pub mod random;
+pub mod rounds;
+mod writer;
