@@ -1,6 +1,6 @@
 //! compare tables [--seed N]: holds the proved check of a table against the reference on damaged tables.
-//! compare scripts RECORDER [--seed N]: plays scripts of many kinds to a recorder, to the proved library and to the
-//! reference.
+//! compare scripts RECORDER [--seed N] [--kind KIND]: plays scripts of many kinds, or of one, to a recorder, to the
+//! proved library and to the reference.
 //! compare fresh RECORDER [--rounds N]: both, with a seed from the clock in each round.
 //!
 //! All that a run plays follows from its seed. Without one it is the same in every run. Each stops at the first
@@ -13,29 +13,34 @@ mod playing;
 mod recorder;
 mod tables;
 
+use std::num::NonZeroU32;
 use std::path::Path;
 use std::process::exit;
 use std::time::{SystemTime, UNIX_EPOCH};
 
 const USAGE: &str = "usage: compare tables [--seed N]
-       compare scripts RECORDER [--seed N]
+       compare scripts RECORDER [--seed N] [--kind KIND]
        compare fresh RECORDER [--rounds N]";
-
-/// The seed of a run that is given none.
-const FIXED: u64 = 0;
 
 enum Command<'a> {
     Tables(u64),
-    Scripts(&'a str, u64),
+    Scripts(&'a str, Options<'a>),
     Fresh(&'a str, u32),
+}
+
+/// The seed that all of a run follows from, and the one kind of script to play, if not all.
+#[derive(Default)]
+struct Options<'a> {
+    seed: u64,
+    kind: Option<&'a str>,
 }
 
 fn main() {
     let arguments: Vec<String> = std::env::args().skip(1).collect();
     let words: Vec<&str> = arguments.iter().map(String::as_str).collect();
     let outcome = match command(&words) {
-        Some(Command::Tables(seed)) => tables(seed),
-        Some(Command::Scripts(recorder, seed)) => scripts(recorder, seed),
+        Some(Command::Tables(seed)) => tables::hold(seed),
+        Some(Command::Scripts(recorder, options)) => playing::hold(recorder, options),
         Some(Command::Fresh(recorder, rounds)) => (0..rounds).try_for_each(|_| fresh(recorder)),
         None => stop_for("bad usage"),
     };
@@ -47,14 +52,35 @@ fn main() {
 
 fn command<'a>(words: &[&'a str]) -> Option<Command<'a>> {
     match *words {
-        ["tables"] => Some(Command::Tables(FIXED)),
+        ["tables"] => Some(Command::Tables(0)),
         ["tables", "--seed", seed] => Some(Command::Tables(seed.parse().ok()?)),
-        ["scripts", recorder] => Some(Command::Scripts(program(recorder), FIXED)),
-        ["scripts", recorder, "--seed", seed] => Some(Command::Scripts(program(recorder), seed.parse().ok()?)),
+        ["scripts", recorder, ref rest @ ..] => Some(Command::Scripts(program(recorder), options(rest)?)),
         ["fresh", recorder] => Some(Command::Fresh(program(recorder), 1)),
-        ["fresh", recorder, "--rounds", rounds] => Some(Command::Fresh(program(recorder), rounds.parse().ok()?)),
+        ["fresh", recorder, "--rounds", rounds] => {
+            Some(Command::Fresh(program(recorder), rounds.parse::<NonZeroU32>().ok()?.get()))
+        }
         _ => None,
     }
+}
+
+fn options<'a>(words: &[&'a str]) -> Option<Options<'a>> {
+    let mut options = Options::default();
+    for pair in words.chunks(2) {
+        match *pair {
+            ["--seed", seed] => options.seed = seed.parse().ok()?,
+            ["--kind", name] => options.kind = Some(kind(name)),
+            _ => return None,
+        }
+    }
+    Some(options)
+}
+
+fn kind(name: &str) -> &str {
+    let names = playing::names();
+    if !names.contains(&name) {
+        stop_for(&format!("there is no kind '{name}' but: {}", names.join("; ")));
+    }
+    name
 }
 
 fn program(path: &str) -> &str {
@@ -69,28 +95,11 @@ fn stop_for(what: &str) -> ! {
     exit(2)
 }
 
-fn tables(seed: u64) -> Result<(), String> {
-    tables::hold(seed).map_err(|difference| played(&difference, "tables", seed))
-}
-
-fn scripts(recorder: &str, seed: u64) -> Result<(), String> {
-    playing::hold(recorder, seed).map_err(|difference| played(&difference, &format!("scripts {recorder}"), seed))
-}
-
 /// Both, with a seed that no run had.
 fn fresh(recorder: &str) -> Result<(), String> {
     let now = SystemTime::now().duration_since(UNIX_EPOCH).expect("the clock is set");
     let seed = now.as_nanos() as u64;
     println!("compare: seed {seed}");
-    tables(seed)?;
-    scripts(recorder, seed)
-}
-
-/// A difference, and the command that plays it again.
-fn played(difference: &str, words: &str, seed: u64) -> String {
-    let compare = std::env::args().next().unwrap_or("compare".into());
-    format!(
-        "{}\nthe seed of this run is {seed}; to play it again: {compare} {words} --seed {seed}",
-        difference.trim_end()
-    )
+    tables::hold(seed)?;
+    playing::hold(recorder, Options { seed, kind: None })
 }

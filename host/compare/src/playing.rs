@@ -1,8 +1,9 @@
 //! Scripts: the recorder, the proved library and the reference must give the same answers to each.
 
-use crate::difference::{by_reference, shortened, shown};
+use crate::difference::{again, by_reference, Difference};
 use crate::forms::Seen;
 use crate::recorder::{pieces, play, Answers};
+use crate::Options;
 use scripts::generate::{arbitrary, bytes, script, KINDS};
 use scripts::rounds::round;
 use std::process::Command;
@@ -36,46 +37,55 @@ fn kinds() -> Vec<Kind> {
     kinds
 }
 
-/// Plays every script to all three, and prints how many lines of each kind; or shows the first difference.
-pub fn hold(recorder: &str, base: u64) -> Result<(), String> {
+pub fn names() -> Vec<&'static str> {
+    kinds().iter().map(|kind| kind.name).collect()
+}
+
+/// Plays every script, or those of one kind, to all three, and prints how many lines of each kind; or shows the first
+/// difference.
+pub fn hold(recorder: &str, options: Options) -> Result<(), String> {
     let mut all = 0;
     let mut seen = Seen::default();
     println!("{:40} {:>7} {:>12} {:>7}", "scripts", "number", "lines", "pieces");
-    for kind in kinds() {
-        all += hold_kind(recorder, base, &kind, &mut seen)?;
+    for kind in kinds().iter().filter(|kind| options.kind.is_none_or(|name| kind.name == name)) {
+        all += hold_kind(recorder, options.seed, kind, &mut seen)?;
     }
-    seen.report()?;
+    if options.kind.is_none() {
+        let again = again(&format!("scripts {recorder} --seed {}", options.seed));
+        seen.report().map_err(|missing| format!("{missing}\n{again}"))?;
+    }
     println!("compare: {all} lines, no difference");
     Ok(())
 }
 
 /// Plays the scripts of a kind. The seed of one is the base plus its place. Gives the number of lines.
 fn hold_kind(recorder: &str, base: u64, kind: &Kind, seen: &mut Seen) -> Result<usize, String> {
+    let Kind { name, number, make } = kind;
     let (mut lines, mut fed) = (0, 0);
-    for place in 1..=kind.number {
+    for place in 1..=*number {
         let seed = base.wrapping_add(place);
-        let script = (kind.make)(seed, place);
-        let answers = hold_script(recorder, seed, &script)
-            .map_err(|difference| format!("kind '{}', script {place}, seed {seed}: {difference}", kind.name))?;
+        let script = make(seed, place);
+        let answers = hold_script(recorder, seed, &script).map_err(|difference| {
+            let again = again(&format!("scripts {recorder} --seed {base} --kind '{name}'"));
+            format!("kind '{name}', script {place}, seed {seed}: {}\n{again}", difference.trim_end())
+        })?;
         seen.count(&script, &answers);
         lines += script.split_inclusive(|&b| b == b'\n').count();
         fed += pieces(&script, seed).len();
     }
-    println!("{:40} {:>7} {lines:>12} {fed:>7}", kind.name, kind.number);
+    println!("{name:40} {number:>7} {lines:>12} {fed:>7}");
     Ok(lines)
 }
 
 /// Plays one script to all three. Gives its answers.
 fn hold_script(recorder: &str, seed: u64, script: &[u8]) -> Answers {
-    let answers = by_reference(script);
     let by_recorder = |script: &[u8]| play(&mut Command::new(recorder), &pieces(script, seed));
-    if by_recorder(script).as_ref() != Ok(&answers) {
-        let short = shortened(script, by_recorder);
-        return Err(difference("the recorder", &short, by_recorder(&short)) + &feeding(&pieces(&short, seed)));
+    let answers = by_reference(script);
+    if let Some(found) = Difference::find(script, &answers, by_recorder) {
+        return Err(found.shown("the recorder") + &feeding(&pieces(&found.script, seed)));
     }
-    if by_library(script).as_ref() != Ok(&answers) {
-        let short = shortened(script, by_library);
-        return Err(difference("the library", &short, by_library(&short)));
+    if let Some(found) = Difference::find(script, &answers, by_library) {
+        return Err(found.shown("the library"));
     }
     hold_short_buffers(script)?;
     Ok(answers)
@@ -106,19 +116,6 @@ fn hold_short_buffers(script: &[u8]) -> Result<(), String> {
         }
     }
     Ok(())
-}
-
-/// A script, and what is made of it.
-fn difference(who: &str, script: &[u8], answers: Answers) -> String {
-    let given = match answers {
-        Ok(answers) => shown(&answers),
-        Err(fault) => format!("    {fault}\n"),
-    };
-    format!(
-        "{who} and the reference differ. A script, shortened:\n{}{who}:\n{given}reference:\n{}",
-        shown(script),
-        shown(&by_reference(script))
-    )
 }
 
 /// Says how a script was fed.

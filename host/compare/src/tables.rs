@@ -1,6 +1,7 @@
 //! Damaged tables: the proved check, the reference and its quick check must agree on each.
 
 use crate::damage::{field, fields, SPECIAL};
+use crate::difference::again;
 use reference::image::{table, words, NAMESPACES_AT, NAMESPACE_WORDS, PROCESS_WORDS};
 use reference::script::run;
 use reference::table::{Table, DEEPEST, NAMESPACES};
@@ -37,8 +38,15 @@ fn bases(seed: u64) -> Vec<Table> {
     KINDS.iter().enumerate().flat_map(of_kind).collect()
 }
 
-/// Holds tables against the reference and prints how many of each kind; or says which one differs.
+/// Holds tables against the reference and prints how many of each kind; or shows the first one that differs.
 pub fn hold(seed: u64) -> Result<(), String> {
+    let counts = hold_all(seed)
+        .map_err(|difference| format!("seed {seed}: {difference}\n{}", again(&format!("tables --seed {seed}"))))?;
+    report(&counts);
+    Ok(())
+}
+
+fn hold_all(seed: u64) -> Result<Vec<Count>, String> {
     if [&[][..], &[0; lampfunnel::TABLE_WORDS + 1]].iter().any(|w| lampfunnel::is_sound(w).is_some()) {
         return Err("another count of words is not refused".into());
     }
@@ -59,8 +67,7 @@ pub fn hold(seed: u64) -> Result<(), String> {
             words(&damaged)
         })?);
     }
-    report(&counts);
-    Ok(())
+    Ok(counts)
 }
 
 /// The tables as they are: sound to all, and some of them as deep and as full of namespaces as can be.

@@ -17,18 +17,31 @@ pub struct Kind {
     bad: usize,
     /// it starts with a chain of namespaces to the deepest level, and every other caller is one of the deepest
     deep: bool,
+    /// the signals that are sent and handled (none: all, and numbers that no signal has)
+    signals: &'static [i32],
 }
 
-pub const KINDS: [Kind; 8] = [
-    Kind { name: "any calls", weights: [14, 7, 6, 8, 14, 2, 6, 12, 5, 5, 10, 6], keep: 0, bad: 20, deep: false },
-    Kind { name: "near 64 processes", weights: [30, 6, 3, 5, 8, 1, 6, 12, 3, 3, 4, 3], keep: 58, bad: 40, deep: false },
-    Kind { name: "deep", weights: [6, 24, 10, 12, 8, 1, 5, 10, 4, 6, 2, 1], keep: 40, bad: 0, deep: true },
-    Kind { name: "setns and unshare", weights: [18, 5, 22, 24, 8, 1, 6, 10, 3, 4, 1, 1], keep: 4, bad: 0, deep: false },
-    Kind { name: "kill -1", weights: [24, 8, 3, 4, 4, 14, 2, 14, 2, 2, 12, 6], keep: 0, bad: 0, deep: false },
-    Kind { name: "signals", weights: [8, 3, 1, 2, 34, 4, 2, 8, 3, 1, 22, 16], keep: 3, bad: 0, deep: false },
-    Kind { name: "orphans", weights: [26, 8, 4, 8, 6, 1, 20, 16, 2, 12, 1, 1], keep: 0, bad: 0, deep: false },
-    Kind { name: "malformed lines", weights: [14, 7, 6, 8, 14, 2, 6, 12, 5, 5, 10, 6], keep: 0, bad: 2, deep: false },
+impl Kind {
+    const fn new(name: &'static str, weights: [usize; 12], keep: usize, bad: usize) -> Kind {
+        Kind { name, weights, keep, bad, deep: false, signals: &[] }
+    }
+}
+
+pub const KINDS: [Kind; 10] = [
+    Kind::new("any calls", [14, 7, 6, 8, 14, 2, 6, 12, 5, 5, 10, 6], 0, 20),
+    Kind::new("near 64 processes", [30, 6, 3, 5, 8, 1, 6, 12, 3, 3, 4, 3], 58, 40),
+    Kind { deep: true, ..Kind::new("deep", [6, 24, 10, 12, 8, 1, 5, 10, 4, 6, 2, 1], 40, 0) },
+    Kind::new("setns and unshare", [18, 5, 22, 24, 8, 1, 6, 10, 3, 4, 1, 1], 4, 0),
+    Kind::new("kill -1", [24, 8, 3, 4, 4, 14, 2, 14, 2, 2, 12, 6], 0, 0),
+    Kind::new("signals", [8, 3, 1, 2, 34, 4, 2, 8, 3, 1, 22, 16], 3, 0),
+    Kind::new("orphans", [26, 8, 4, 8, 6, 1, 20, 16, 2, 12, 1, 1], 0, 0),
+    Kind::new("malformed lines", [14, 7, 6, 8, 14, 2, 6, 12, 5, 5, 10, 6], 0, 2),
+    Kind { deep: true, ..Kind::new("deep, near 64 processes", [40, 8, 8, 3, 2, 1, 2, 6, 2, 2, 2, 1], 62, 0) },
+    Kind { signals: &STOPS, ..Kind::new("stops", [8, 4, 1, 2, 34, 4, 2, 6, 6, 1, 18, 14], 6, 0) },
 ];
+
+/// Signals that stop and resume, and two that do not.
+const STOPS: [i32; 10] = [10, 17, 18, 18, 18, 18, 19, 20, 21, 22];
 
 const BAD_LINES: [&str; 32] = [
     "",
@@ -104,14 +117,19 @@ fn spoilt(good: &str, random: &mut Random) -> String {
     }
 }
 
-/// A running process; of a deep kind every other time one of the deepest.
-fn a_caller(kind: &Kind, t: &Table, random: &mut Random) -> Option<u8> {
+/// A running process, of a deep kind every other time one of the deepest; and one time in 20 any, stopped or ended too.
+fn a_caller(kind: &Kind, t: &Table, random: &mut Random) -> u8 {
+    let all: Vec<u8> = t.each_process().map(|(i, _)| i).collect();
     let running: Vec<u8> = t.each_process().filter(|(_, p)| p.state == State::Running).map(|(i, _)| i).collect();
+    if running.is_empty() || random.one_in(20) {
+        return random.pick(&all);
+    }
     let level = |&i: &u8| t.namespaces[t.processes[i as usize].own as usize].level;
     if kind.deep && random.one_in(2) {
-        return running.into_iter().max_by_key(level);
+        running.into_iter().max_by_key(level).expect("there is one")
+    } else {
+        random.pick(&running)
     }
-    (!running.is_empty()).then(|| random.pick(&running))
 }
 
 /// A place, each as often as its weight says.
@@ -126,7 +144,7 @@ fn drawn(weights: &[usize], random: &mut Random) -> usize {
 }
 
 fn good_line(kind: &Kind, t: &Table, random: &mut Random) -> String {
-    let Some(mut caller) = a_caller(kind, t, random) else { return format!("{} getpid", random.below(64)) };
+    let mut caller = a_caller(kind, t, random);
     let few = t.each_process().count() < kind.keep;
     let call = drawn(&kind.weights, random);
     match call {
@@ -134,8 +152,11 @@ fn good_line(kind: &Kind, t: &Table, random: &mut Random) -> String {
         1 => format!("{caller} clone new"),
         2 => format!("{caller} unshare"),
         3 => format!("{caller} setns {}", number_seen(t, caller, random)),
-        4 => format!("{caller} kill {} {}", number_seen(t, caller, random), signal(few, random)),
-        5 => format!("{caller} kill -1 {}", signal(few || random.below(3) != 0, random)),
+        4 => format!("{caller} kill {} {}", number_seen(t, caller, random), signal(kind, few, random)),
+        5 => {
+            let gentle = few || random.below(3) != 0;
+            format!("{caller} kill -1 {}", signal(kind, gentle, random))
+        }
         6 if few => format!("{caller} clone"),
         6 => format!("{caller} exit {}", random.pick(&[0, 1, 7, 255, 256, -1, -256, 2147483647, -2147483648])),
         7 => {
@@ -146,7 +167,7 @@ fn good_line(kind: &Kind, t: &Table, random: &mut Random) -> String {
         }
         8 => format!("{caller} getpid"),
         9 => format!("{caller} getppid"),
-        10 => format!("{caller} handle {} {}", random.between(-1, 33), random.below(4).min(1)),
+        10 => format!("{caller} handle {} {}", signal(kind, false, random), random.below(4).min(1)),
         _ => format!("{caller} poll"),
     }
 }
@@ -162,11 +183,11 @@ fn number_seen(t: &Table, caller: u8, random: &mut Random) -> i32 {
     random.pick(&seen).into()
 }
 
-fn signal(gentle: bool, random: &mut Random) -> i32 {
-    if gentle {
-        random.pick(&[0, 10, 15, 17, 18, 20, 23, 28])
-    } else {
-        random.between(-1, 33)
+fn signal(kind: &Kind, gentle: bool, random: &mut Random) -> i32 {
+    match kind.signals {
+        [] if gentle => random.pick(&[0, 10, 15, 17, 18, 20, 23, 28]),
+        [] => random.between(-1, 33),
+        signals => random.pick(signals),
     }
 }
 

@@ -117,3 +117,56 @@ fn collect(writer: &mut Writer, parent: u8) {
         writer.line(&format!("{parent} wait"));
     }
 }
+
+#[cfg(test)]
+mod tests {
+    use super::*;
+    use reference::script::run_line_after;
+    use reference::table::Table;
+
+    /// The three numbers that a level gave last, up to the one after 32,767; and whether the holder of 300 had ended
+    /// then.
+    #[derive(Clone, Copy, Default)]
+    struct Given {
+        numbers: [u16; 3],
+        holder_ended: Option<bool>,
+    }
+
+    impl Given {
+        fn look(&mut self, t: &Table, level: usize) {
+            let last = t.each_namespace().find(|(_, n)| n.level as usize == level).map_or(0, |(_, n)| n.last);
+            let [_, before, latest] = self.numbers;
+            if last != latest && before != MAX_PID {
+                self.numbers = [before, latest, last];
+                let holder = t.each_process().find(|(_, p)| p.pids[level] == AGAIN && last != AGAIN);
+                self.holder_ended = holder.map(|(_, p)| p.has_ended());
+            }
+        }
+    }
+
+    /// What each level gave.
+    fn played(script: &[u8]) -> [Given; LEVELS] {
+        let mut t = Table::fresh();
+        let mut levels = [Given::default(); LEVELS];
+        for line in script.split(|&b| b == b'\n') {
+            run_line_after(|_| true, &mut t, line);
+            if line.ends_with(b" clone") {
+                levels.iter_mut().enumerate().for_each(|(level, given)| given.look(&t, level));
+            }
+        }
+        levels
+    }
+
+    #[test]
+    fn every_level_starts_again_and_300_is_held() {
+        let levels = played(&round(1));
+        for Given { numbers: [a, b, c], .. } in levels {
+            assert_eq!([a, b], [MAX_PID - 1, MAX_PID]);
+            assert!((AGAIN..AGAIN + 16).contains(&c));
+        }
+        let held = |level: u8| levels[level as usize].holder_ended.is_some();
+        assert!(held(0) && held(DEEPEST / 2) && held(DEEPEST));
+        assert!(levels.iter().any(|given| given.holder_ended == Some(true)));
+        assert!(levels.iter().any(|given| given.holder_ended == Some(false)));
+    }
+}
