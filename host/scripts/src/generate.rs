@@ -37,7 +37,7 @@ pub const KINDS: [Kind; 10] = [
     Kind::new("orphans", [26, 8, 4, 8, 6, 1, 20, 16, 2, 12, 1, 1], 0, 0),
     Kind::new("malformed lines", [14, 7, 6, 8, 14, 2, 6, 12, 5, 5, 10, 6], 0, 2),
     Kind { deep: true, ..Kind::new("deep, near 64 processes", [40, 8, 8, 3, 2, 1, 2, 6, 2, 2, 2, 1], 62, 0) },
-    Kind { signals: &STOPS, ..Kind::new("stops", [8, 4, 1, 2, 34, 4, 2, 6, 6, 1, 18, 14], 6, 0) },
+    Kind { signals: &STOPS, ..Kind::new("stops", [8, 10, 1, 2, 34, 4, 2, 6, 6, 1, 16, 12], 6, 0) },
 ];
 
 /// Signals that stop and resume, and two that do not.
@@ -117,11 +117,11 @@ fn spoilt(good: &str, random: &mut Random) -> String {
     }
 }
 
-/// A running process, of a deep kind every other time one of the deepest; and one time in 20 any, stopped or ended too.
+/// A running process, of a deep kind every other time one of the deepest; and one time in 12 any, stopped or ended too.
 fn a_caller(kind: &Kind, t: &Table, random: &mut Random) -> u8 {
     let all: Vec<u8> = t.each_process().map(|(i, _)| i).collect();
     let running: Vec<u8> = t.each_process().filter(|(_, p)| p.state == State::Running).map(|(i, _)| i).collect();
-    if running.is_empty() || random.one_in(20) {
+    if running.is_empty() || random.one_in(12) {
         return random.pick(&all);
     }
     let level = |&i: &u8| t.namespaces[t.processes[i as usize].own as usize].level;
