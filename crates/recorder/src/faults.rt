@@ -17,7 +17,7 @@ fn pause() {
 
 // Whether a read or a write that has just failed is to be tried again: one that a signal interrupted, or one that would
 // have had to wait. Of any other it says why it failed.
-pub fn may_retry(what: &[u8]) -> bool {
+pub(crate) fn may_retry(what: &[u8]) -> bool {
     let error = os::errno();
     if error == libc::EINTR {
         return true;
@@ -32,7 +32,7 @@ pub fn may_retry(what: &[u8]) -> bool {
 
 // Writes all of `out` to standard output, and says whether it could. A proved loop has to end, and nothing says that a
 // reader ever makes room: the turns count down from a number that no run uses up.
-pub fn write_out(out: &[u8]) -> bool {
+pub(crate) fn write_out(out: &[u8]) -> bool {
     let mut done: usize = 0;
     let mut turns = u64::MAX;
     while done < out.len() {

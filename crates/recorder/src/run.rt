@@ -64,7 +64,7 @@ fn read_all(fd: i32, source: &[u8]) -> Progress {
 }
 
 // Runs a whole script. After an error the open line is not run: nobody knows how it would have gone on.
-pub fn run(fd: i32, source: &[u8]) {
+pub(crate) fn run(fd: i32, source: &[u8]) {
     let read = read_all(fd, source);
     if !read.ended {
         return;

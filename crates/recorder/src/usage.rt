@@ -3,12 +3,12 @@ use crate::faults::write_out;
 use libc::STDERR_FILENO;
 
 // Of an argument that it does not take.
-pub fn misused(what: &[u8]) {
+pub(crate) fn misused(what: &[u8]) {
     io::write_all(STDERR_FILENO, what);
     io::write_all(STDERR_FILENO, b": not understood; see recorder --help\n");
 }
 
-pub fn print_version() {
+pub(crate) fn print_version() {
     write_out(b"recorder 0.1.0 (Lampfunnel, with W-203 and W-206)\n");
 }
 
@@ -62,7 +62,7 @@ fn print_refusals() -> bool {
 }
 
 // Each part is printed if the one before could be.
-pub fn print_help() {
+pub(crate) fn print_help() {
     if print_synopsis() {
         if print_calls() {
             print_refusals();
