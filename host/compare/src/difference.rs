@@ -89,7 +89,7 @@ impl<F: Fn(&[u8]) -> Answers> Shortening<F> {
         self.start.elapsed() > TIME
     }
 
-    /// Takes runs of parts out, long ones first, as long as the rest still differs; and again until nothing more can go.
+    /// Takes runs of parts out, long ones first, as long as the rest still differs; again until nothing more can go.
     fn shrink<'a>(&self, mut parts: Vec<&'a [u8]>) -> Vec<&'a [u8]> {
         loop {
             let before = parts.len();

@@ -18,8 +18,8 @@ const PATIENCE: Duration = Duration::from_secs(30);
 /// How often it is asked whether the recorder has read.
 const MOMENT: Duration = Duration::from_micros(50);
 
-/// Plays a script that is cut into pieces. The next piece goes once the recorder has read all before it and has answered
-/// the lines that ended there, so a piece's end is an end for the recorder too.
+/// Plays a script that is cut into pieces. The next piece goes once the recorder has read all before it and has
+/// answered the lines that ended there, so a piece's end is an end for the recorder too.
 pub fn play(recorder: &mut Command, pieces: &[&[u8]]) -> Answers {
     let recorder = recorder.stdin(Stdio::piped()).stdout(Stdio::piped()).stderr(Stdio::piped());
     let mut child = recorder.spawn().map_err(|e| format!("it does not start: {e}"))?;

@@ -1,6 +1,6 @@
-//! An edit, in the form of `crates/*/must-fail/*.edit`: `file:` names a file for the pairs of `old:` and `new:` after it,
-//! and an old text stands there once. `kind:` may name the one kind of script that is to tell it. Other lines are
-//! remarks.
+//! An edit, in the form of `crates/*/must-fail/*.edit`: `file:` names a file, from `host/` on, for the pairs of `old:`
+//! and `new:` after it, and an old text stands there once. `kind:` may name the one kind of script that is to tell it.
+//! Other lines are remarks.
 
 use std::fs;
 use std::path::Path;

@@ -1,7 +1,7 @@
 //! Wrong programs: puts each edit of `wrong/edits/` into a copy of the reference, and says what tells it:
 //!
-//! - the comparison of scripts, with its fixed seeds, where the wrong program is held against the reference as it is, in
-//!   the recorder's place;
+//! - the comparison of scripts, with its fixed seeds, where the wrong program is held against the reference as it is,
+//!   in the recorder's place;
 //! - the same where it is held against the recorder, in the reference's place, so that it plays along when scripts are
 //!   made;
 //! - the recorder's kept script.
