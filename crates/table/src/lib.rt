@@ -44,15 +44,18 @@ pub const SIGSTOP: u8 = 19;
 // The numbers that an exit can keep are 0 to 255.
 pub const STATUSES: u16 = 256;
 
-// ---- slots and numbers: three kinds, none of which can be passed for another
+// ---- slots and numbers: three kinds, none of which can be passed for another. A host holds them too: hence repr(C).
 
 // The slot of a process. NO_SLOT stands for none.
+#[repr(C)]
 pub struct ProcSlot(pub u8);
 
 // The slot of a namespace. NO_SLOT stands for none.
+#[repr(C)]
 pub struct NsSlot(pub u8);
 
 // A process number, as one namespace sees it. 0 stands for none.
+#[repr(C)]
 pub struct Pid(pub u16);
 
 // ---- the table

@@ -1,15 +1,15 @@
 //! The check of a table: its share of a line, and on a full table.
 //!
-//! The proved check is called through the library, which reads the table from words first. How long that takes is
-//! measured on the same tables with the root's parent damaged, which the check sees at once, and is taken off.
+//! The proved check is called through the library, which takes a copy of the host's bytes and reads the table from them
+//! first. How long that takes is measured on the same tables with the root's parent damaged, which the check sees at
+//! once, and is taken off.
 
 use crate::chart::Group;
+use crate::full::{full_table, kept};
 use crate::group;
 use crate::programs::Speeds;
 use crate::timing::{best, nanoseconds, SHORT_ROUNDS};
-use reference::image::words;
-use reference::script::run_line;
-use reference::table::{Table, PROCESSES};
+use reference::table::Table;
 use reference::{quick, sound};
 use scripts::kept::{facts, Facts};
 use std::hint::black_box;
@@ -47,45 +47,38 @@ struct Times {
     plain: f64,
 }
 
-/// The checks of a full table, and how long reading it from words takes.
+/// The checks of a full table, and how long reading it from the host's bytes takes.
 pub struct Full {
     level: u8,
     times: Times,
     reading: f64,
 }
 
-/// 64 processes in a chain of namespaces from the root to a level, the rest of them in the deepest.
-fn full_table(level: u8) -> Table {
-    let mut t = Table::fresh();
-    for i in 0..PROCESSES as u8 - 1 {
-        let line = if i < level { format!("{i} clone new") } else { format!("{level} clone") };
-        run_line(&mut t, line.as_bytes());
-    }
-    assert_eq!(t.each_process().count(), PROCESSES);
-    t
+/// The same table without a root: its check ends where it begins.
+pub fn damage(table: &lampfunnel::Table) -> lampfunnel::Table {
+    let mut damaged = *table.as_raw();
+    damaged.processes[0].parent = 0;
+    lampfunnel::Table::from_raw(damaged)
 }
 
 /// Times of the checks, each table as often as the others; and of reading.
 fn time(tables: &[Table]) -> (Times, f64) {
     let each = CHECKS / tables.len();
-    let images: Vec<Vec<u32>> = tables.iter().map(words).collect();
-    let mut damaged = images.clone();
-    for image in &mut damaged {
-        image[2] = 0;
-    }
-    let proved = |images: &[Vec<u32>], sound| {
-        let agrees = |w: &Vec<u32>| (0..each).all(|_| lampfunnel::is_sound(black_box(w)) == Some(sound));
-        assert!(images.iter().all(agrees));
+    let whole: Vec<lampfunnel::Table> = tables.iter().map(|t| lampfunnel::Table::from_raw(kept(t))).collect();
+    let damaged: Vec<lampfunnel::Table> = whole.iter().map(damage).collect();
+    let proved = |tables: &[lampfunnel::Table], sound| {
+        let agrees = |t: &lampfunnel::Table| (0..each).all(|_| black_box(t).is_sound() == sound);
+        assert!(tables.iter().all(agrees));
     };
     let rust = |check: fn(&Table) -> bool| assert!(tables.iter().all(|t| (0..each).all(|_| check(black_box(t)))));
-    let [whole, reading, quick, plain] = best(
+    let [proved, reading, quick, plain] = best(
         SHORT_ROUNDS,
-        [&mut || proved(&images, true), &mut || proved(&damaged, false), &mut || rust(quick::is_sound), &mut || {
+        [&mut || proved(&whole, true), &mut || proved(&damaged, false), &mut || rust(quick::is_sound), &mut || {
             rust(sound::is_sound)
         }],
     )
     .map(|time| nanoseconds(time, each * tables.len()));
-    (Times { proved: whole - reading, quick, plain }, reading)
+    (Times { proved: proved - reading, quick, plain }, reading)
 }
 
 impl Tables {
@@ -112,7 +105,7 @@ impl Full {
             ("is_sound, proved", self.times.proved),
             ("the same algorithm in Rust", self.times.quick),
             ("plain check in Rust", self.times.plain),
-            ("(reading the table from words)", self.reading),
+            ("(reading the host's bytes)", self.reading),
         ];
         group(&format!("Check of a full table, levels 0 to {} (less is better)", self.level), "ns", &bars)
     }

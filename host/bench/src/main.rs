@@ -1,13 +1,16 @@
 //! The recorder and the reference side by side, in one run.
 //!
-//! At the top of the repository `rt check recorder && rt staticlib host`, and then in `host/`
+//! At the top of the repository `rt check recorder && rt staticlib lampfunnel`, and then in `host/`
 //!
 //!     cargo run --release --offline -p bench
 //!
-//! With the name of a file, `-- ../docs/benchmark.svg`, it draws the figures there too.
+//! With the name of a file, `-- ../docs/benchmark.svg`, it draws the figures there too. With `-- calls`, and a file or
+//! none after it, it times single calls alone.
 
+mod calls;
 mod chart;
 mod checks;
+mod full;
 mod programs;
 mod search;
 mod timing;
@@ -19,31 +22,63 @@ use std::{env, fs, io};
 
 fn main() -> io::Result<()> {
     println!("machine: {}", machine());
-    let mut groups = Vec::new();
-    let mut ratios = String::new();
-    for kept in &SCRIPTS {
-        let script = kept.script();
-        let tables = checks::Tables::of(&script);
-        describe(kept, &tables.facts);
-        let speeds = programs::run(&script)?;
-        groups.extend([speeds.lines_per_second(kept.name), tables.shares(&speeds, kept.name)]);
-        ratios += &speeds.ratios(kept.name);
+    let mut words = env::args().skip(1).peekable();
+    let calls_alone = words.next_if(|word| word == "calls").is_some();
+    let mut figures = Figures::default();
+    if !calls_alone {
+        figures.time_scripts()?;
+        figures.time_parts();
     }
-    for level in [7, DEEPEST] {
-        let full = checks::Full::to_level(level);
-        groups.push(full.group());
-        ratios += &full.ratio();
-    }
-    let searches = search::run();
-    groups.push(searches.group());
-    ratios += &searches.ratio();
-    for group in &groups {
+    figures.time_calls();
+    for group in &figures.groups {
         print!("\n{group}");
     }
-    print!("\n{ratios}");
-    match env::args().nth(1) {
-        Some(file) => fs::write(file, chart::svg(&machine(), &groups)),
+    print!("\n{}", figures.ratios);
+    match words.next() {
+        Some(file) => fs::write(file, chart::svg(&machine(), &figures.groups)),
         None => Ok(()),
+    }
+}
+
+/// What was timed, and a line for each ratio.
+#[derive(Default)]
+struct Figures {
+    groups: Vec<Group>,
+    ratios: String,
+}
+
+impl Figures {
+    fn add(&mut self, group: Group, ratio: &str) {
+        self.groups.push(group);
+        self.ratios += ratio;
+    }
+
+    fn time_scripts(&mut self) -> io::Result<()> {
+        for kept in &SCRIPTS {
+            let script = kept.script();
+            let tables = checks::Tables::of(&script);
+            describe(kept, &tables.facts);
+            let speeds = programs::run(&script)?;
+            self.add(speeds.lines_per_second(kept.name), &speeds.ratios(kept.name));
+            self.add(tables.shares(&speeds, kept.name), "");
+        }
+        Ok(())
+    }
+
+    fn time_parts(&mut self) {
+        for level in [7, DEEPEST] {
+            let full = checks::Full::to_level(level);
+            self.add(full.group(), &full.ratio());
+        }
+        let searches = search::run();
+        self.add(searches.group(), &searches.ratio());
+    }
+
+    fn time_calls(&mut self) {
+        for level in [7, DEEPEST] {
+            let calls = calls::Calls::to_level(level);
+            self.add(calls.group(), &calls.ratio());
+        }
     }
 }
 

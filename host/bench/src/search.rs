@@ -2,9 +2,11 @@
 //! last number alone.
 
 use crate::chart::Group;
+use crate::checks::damage;
+use crate::full::kept;
 use crate::group;
 use crate::timing::{best, nanoseconds, SHORT_ROUNDS};
-use reference::image::words;
+use lampfunnel::{NamespaceSlot, Pid};
 use reference::sound::is_sound;
 use reference::table::{Process, Table, LEVELS, MAX_PID};
 use std::hint::black_box;
@@ -19,7 +21,7 @@ pub struct Searches {
 }
 
 /// 63 processes: the root init, and 62 that hold the numbers from 300 on.
-fn table(last: u16) -> Vec<u32> {
+fn table(last: u16) -> lampfunnel::Table {
     let mut t = Table::fresh();
     for slot in 1..=62 {
         let mut pids = [0; LEVELS];
@@ -28,21 +30,20 @@ fn table(last: u16) -> Vec<u32> {
     }
     t.namespaces[0].last = last;
     assert!(is_sound(&t));
-    words(&t)
+    lampfunnel::Table::from_raw(kept(&t))
 }
 
-/// Times the searches. Reading a table from words is taken off; it is timed as in `checks`.
+/// Times the searches. Reading a table from the host's bytes is taken off; it is timed as in `checks`.
 pub fn run() -> Searches {
-    let search = |words: &[u32]| {
-        assert!((0..SEARCHES).all(|_| lampfunnel::next_pid(black_box(words), 0) == Some(362)));
+    let search = |t: &lampfunnel::Table| {
+        assert!((0..SEARCHES).all(|_| black_box(t).next_pid(NamespaceSlot::ROOT) == Some(Pid(362))));
     };
     let (round, next) = (table(MAX_PID), table(361));
-    let mut damaged = next.clone();
-    damaged[2] = 0;
+    let damaged = damage(&next);
     let [past_taken, first_free, reading] = best(
         SHORT_ROUNDS,
         [&mut || search(&round), &mut || search(&next), &mut || {
-            assert!((0..SEARCHES).all(|_| lampfunnel::is_sound(black_box(&damaged)) == Some(false)))
+            assert!((0..SEARCHES).all(|_| !black_box(&damaged).is_sound()))
         }],
     )
     .map(|time| nanoseconds(time, SEARCHES));

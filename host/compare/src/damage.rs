@@ -1,24 +1,77 @@
 //! The kinds of damage that a table is given.
 
-use reference::image::{NAMESPACES_AT, NAMESPACE_WORDS, PROCESS_WORDS};
+use crate::fields::{fields, Field, Records, OF_NAMESPACES, OF_PROCESSES};
+use reference::mirror::{bytes, Bytes, BYTES};
 use reference::table::{End, Life, Namespace, Process, State, Table, DEEPEST, LEVELS, MAX_PID, NAMESPACES, PROCESSES};
 use scripts::random::Random;
 
 /// Damages a table, or leaves it where the table has nothing of the kind.
 type Damage = fn(&mut Table, &mut Random);
 
-/// The fields of both kinds of record, a word each, in the order of the words.
-pub fn fields() -> Vec<String> {
-    let before = "own namespace, children's namespace, parent, state, how it ended, handled signals, pending signals";
-    let process =
-        before.split(", ").map(String::from).chain((0..LEVELS).map(|level| format!("number at level {level}")));
-    let namespace = "parent, level, last number, condition, init".split(", ");
-    let process = process.map(|field| format!("process: {field}"));
-    process.chain(namespace.map(|field| format!("namespace: {field}"))).collect()
+/// Damages the bytes of a table, or leaves them.
+type Change = dyn Fn(&mut Bytes, &Table, &mut Random);
+
+pub struct Kind {
+    pub name: String,
+    /// whether it leaves bytes that no writer makes
+    pub is_foreign: bool,
+    change: Box<Change>,
+}
+
+impl Kind {
+    fn new(name: &str, change: impl Fn(&mut Bytes, &Table, &mut Random) + 'static) -> Kind {
+        Kind { name: name.into(), is_foreign: false, change: Box::new(change) }
+    }
+
+    /// The bytes of a damaged table.
+    pub fn of(&self, t: &Table, random: &mut Random) -> Bytes {
+        let mut all = bytes(t);
+        (self.change)(&mut all, t, random);
+        all
+    }
+}
+
+/// So many kinds, the first ones, may be any damage.
+pub const BROAD: usize = 2;
+
+/// Any byte, several, each field, and what is special or foreign.
+pub fn kinds() -> Vec<Kind> {
+    let mut kinds = vec![Kind::new("one byte", |all, _, random| one_byte(all, random)), Kind::new("several", several)];
+    for (of, field) in [OF_PROCESSES, OF_NAMESPACES].iter().flat_map(|of| fields(of).into_iter().map(move |f| (of, f)))
+    {
+        let name = format!("{}: {}", of.name, field.name);
+        kinds.push(Kind::new(&name, move |all, t, random| change(all, of, &field, t, random)));
+    }
+    kinds.extend(SPECIAL.map(|(name, damage)| {
+        Kind::new(name, move |all, t, random| {
+            let mut t = t.clone();
+            damage(&mut t, random);
+            *all = bytes(&t);
+        })
+    }));
+    kinds.extend(FOREIGN.map(|foreign| Kind {
+        is_foreign: true,
+        ..Kind::new(foreign.name, move |all, t, random| foreign.put(all, t, random))
+    }));
+    kinds
+}
+
+fn one_byte(all: &mut Bytes, random: &mut Random) {
+    all[random.below(BYTES)] = random.below(256) as u8;
+}
+
+fn several(all: &mut Bytes, t: &Table, random: &mut Random) {
+    for _ in 0..random.between(2, 5) {
+        let of = random.pick(&[OF_PROCESSES, OF_NAMESPACES]);
+        match random.below(3) {
+            0 => one_byte(all, random),
+            _ => change(all, &of, &fields(&of)[random.below(fields(&of).len())], t, random),
+        }
+    }
 }
 
 /// Damage that takes more than one field at random.
-pub const SPECIAL: [(&str, Damage); 10] = [
+const SPECIAL: [(&str, Damage); 10] = [
     ("a slot out of range", out_of_range),
     ("a circle of parents", circle_of_parents),
     ("a circle of namespaces", circle_of_namespaces),
@@ -31,29 +84,63 @@ pub const SPECIAL: [(&str, Damage); 10] = [
     ("a namespace below the deepest level", too_deep),
 ];
 
-/// Values that a damaged field takes: small ones, levels and slots in and out of range, numbers at their bounds, sets of
-/// signals.
+/// A byte that is written as 0 or as one of a few.
+struct Foreign {
+    name: &'static str,
+    of: Records,
+    byte: usize,
+    least: i32,
+    /// whether a record is one where such a byte is foreign
+    beside: fn(&[u8]) -> bool,
+}
+
+/// Bytes that no writer makes, in any slot: an empty one, too, must have none of them.
+const FOREIGN: [Foreign; 5] = [
+    Foreign { name: "a state above 3", of: OF_PROCESSES, byte: 3, least: 4, beside: |_| true },
+    Foreign { name: "an end without an ended state", of: OF_PROCESSES, byte: 4, least: 1, beside: |p| p[3] < 2 },
+    Foreign { name: "a reserved byte", of: OF_PROCESSES, byte: 5, least: 1, beside: |_| true },
+    Foreign { name: "a life above 2", of: OF_NAMESPACES, byte: 2, least: 3, beside: |_| true },
+    Foreign { name: "an init without life", of: OF_NAMESPACES, byte: 3, least: 1, beside: |n| n[2] != 1 },
+];
+
+impl Foreign {
+    fn put(&self, all: &mut Bytes, t: &Table, random: &mut Random) {
+        let record = self.of.record(a_slot(&self.of, t, random));
+        if (self.beside)(&all[record.clone()]) {
+            all[record.start + self.byte] = random.between(self.least, 255) as u8;
+        }
+    }
+}
+
+/// Values that a damaged field takes: small ones, levels and slots in and out of range, numbers at their bounds, sets
+/// of signals.
 const VALUES: [u32; 27] = [
     0, 1, 2, 3, 5, 7, 8, 9, 19, 31, 32, 33, 47, 48, 49, 63, 64, 65, 254, 255, 256, 299, 300, 32_767, 32_768, 65_535,
     0xffffffff,
 ];
 
-/// A field of some record changed: to a value at some bound, to another record's value of the field, or by one. Mostly
-/// the record is one in use.
-pub fn field(words: &mut [u32], field: usize, t: &Table, random: &mut Random) {
-    let (start, size, records) = match field.checked_sub(PROCESS_WORDS) {
-        None => (field, PROCESS_WORDS, PROCESSES),
-        Some(field) => (NAMESPACES_AT + field, NAMESPACE_WORDS, NAMESPACES),
-    };
-    let used: Vec<u8> = if size == PROCESS_WORDS { processes(t) } else { namespaces(t) };
-    let record = if random.one_in(5) { random.below(records) } else { random.pick(&used) as usize };
-    let at = start + size * record;
-    words[at] = match random.below(4) {
+/// A field of some record gets a value at some bound, another record's value of the field, or one more or less.
+fn change(all: &mut Bytes, of: &Records, field: &Field, t: &Table, random: &mut Random) {
+    let value = |slot| field.value(&all[of.record(slot)]);
+    let slot = a_slot(of, t, random);
+    let value = match random.below(4) {
         0 => random.pick(&VALUES),
-        1 => words[start + size * random.below(records)],
-        2 => words[at].wrapping_add(1),
-        _ => words[at].wrapping_sub(1),
+        1 => value(random.below(of.number)),
+        2 => value(slot).wrapping_add(1),
+        _ => value(slot).wrapping_sub(1),
     };
+    all[of.record(slot).start + field.bytes.start..][..field.bytes.len()]
+        .copy_from_slice(&value.to_le_bytes()[..field.bytes.len()]);
+}
+
+/// Some slot, mostly one in use.
+fn a_slot(of: &Records, t: &Table, random: &mut Random) -> usize {
+    let used: Vec<u8> = if *of == OF_PROCESSES { processes(t) } else { namespaces(t) };
+    if random.one_in(5) {
+        random.below(of.number)
+    } else {
+        random.pick(&used).into()
+    }
 }
 
 fn processes(t: &Table) -> Vec<u8> {
@@ -155,8 +242,8 @@ fn ended_parent(t: &mut Table, random: &mut Random) {
     }
 }
 
-/// A dead namespace right below one on the deepest level, with an ended child of the root init in it: all is as it should
-/// be but the level.
+/// A dead namespace right below one on the deepest level, with an ended child of the root init in it: all is as it
+/// should be but the level.
 fn too_deep(t: &mut Table, random: &mut Random) {
     let deepest = t.each_namespace().filter(|(_, s)| s.level == DEEPEST && s.life != Life::Unborn);
     let above = one_of(deepest.map(|(n, _)| n).collect(), random);

@@ -1,12 +1,9 @@
 //! A difference, cut off where it shows and shortened as far as a short time allows.
 
 use crate::recorder::Answers;
+use crate::shrinking::Shrinking;
 use reference::script::run;
 use reference::table::Table;
-use std::time::{Duration, Instant};
-
-/// Shortening stops after so long.
-const TIME: Duration = Duration::from_secs(5);
 
 /// A script with more lines is not shortened.
 const LONG: usize = 5000;
@@ -69,54 +66,12 @@ fn first_difference(a: &[u8], b: &[u8]) -> usize {
 
 /// A shorter script on which the answers still differ.
 fn shortened(script: &[u8], answers: impl Fn(&[u8]) -> Answers) -> Vec<u8> {
-    let shortening = Shortening { answers, start: Instant::now() };
-    let script = shortening.shrink(lines(script)).concat();
-    shortening.shrink(script.chunks(1).collect()).concat()
-}
-
-struct Shortening<F> {
-    answers: F,
-    start: Instant,
-}
-
-impl<F: Fn(&[u8]) -> Answers> Shortening<F> {
-    fn differs(&self, parts: &[&[u8]]) -> bool {
+    let shrinking = Shrinking::by(|parts: &[&[u8]]| {
         let script = parts.concat();
-        (self.answers)(&script).as_ref() != Ok(&by_reference(&script))
-    }
-
-    fn is_over(&self) -> bool {
-        self.start.elapsed() > TIME
-    }
-
-    /// Takes runs of parts out, long ones first, as long as the rest still differs; again until nothing more can go.
-    fn shrink<'a>(&self, mut parts: Vec<&'a [u8]>) -> Vec<&'a [u8]> {
-        loop {
-            let before = parts.len();
-            let mut size = before.div_ceil(2);
-            while size > 0 {
-                parts = self.without_runs(parts, size);
-                size /= 2;
-            }
-            if parts.len() == before || self.is_over() {
-                return parts;
-            }
-        }
-    }
-
-    /// Takes runs of a size out.
-    fn without_runs<'a>(&self, mut parts: Vec<&'a [u8]>, size: usize) -> Vec<&'a [u8]> {
-        let mut at = 0;
-        while at + size <= parts.len() && !self.is_over() {
-            let rest: Vec<&[u8]> = parts[..at].iter().chain(&parts[at + size..]).copied().collect();
-            if self.differs(&rest) {
-                parts = rest;
-            } else {
-                at += size;
-            }
-        }
-        parts
-    }
+        answers(&script).as_ref() != Ok(&by_reference(&script))
+    });
+    let script = shrinking.shrink(lines(script)).concat();
+    shrinking.shrink(script.chunks(1).collect()).concat()
 }
 
 /// The last lines, with bytes that are no plain text escaped.

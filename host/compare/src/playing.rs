@@ -9,7 +9,7 @@ use scripts::rounds::round;
 use std::process::Command;
 
 /// What stands in a buffer before and, where nothing may be written, after a call.
-const GUARD: u8 = 0xa5;
+pub const GUARD: u8 = 0xa5;
 const GUARD_BYTES: usize = 64;
 
 const SHORT_AND_LONG: [&[u8]; 7] =

@@ -1,16 +1,22 @@
-//! Damaged tables: the proved check, the reference and its quick check must agree on each.
+//! Damaged tables: the proved check, the reference and its quick check must agree on each; and so must the two searches
+//! for the number that a namespace gives next.
 
-use crate::damage::{field, fields, SPECIAL};
+use crate::damage::{kinds, Kind};
 use crate::difference::again;
-use reference::image::{table, words, NAMESPACES_AT, NAMESPACE_WORDS, PROCESS_WORDS};
+use crate::fields::{fields, Records, OF_NAMESPACES, OF_PROCESSES};
+use crate::library;
+use reference::mirror::{bytes, table, Bytes};
 use reference::script::run;
 use reference::table::{Table, DEEPEST, NAMESPACES};
-use reference::{quick, sound};
+use reference::{quick, turns};
 use scripts::generate::{script, KINDS};
 use scripts::random::Random;
 
 /// So many tables of each kind of damage.
 const OF_EACH_KIND: usize = 2500;
+
+/// Beside the slots of namespaces, these are asked for the next number.
+const NO_SLOTS: [u32; 6] = [48, 64, 255, 256, 65_536, u32::MAX];
 
 /// How many tables of a kind there were, and how many of them are sound all the same.
 struct Count {
@@ -19,11 +25,20 @@ struct Count {
     sound: usize,
 }
 
-/// The proved check and two of the reference agree on some words; gives their verdict.
-fn agree(words: &[u32]) -> Option<bool> {
-    let t = table(words);
-    let verdict = sound::is_sound(&t);
-    (lampfunnel::is_sound(words) == Some(verdict) && quick::is_sound(&t) == verdict).then_some(verdict)
+/// What the library, the reference and its quick check say of a table, and the number that a namespace gives next by
+/// the first two.
+type Verdicts = ([bool; 3], [u16; 2]);
+
+fn verdicts(all: &Bytes, slot: u32) -> Verdicts {
+    let quick = table(all).is_some_and(|t| quick::is_sound(&t));
+    let next = [library::next_pid(all, slot), turns::next_pid(all, slot)];
+    ([library::is_sound(all), turns::is_sound(all), quick], next)
+}
+
+/// The verdict where all agree.
+fn agree(all: &Bytes, slot: u32) -> Option<bool> {
+    let ([a, b, c], [m, n]) = verdicts(all, slot);
+    (a == b && b == c && m == n).then_some(a)
 }
 
 /// Sound tables of every kind that scripts make.
@@ -41,31 +56,21 @@ fn bases(seed: u64) -> Vec<Table> {
 /// Holds tables against the reference and prints how many of each kind; or shows the first one that differs.
 pub fn hold(seed: u64) -> Result<(), String> {
     let counts = hold_all(seed)
-        .map_err(|difference| format!("seed {seed}: {difference}\n{}", again(&format!("tables --seed {seed}"))))?;
+        .map_err(|(kind, told)| format!("{kind}, seed {seed}: {told}\n{}", again(&format!("tables --seed {seed}"))))?;
     report(&counts);
     Ok(())
 }
 
-fn hold_all(seed: u64) -> Result<Vec<Count>, String> {
-    if [&[][..], &[0; lampfunnel::TABLE_WORDS + 1]].iter().any(|w| lampfunnel::is_sound(w).is_some()) {
-        return Err("another count of words is not refused".into());
-    }
+/// The kind of damage at which tables differ, and what is told of them.
+type Difference = (String, String);
+
+fn hold_all(seed: u64) -> Result<Vec<Count>, Difference> {
     let bases = bases(seed);
     let mut random = Random::from_seed(seed.wrapping_add(7));
-    let mut counts = vec![hold_whole(&bases)?];
-    for (k, kind) in fields().iter().enumerate() {
-        counts.push(hold_kind(kind, &bases, &mut random, |t, random| {
-            let mut damaged = words(t);
-            field(&mut damaged, k, t, random);
-            damaged
-        })?);
-    }
-    for (kind, damage) in SPECIAL {
-        counts.push(hold_kind(kind, &bases, &mut random, |t, random| {
-            let mut damaged = t.clone();
-            damage(&mut damaged, random);
-            words(&damaged)
-        })?);
+    let mut counts = vec![hold_whole(&bases).map_err(|told| ("no damage".into(), told))?];
+    for kind in kinds() {
+        let count = hold_kind(&kind, &bases, &mut random);
+        counts.push(count.map_err(|told| (format!("damage '{}'", kind.name), told))?);
     }
     Ok(counts)
 }
@@ -76,38 +81,47 @@ fn hold_whole(bases: &[Table]) -> Result<Count, String> {
     if !deepest || !bases.iter().any(|t| t.each_namespace().count() == NAMESPACES) {
         return Err("no table reaches the deepest level, or has every namespace slot taken".into());
     }
-    for t in bases {
-        assert_eq!(table(&words(t)), *t, "words say the whole table");
-        if agree(&words(t)) != Some(true) {
-            return Err(format!("a table that calls made is not sound to all:\n{}", shown(&words(t))));
-        }
+    let slots = || (0..NAMESPACES as u32).chain(NO_SLOTS);
+    let mut asked = bases.iter().map(bytes).flat_map(|all| slots().map(move |slot| (all, slot)));
+    match asked.find(|(all, slot)| agree(all, *slot) != Some(true)) {
+        Some((all, slot)) => Err(format!("a table that calls made is not sound to all:\n{}", shown(&all, slot))),
+        None => Ok(Count { kind: "none".into(), tables: bases.len(), sound: bases.len() }),
     }
-    Ok(Count { kind: "none".into(), tables: bases.len(), sound: bases.len() })
 }
 
 /// Damages the tables in turn until there are enough that are not what they were.
-fn hold_kind(
-    kind: &str,
-    bases: &[Table],
-    random: &mut Random,
-    damage: impl Fn(&Table, &mut Random) -> Vec<u32>,
-) -> Result<Count, String> {
-    let mut count = Count { kind: kind.into(), tables: 0, sound: 0 };
+fn hold_kind(kind: &Kind, bases: &[Table], random: &mut Random) -> Result<Count, String> {
+    let mut count = Count { kind: kind.name.clone(), tables: 0, sound: 0 };
     for t in bases.iter().cycle().take(100 * OF_EACH_KIND) {
-        let damaged = damage(t, random);
-        if table(&damaged) == *t {
+        let damaged = kind.of(t, random);
+        if damaged == bytes(t) {
             continue;
         }
-        let Some(verdict) = agree(&damaged) else {
-            return Err(format!("the checks differ on a table with damage '{kind}':\n{}", shown(&shrink(damaged))));
+        let slot = slot_to_ask(&bytes(t), &damaged, random);
+        let Some(verdict) = agree(&damaged, slot) else {
+            return Err(format!("a difference:\n{}", shown(&shrink(damaged, slot), slot)));
         };
+        if verdict && kind.is_foreign {
+            return Err(format!("it is sound to all:\n{}", shown(&damaged, slot)));
+        }
         count.tables += 1;
         count.sound += usize::from(verdict);
         if count.tables == OF_EACH_KIND {
             return Ok(count);
         }
     }
-    Err(format!("too few tables could be given the damage '{kind}'"))
+    Err("too few tables could be given it".into())
+}
+
+/// The slot of a namespace whose number is asked for: one that is damaged, any, or one that is none.
+fn slot_to_ask(before: &Bytes, damaged: &Bytes, random: &mut Random) -> u32 {
+    let slots: Vec<usize> =
+        (0..NAMESPACES).filter(|&n| before[OF_NAMESPACES.record(n)] != damaged[OF_NAMESPACES.record(n)]).collect();
+    match random.below(20) {
+        0 => random.pick(&NO_SLOTS),
+        1..=14 if !slots.is_empty() => random.pick(&slots) as u32,
+        _ => random.below(NAMESPACES) as u32,
+    }
 }
 
 fn report(counts: &[Count]) {
@@ -121,38 +135,31 @@ fn report(counts: &[Count]) {
 
 // ---- a difference
 
-/// The words of each record, first those of processes.
-fn records() -> impl Iterator<Item = std::ops::Range<usize>> {
-    let processes = (0..NAMESPACES_AT).step_by(PROCESS_WORDS).map(|at| at..at + PROCESS_WORDS);
-    let namespaces =
-        (NAMESPACES_AT..lampfunnel::TABLE_WORDS).step_by(NAMESPACE_WORDS).map(|at| at..at + NAMESPACE_WORDS);
-    processes.chain(namespaces)
-}
-
-/// Empties records as long as the checks still differ.
-fn shrink(mut words: Vec<u32>) -> Vec<u32> {
-    for record in records() {
-        let mut fewer = words.clone();
+/// Empties records as long as there is still a difference.
+fn shrink(mut all: Bytes, slot: u32) -> Bytes {
+    for record in OF_PROCESSES.all().chain(OF_NAMESPACES.all()) {
+        let mut fewer = all;
         fewer[record].fill(0);
-        if agree(&fewer).is_none() {
-            words = fewer;
+        if agree(&fewer, slot).is_none() {
+            all = fewer;
         }
     }
-    words
+    all
 }
 
-/// The records that are not all zero, and the verdicts.
-fn shown(words: &[u32]) -> String {
-    let mut text: String = records()
-        .filter(|record| words[record.clone()].iter().any(|&w| w != 0))
-        .map(|record| format!("  words from {}: {:?}\n", record.start, &words[record.clone()]))
-        .collect();
-    let t = table(words);
-    text += &format!(
-        "  proved: {:?}, reference: {}, its quick check: {}",
-        lampfunnel::is_sound(words),
-        sound::is_sound(&t),
-        quick::is_sound(&t)
-    );
-    text
+/// The fields that are not 0, and the verdicts.
+fn shown(all: &Bytes, slot: u32) -> String {
+    let records = [OF_PROCESSES, OF_NAMESPACES].into_iter().flat_map(|of| (0..of.number).map(move |k| (of, k)));
+    let mut text: String = records.filter_map(|(of, k)| record_text(of, k, &all[of.record(k)])).collect();
+    let ([library, reference, quick], [next, expected]) = verdicts(all, slot);
+    text += &format!("  sound: {library} by the library, {reference} by the reference, {quick} by its quick check\n");
+    text + &format!("  the next number of namespace {slot}: {next} by the library, {expected} by the reference")
+}
+
+/// A line of a record that is not all zero.
+fn record_text(of: Records, slot: usize, record: &[u8]) -> Option<String> {
+    let values =
+        fields(&of).into_iter().map(|field| (field.value(record), field.name)).filter(|(value, _)| *value != 0);
+    let values: Vec<String> = values.map(|(value, name)| format!("{name} {value}")).collect();
+    (!values.is_empty()).then(|| format!("  {} {slot}: {}\n", of.name, values.join(", ")))
 }

@@ -35,8 +35,10 @@ const ECHILD: Refusal = -10;
 const ENOSPC: Refusal = -28;
 const ENOMEM: Refusal = -12;
 const EAGAIN: Refusal = -11;
-const UNSOUND: Refusal = -1000;
+pub const UNSOUND: Refusal = -1000;
 const NOT_RUNNING: Refusal = -1001;
+/// A host's request has a number that no call has.
+pub const NO_CALL: Refusal = -1002;
 
 const SIGKILL: u8 = 9;
 const SIGCONT: u8 = 18;
@@ -111,9 +113,9 @@ impl Table {
     }
 
     /// Those in the subtree of a namespace, with their numbers there.
-    fn seen_from(&self, n: u8) -> impl Iterator<Item = (u8, u16)> + '_ {
+    pub fn seen_from(&self, n: u8) -> impl Iterator<Item = (u8, u16)> + '_ {
         let level = self.namespaces[n as usize].level as usize;
-        self.each_process().filter(move |(_, p)| self.below(p.own, n)).map(move |(i, p)| (i, p.pids[level]))
+        self.each_process().filter(move |(_, p)| self.below(p.own, n)).map(move |(i, p)| (i, p.pid(level)))
     }
 
     /// The process of a number in the caller's namespace.
@@ -122,14 +124,19 @@ impl Table {
         self.seen_from(self.processes[c as usize].own).find(|&(_, k)| k == pid).map(|(i, _)| i)
     }
 
-    /// The lowest free number above the last one, else the lowest free from 300. It becomes the last.
-    fn take_number(&mut self, n: u8) -> u16 {
-        let last = self.namespaces[n as usize].last;
+    /// The lowest free number above the last one, else the lowest free from 300. Safe on any table.
+    pub fn next_number(&self, n: u8) -> u16 {
+        let last = self.namespaces[n as usize].last.min(MAX_PID);
         let held: Vec<u16> = self.seen_from(n).map(|(_, pid)| pid).collect();
-        let pid = (last + 1..=MAX_PID)
+        (last + 1..=MAX_PID)
             .chain(300..=MAX_PID)
             .find(|pid| !held.contains(pid))
-            .expect("64 processes cannot hold every number");
+            .expect("64 processes cannot hold every number")
+    }
+
+    /// Gives that number, which becomes the last.
+    fn take_number(&mut self, n: u8) -> u16 {
+        let pid = self.next_number(n);
         self.namespaces[n as usize].last = pid;
         pid
     }

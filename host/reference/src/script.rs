@@ -40,6 +40,23 @@ pub fn parse(line: &[u8]) -> Option<(u8, Call)> {
     Some((slot, call))
 }
 
+/// The words of a call, which `parse` reads after a slot.
+pub fn call_text(call: Call) -> String {
+    match call {
+        Call::Clone => "clone".into(),
+        Call::CloneNew => "clone new".into(),
+        Call::Unshare => "unshare".into(),
+        Call::Setns(n) => format!("setns {n}"),
+        Call::Kill(n, s) => format!("kill {n} {s}"),
+        Call::Exit(s) => format!("exit {s}"),
+        Call::Wait => "wait".into(),
+        Call::Getpid => "getpid".into(),
+        Call::Getppid => "getppid".into(),
+        Call::Handle(s, on) => format!("handle {s} {}", u8::from(on)),
+        Call::Poll => "poll".into(),
+    }
+}
+
 /// The text of an answer, without its line feed.
 pub fn answer_text(answer: Result<Answer, Refusal>) -> String {
     match answer {
@@ -74,6 +91,7 @@ pub fn run(table: &mut Table, script: &[u8]) -> String {
 #[cfg(test)]
 mod tests {
     use super::*;
+    use crate::turns::Request;
 
     #[test]
     fn ten_lines_of_document_01() {
@@ -81,6 +99,13 @@ mod tests {
             b"0 clone new\n1 getpid\n1 getppid\n1 clone\n2 kill 1 9\n0 kill 2 9\n0 kill 3 0\n0 wait\n0 wait\n0 clone";
         let answers = "2\n1\n0\n2\n0\n0\n-3\n2 signal 9\n-10\n4\n";
         assert_eq!(run(&mut Table::fresh(), script), answers);
+    }
+
+    #[test]
+    fn words_of_calls() {
+        for call in (1..=12).filter_map(|call| Request { call, a: -7, b: 31, c: 0 }.call()) {
+            assert_eq!(parse(format!("63 {}", call_text(call)).as_bytes()), Some((63, call)));
+        }
     }
 
     #[test]

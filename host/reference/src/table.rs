@@ -41,6 +41,11 @@ impl Process {
         self.pids[0] != 0
     }
 
+    /// Its number at a level, or 0.
+    pub fn pid(&self, level: usize) -> u16 {
+        self.pids.get(level).copied().unwrap_or(0)
+    }
+
     pub fn has_ended(&self) -> bool {
         matches!(self.state, State::Ended(_))
     }
@@ -84,9 +89,13 @@ pub struct Table {
 }
 
 impl Table {
+    /// Nobody and nothing: all bytes of it are 0.
+    pub const EMPTY: Table =
+        Table { processes: [Process::EMPTY; PROCESSES], namespaces: [Namespace::EMPTY; NAMESPACES] };
+
     /// The root init alone, running, children's namespace the root, last number 1.
     pub fn fresh() -> Table {
-        let mut t = Table { processes: [Process::EMPTY; PROCESSES], namespaces: [Namespace::EMPTY; NAMESPACES] };
+        let mut t = Table::EMPTY;
         t.processes[0].parent = NONE;
         t.processes[0].pids[0] = 1;
         t.namespaces[0] = Namespace { parent: NONE, level: 0, last: 1, life: Life::Alive(0) };

@@ -3,6 +3,8 @@
 
 use crate::random::Random;
 use crate::writer::Writer;
+use reference::calls::Call;
+use reference::script::parse;
 use reference::table::{State, Table, DEEPEST};
 
 /// What a kind of script is made of: how often each call is drawn, and how full the table is kept.
@@ -24,6 +26,16 @@ pub struct Kind {
 impl Kind {
     const fn new(name: &'static str, weights: [usize; 12], keep: usize, bad: usize) -> Kind {
         Kind { name, weights, keep, bad, deep: false, signals: &[] }
+    }
+
+    /// Whether the line at a place, from 0 on, is one of the chain at the start.
+    pub fn in_chain(&self, place: usize) -> bool {
+        self.deep && place < DEEPEST as usize
+    }
+
+    /// A call that a script of the kind, not in its chain, goes on with.
+    pub fn call(&self, t: &Table, random: &mut Random) -> (u8, Call) {
+        parse(good_line(self, t, random).as_bytes()).expect("a good line is a call")
     }
 }
 
@@ -82,9 +94,8 @@ const BAD_LINES: [&str; 32] = [
 pub fn script(kind: &Kind, seed: u64, lines: usize) -> Vec<u8> {
     let mut writer = Writer::from_seed(seed);
     for k in 0..lines {
-        let in_chain = kind.deep && k < DEEPEST as usize;
         let random = &mut writer.random;
-        let good = if in_chain { format!("{k} clone new") } else { good_line(kind, &writer.table, random) };
+        let good = if kind.in_chain(k) { format!("{k} clone new") } else { good_line(kind, &writer.table, random) };
         let bad = kind.bad != 0 && random.one_in(kind.bad);
         let line = if bad { bad_line(&good, random) } else { good };
         writer.line(&line);

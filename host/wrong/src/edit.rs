@@ -1,6 +1,7 @@
 //! An edit, in the form of `crates/*/must-fail/*.edit`: `file:` names a file, from `host/` on, for the pairs of `old:`
-//! and `new:` after it, and an old text stands there once. `kind:` may name the one kind of script that is to tell it.
-//! Other lines are remarks.
+//! and `new:` after it, and an old text stands there once. `by:` may say which comparison alone is to tell it, that of
+//! `scripts`, `calls` or `tables`; without it scripts and calls are. `kind:` may name the one kind of script. Other
+//! lines are remarks.
 
 use std::fs;
 use std::path::Path;
@@ -13,6 +14,7 @@ struct Pair {
 
 pub struct Edit {
     pub name: String,
+    pub by: Option<String>,
     pub kind: Option<String>,
     pairs: Vec<Pair>,
 }
@@ -21,9 +23,11 @@ impl Edit {
     pub fn read(path: &Path) -> Result<Edit, String> {
         let name = path.file_stem().unwrap_or_default().to_string_lossy().into_owned();
         let text = fs::read_to_string(path).map_err(|e| format!("{name}: {e}"))?;
-        let (mut kind, mut file, mut old, mut pairs) = (None, "", "", Vec::new());
+        let (mut by, mut kind, mut file, mut old, mut pairs) = (None, None, "", "", Vec::new());
         for line in text.lines() {
-            if let Some(after) = line.strip_prefix("kind: ") {
+            if let Some(after) = line.strip_prefix("by: ") {
+                by = Some(after.into());
+            } else if let Some(after) = line.strip_prefix("kind: ") {
                 kind = Some(after.into());
             } else if let Some(after) = line.strip_prefix("file: ") {
                 file = after;
@@ -37,7 +41,12 @@ impl Edit {
         if pairs.is_empty() {
             return Err(format!("{name}: it changes nothing"));
         }
-        Ok(Edit { name, kind, pairs })
+        Ok(Edit { name, by, kind, pairs })
+    }
+
+    /// Whether a comparison is to tell it.
+    pub fn is_for(&self, comparison: &str) -> bool {
+        self.by.as_deref().map_or(comparison != "tables", |by| by == comparison)
     }
 
     /// Changes the files below a folder.

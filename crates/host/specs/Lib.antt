@@ -1,3 +1,0 @@
--- What a host is told.
-pub mod Run
-pub mod Verdict
