@@ -23,7 +23,6 @@ use Rattle.table.specs.Tests.{if_then_else_, changed-to}
 use Rattle.table.specs.declared.Life.{Life}
 use Rattle.table.specs.declared.Life.the-variants.{Unborn, Alive, Dead}
 use Rattle.table.specs.declared.Namespace.{Namespace}
-use Rattle.table.specs.declared.NsSlot.{NsSlot}
 use Rattle.table.specs.declared.Pid.{Pid}
 use Rattle.table.specs.declared.Process.{Process}
 use Rattle.table.specs.declared.Table.{Table}
@@ -32,7 +31,6 @@ use Rattle.table.specs.Fresh.{empty-process}
 use Rattle.table.specs.Records.{to-pid}
 use Rattle.table.specs.Traits.{born-traits}
 use Rattle.table.specs.declared.Traits.{Traits}
-use Rattle.tree.specs.Tree.{slot-in}
 
 -- ---- the child's numbers
 
@@ -169,15 +167,15 @@ walk-starts t child n s e =
       joins = ap (λ k. joins-on (view t) child k n (t .namespaces)) q;
     }
 
--- the callees' results: the number, the numbers and the namespaces with it, and the parent
-module _ (t : Table) (child n left at : ℕ) (ps : List Pid) (ns : List Namespace) (up : List NsSlot) (pid : Pid) (ps' : List Pid) (ns' : List Namespace) (m : ℕ) where
-  pub walk-goes-on : Walking t child n left at ps ns → 0 < left → pid .0 ≡ next-pid (view t) at → ps' ≡ set ps (left - 1) pid
-      → ns' ≡ set ns at (joined-by child (pid .0) (getD ns at no-namespace)) → slot-in up ≡ view t .up → m ≡ slot-in up at
-      → Walking t child n (left - 1) m ps' ns'
+-- the callees' results: the namespace at `at`, the number, and the numbers and the namespaces with it
+module _ (t : Table) (child n left at : ℕ) (ps : List Pid) (ns : List Namespace) (s : Namespace) (pid : Pid) (ps' : List Pid) (ns' : List Namespace) where
+  pub walk-goes-on : Walking t child n left at ps ns → 0 < left → s ≡ namespace t at → pid .0 ≡ next-pid (view t) at → ps' ≡ set ps (left - 1) pid
+      → ns' ≡ set ns at (joined-by child (pid .0) (getD ns at no-namespace))
+      → Walking t child n (left - 1) (s .parent .0) ps' ns'
   unfolding numbers-on joins-on
-  walk-goes-on w h p q r u e =
+  walk-goes-on w h e p q r =
       let z : left ≡ suc (left - 1) = omega arith in
-      let f : m ≡ view t .up at = e ∙ ap (λ (g : ℕ → ℕ). g at) u in
+      let f : s .parent .0 ≡ view t .up at = ap (λ (x : Namespace). x .parent .0) e in
       let q' : ps' ≡ set ps (left - 1) (to-pid (next-pid (view t) at)) = q ∙ ap (λ k. set ps (left - 1) (to-pid k)) p in
       let r' : ns' ≡ set ns at (joined-by child (next-pid (view t) at) (getD ns at no-namespace)) = r ∙ ap (λ k. set ns at (joined-by child k (getD ns at no-namespace))) p in
       record {

@@ -1,19 +1,24 @@
 // A birth, of clone: the child's record, its number at each level, and what it changes in its namespace and in those
 // above. And a new namespace, of clone and unshare. Each takes the slot that its caller has found free.
+use numbers::MARKS;
 use numbers::next_pid;
+use numbers::place_above;
+use numbers::unmarked_above;
 use table::LEVELS;
 use table::Life;
 use table::NAMESPACE_SLOTS;
 use table::Namespace;
 use table::NsSlot;
+use table::PROCESS_SLOTS;
 use table::Pid;
 use table::ProcSlot;
 use table::Process;
 use table::State;
 use table::Table;
 use table::Traits;
-use tree::parent_of;
-use tree::ups;
+use table::empty_namespace;
+use tree::levels;
+use tree::parents;
 ghost use mathlib.Core.Path.{_≡_};
 ghost use lib.ListN.{getD, set};
 ghost use Rattle.table.specs.Slots.{no-namespace};
@@ -79,27 +84,55 @@ fn joined_at(
 
 // ---- the table
 
+// The record of a namespace; past the last slot an empty one.
+fn record_of(namespaces: [Namespace; NAMESPACE_SLOTS], slot: NsSlot) -> Namespace
+    ensures { λ r. ⌜ r ≡ getD namespaces (slot .0) no-namespace ⌝ }
+{
+    let k = slot.0 as usize;
+    if k >= NAMESPACE_SLOTS {
+        return empty_namespace();
+    }
+    namespaces[k]
+}
+
 // A child of the caller is born into n, at a slot. One search for each level gives the child's number there and the
-// new last number of the namespace; all of them are made on the table as it was.
+// new last number of the namespace; all of them are made on the table as it was. The search by marks stands here and not
+// behind a call, since a call would copy the table at each level.
 pub fn birth(t: Table, slot: ProcSlot, caller: ProcSlot, n: NsSlot) -> Table
     ensures { λ r. ⌜ r ≡ birth-at t (slot .0) (caller .0) (n .0) ⌝ }
 {
-    let mut namespaces = t.namespaces;
-    let up = ups(namespaces);
+    let before = t.namespaces;
+    let up = parents(before);
+    let levels = levels(before);
+    let mut namespaces = before;
     let mut pids = [Pid(0); LEVELS];
     let mut at = n;
-    let mut left = t.namespace(n).level as usize + 1;
+    let mut left = record_of(before, n).level as usize + 1;
     while 0 < left {
         left -= 1;
-        let pid = next_pid(t, at);
+        let here = record_of(before, at);
+        let mut known = [false; NAMESPACE_SLOTS];
+        let mut marks = [false; MARKS];
+        let mut i: usize = 0;
+        while i < PROCESS_SLOTS {
+            let p = t.processes[i];
+            let place = place_above(&up, &levels, &mut known, at, here.level, here.last.0, p);
+            if place < MARKS {
+                marks[place] = true;
+            }
+            i += 1;
+        }
+        let mut pid = unmarked_above(&marks, here.last.0);
+        if pid.0 == 0 {
+            pid = next_pid(t, at);
+        }
         let numbered = with_pid(pids, left, pid);
         pids = numbered;
         let changed = joined_at(namespaces, at, slot, pid);
         namespaces = changed;
-        at = parent_of(up, at);
+        at = here.parent;
     }
-    let p = t.process(caller);
-    let traits = p.traits;
+    let traits = t.process(caller).traits;
     let mut u = t.with_process(slot, newborn(caller, n, traits.born(), pids));
     u.namespaces = namespaces;
     u

@@ -1,3 +1,6 @@
 -- Laws that belong to no one function.
 pub mod Choice
 pub mod Found
+pub mod Marking
+pub mod Places
+pub mod Window

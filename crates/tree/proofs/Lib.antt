@@ -1,4 +1,5 @@
 -- Laws that belong to no one function.
 pub mod Climbs
+pub mod Knowing
 pub mod Marks
 pub mod Sights

@@ -74,7 +74,8 @@ fn call_from_c(table: &mut raw::Table, caller: u32, request: raw::Request, answe
     assert_eq!(told, CALLS);
 }
 
-fn number(answer: Result<Answer, Refusal>) -> Option<i32> {
+/// What a call that removes nobody is told.
+pub fn number(answer: Result<Answer, Refusal>) -> Option<i32> {
     match answer {
         Ok(Answer::Number(n)) => Some(n.into()),
         Ok(Answer::Reaped(..)) => None,

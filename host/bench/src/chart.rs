@@ -54,7 +54,11 @@ pub fn svg(caption: &str, groups: &[Group]) -> String {
 
 fn bar(y: usize, name: &str, value: f64, group: &Group) -> String {
     let length = (LONGEST * value / group.greatest()).max(1.0);
-    let colour = if name.contains("Rust") || name.contains("reference") { "#9aa7b5" } else { "#2f6f9f" };
+    let colour = match name {
+        _ if name.contains("Rust") || name.contains("reference") => "#9aa7b5",
+        _ if name.ends_with("before") => "#86b1cf",
+        _ => "#2f6f9f",
+    };
     format!(
         "<text x=\"20\" y=\"{y}\">{name}</text>\
          <rect x=\"{NAMES}\" y=\"{}\" width=\"{length:.0}\" height=\"14\" fill=\"{colour}\"/>\

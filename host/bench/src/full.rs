@@ -1,4 +1,4 @@
-//! Full tables, and tables as the library has them.
+//! Full tables and almost full ones, and tables as the library has them.
 
 use lampfunnel::raw;
 use reference::mirror::{bytes, Bytes};
@@ -6,17 +6,31 @@ use reference::script::run;
 use reference::table::{Table, PROCESSES};
 use std::mem::transmute;
 
-/// The lines that fill a table: 64 processes in a chain of namespaces from the root to a level, the rest of them in the
+/// The lines of so many births: a chain of namespaces from the root to a level, and the rest of the processes in the
 /// deepest. The init of each namespace has the slot of its level.
-pub fn filling(level: u8) -> String {
+fn births(level: u8, count: usize) -> String {
     let line = |slot: u8| if slot < level { format!("{slot} clone new\n") } else { format!("{level} clone\n") };
-    (0..PROCESSES as u8 - 1).map(line).collect()
+    (0..count as u8).map(line).collect()
+}
+
+/// The lines that fill a table so.
+pub fn filling(level: u8) -> String {
+    births(level, PROCESSES - 1)
 }
 
 pub fn full_table(level: u8) -> Table {
     let mut t = Table::fresh();
     run(&mut t, filling(level).as_bytes());
     assert_eq!(t.each_process().count(), PROCESSES);
+    t
+}
+
+/// A table with such a chain and one free slot. In the root the numbers come after a last one.
+pub fn with_room(level: u8, last: u16) -> Table {
+    let mut t = Table::fresh();
+    t.namespaces[0].last = last;
+    run(&mut t, births(level, PROCESSES - 2).as_bytes());
+    assert_eq!(t.each_process().count(), PROCESSES - 1);
     t
 }
 

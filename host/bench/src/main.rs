@@ -5,14 +5,24 @@
 //!     cargo run --release --offline -p bench
 //!
 //! With the name of a file, `-- ../docs/benchmark.svg`, it draws the figures there too. With `-- calls`, and a file or
-//! none after it, it times single calls alone.
+//! none after it, it times single calls alone; with `-- search`, and a file or none, the search for a number alone.
+//!
+//! The search is timed beside a function that searches as the library did before. To time that library itself beside
+//! the one of now, and a clone with it, build it from its commit, and name the folder that it is in as this is built:
+//!
+//!     git worktree add ../before COMMIT && (cd ../before && rt staticlib lampfunnel)
+//!     (cd host && LAMPFUNNEL_BEFORE_DIR=$PWD/../../before/target/staticlib cargo run --release --offline -p bench)
 
+mod before;
 mod calls;
 mod chart;
 mod checks;
+mod clones;
 mod full;
+mod libraries;
 mod programs;
 mod search;
+mod taken;
 mod timing;
 
 use chart::Group;
@@ -23,13 +33,13 @@ use std::{env, fs, io};
 fn main() -> io::Result<()> {
     println!("machine: {}", machine());
     let mut words = env::args().skip(1).peekable();
-    let calls_alone = words.next_if(|word| word == "calls").is_some();
+    let alone = words.next_if(|word| word == "calls" || word == "search");
     let mut figures = Figures::default();
-    if !calls_alone {
-        figures.time_scripts()?;
-        figures.time_parts();
+    match alone.as_deref() {
+        Some("calls") => figures.time_calls(),
+        Some(_) => figures.time_search(),
+        None => figures.time_all()?,
     }
-    figures.time_calls();
     for group in &figures.groups {
         print!("\n{group}");
     }
@@ -53,6 +63,14 @@ impl Figures {
         self.ratios += ratio;
     }
 
+    fn time_all(&mut self) -> io::Result<()> {
+        self.time_scripts()?;
+        self.time_checks();
+        self.time_search();
+        self.time_calls();
+        Ok(())
+    }
+
     fn time_scripts(&mut self) -> io::Result<()> {
         for kept in &SCRIPTS {
             let script = kept.script();
@@ -65,11 +83,14 @@ impl Figures {
         Ok(())
     }
 
-    fn time_parts(&mut self) {
+    fn time_checks(&mut self) {
         for level in [7, DEEPEST] {
             let full = checks::Full::to_level(level);
             self.add(full.group(), &full.ratio());
         }
+    }
+
+    fn time_search(&mut self) {
         let searches = search::run();
         self.add(searches.group(), &searches.ratio());
     }
@@ -79,6 +100,7 @@ impl Figures {
             let calls = calls::Calls::to_level(level);
             self.add(calls.group(), &calls.ratio());
         }
+        self.add(clones::run(), "");
     }
 }
 

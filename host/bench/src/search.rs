@@ -1,65 +1,94 @@
-//! The search for a number: past 62 taken ones, and where the first candidate is free, in tables that differ in the
-//! last number alone.
+//! The search for a number, now and as it was before it marked the numbers that are taken: the library's, that of the
+//! library before where it is linked, and the function that is kept of it.
 
+use crate::before;
 use crate::chart::Group;
-use crate::checks::damage;
-use crate::full::kept;
-use crate::group;
-use crate::timing::{best, nanoseconds, SHORT_ROUNDS};
-use lampfunnel::{NamespaceSlot, Pid};
-use reference::sound::is_sound;
-use reference::table::{Process, Table, LEVELS, MAX_PID};
+use crate::libraries::{Library, BEFORE, NOW};
+use crate::taken::{cases, Case};
+use crate::timing::{best_each, nanoseconds, SHORT_ROUNDS};
 use std::hint::black_box;
 
 /// So many searches in a round.
-const SEARCHES: usize = 20_000;
+const SEARCHES: usize = 5_000;
 
-/// Nanoseconds of a search.
-pub struct Searches {
-    past_taken: f64,
-    first_free: f64,
+/// Nanoseconds of a search in one table.
+struct Times {
+    name: &'static str,
+    now: f64,
+    before: Option<f64>,
+    in_rust: f64,
 }
 
-/// 63 processes: the root init, and 62 that hold the numbers from 300 on.
-fn table(last: u16) -> lampfunnel::Table {
-    let mut t = Table::fresh();
-    for slot in 1..=62 {
-        let mut pids = [0; LEVELS];
-        pids[0] = 299 + slot as u16;
-        t.processes[slot] = Process { pids, ..Process::EMPTY };
+/// The first is that whose first candidate is free.
+pub struct Searches(Vec<Times>);
+
+fn search(library: &Library, case: &Case) {
+    let next = || unsafe { (library.next_pid)(*black_box(&case.kept), 0) };
+    assert!((0..SEARCHES).all(|_| next() == case.answer), "{}", case.name);
+}
+
+/// A library reads the table from the host's bytes first. That is timed as in `checks`, and taken off.
+fn read(library: &Library, case: &Case) {
+    let sound = || unsafe { (library.sound)(*black_box(&case.damaged)) };
+    assert!((0..SEARCHES).all(|_| !sound()), "{}", case.name);
+}
+
+fn search_in_rust(case: &Case) {
+    let next = || before::next_pid(black_box(&case.table), black_box(0));
+    assert!((0..SEARCHES).all(|_| next() == case.answer), "{}", case.name);
+}
+
+/// What `Times` takes. Where no library from before is linked its runs do nothing.
+fn runs(case: &Case) -> [Box<dyn FnMut() + '_>; 5] {
+    [
+        Box::new(|| search(&NOW, case)),
+        Box::new(|| read(&NOW, case)),
+        Box::new(|| BEFORE.iter().for_each(|library| search(library, case))),
+        Box::new(|| BEFORE.iter().for_each(|library| read(library, case))),
+        Box::new(|| search_in_rust(case)),
+    ]
+}
+
+impl Times {
+    fn new(name: &'static str, times: &[f64]) -> Times {
+        let &[now, reading, before, reading_before, in_rust] = times else { panic!("one time for each run") };
+        Times { name, now: now - reading, before: BEFORE.map(|_| before - reading_before), in_rust }
     }
-    t.namespaces[0].last = last;
-    assert!(is_sound(&t));
-    lampfunnel::Table::from_raw(kept(&t))
+
+    fn bars(&self) -> impl Iterator<Item = (String, f64)> + '_ {
+        let times = [("now", Some(self.now)), ("before", self.before), ("in Rust", Some(self.in_rust))];
+        times.into_iter().filter_map(|(whose, time)| Some((format!("{}: {whose}", self.name), time?)))
+    }
 }
 
-/// Times the searches. Reading a table from the host's bytes is taken off; it is timed as in `checks`.
+/// Times all of them in turns.
 pub fn run() -> Searches {
-    let search = |t: &lampfunnel::Table| {
-        assert!((0..SEARCHES).all(|_| black_box(t).next_pid(NamespaceSlot::ROOT) == Some(Pid(362))));
-    };
-    let (round, next) = (table(MAX_PID), table(361));
-    let damaged = damage(&next);
-    let [past_taken, first_free, reading] = best(
-        SHORT_ROUNDS,
-        [&mut || search(&round), &mut || search(&next), &mut || {
-            assert!((0..SEARCHES).all(|_| !black_box(&damaged).is_sound()))
-        }],
-    )
-    .map(|time| nanoseconds(time, SEARCHES));
-    Searches { past_taken: past_taken - reading, first_free: first_free - reading }
+    let cases = cases();
+    let mut runs: Vec<_> = cases.iter().flat_map(runs).collect();
+    let times: Vec<f64> =
+        best_each(SHORT_ROUNDS, &mut runs).into_iter().map(|time| nanoseconds(time, SEARCHES)).collect();
+    let each = times.chunks(times.len() / cases.len());
+    Searches(cases.iter().zip(each).map(|(case, times)| Times::new(case.name, times)).collect())
 }
 
 impl Searches {
     pub fn group(&self) -> Group {
-        let bars = [("past 62 taken numbers", self.past_taken), ("the first candidate is free", self.first_free)];
-        group("Search for a number, 63 processes (less is better)", "ns", &bars)
+        let title = "Search for a number, 63 processes (less is better)".into();
+        Group { title, unit: "ns", bars: self.0.iter().flat_map(Times::bars).collect() }
     }
 
     pub fn ratio(&self) -> String {
+        let (first, past) = self.0.split_first().expect("there are several");
+        let slowest = past.iter().max_by(|a, b| a.now.total_cmp(&b.now)).expect("there are several");
+        let (free, when) = match first.before {
+            Some(time) => (time, "took in the library before"),
+            None => (first.now, "takes"),
+        };
         format!(
-            "ratio: a search past 62 taken numbers takes {:.1} times as long as one whose first candidate is free\n",
-            self.past_taken / self.first_free
+            "ratio: the slowest search past 62 taken numbers ({}) takes {:.2} times as long as one whose first candidate \
+             is free {when}\n",
+            slowest.name,
+            slowest.now / free
         )
     }
 }

@@ -38,7 +38,12 @@ fn processor_time() -> Duration {
 
 /// The least processor time of each run over all rounds.
 pub fn best<const N: usize>(rounds: usize, mut runs: [&mut dyn FnMut(); N]) -> [Duration; N] {
-    let mut least = [Duration::MAX; N];
+    best_each(rounds, &mut runs).try_into().expect("a time for each run")
+}
+
+/// The same for any number of runs.
+pub fn best_each(rounds: usize, runs: &mut [impl FnMut()]) -> Vec<Duration> {
+    let mut least = vec![Duration::MAX; runs.len()];
     for _ in 0..rounds {
         for (run, least) in runs.iter_mut().zip(&mut least) {
             let start = processor_time();

@@ -1,21 +1,24 @@
 //! One call at a time, by the library and by the reference. A round is a walk from the fresh table, as a kind of script
-//! goes, with odd callers, requests and arguments between; and from its tables short ways off, on damaged copies.
+//! goes, with odd callers, requests and arguments between; and from its tables short ways off, on damaged copies, and
+//! with births past long runs of numbers.
 
 use crate::damage::{self, kinds, BROAD};
 use crate::difference::again;
 use crate::fields::{value_at, OF_NAMESPACES};
 use crate::library;
+use crate::runs::{chain, crowd_path};
+use crate::searches::{Searches, OF_BIRTHS};
 use crate::tally::Tally;
 use crate::walks::{changes, shown, shrunk, Pair, Step};
 use reference::calls::Call;
-use reference::mirror::{bytes, table};
-use reference::table::{Life, Table, LEVELS, MAX_PID, PROCESSES};
-use reference::turns::Request;
+use reference::mirror::{bytes, table, Bytes};
+use reference::table::{Life, Process, State, Table, LEVELS, MAX_PID, PROCESSES};
+use reference::turns::{Reply, Request};
 use scripts::generate::{Kind, KINDS};
 use scripts::random::Random;
 
 /// As many calls, and some to the end of the last round, where nothing else is said.
-pub const CALLS: usize = 240_000;
+pub const CALLS: usize = 245_500;
 
 /// Numbers of requests that no call has, though their low bits may be those of one.
 const NO_CALLS: [u32; 9] = [0, 13, 14, 255, 256, 65_536, 1 << 31, u32::MAX - 12, u32::MAX];
@@ -51,19 +54,31 @@ pub fn hold(seed: u64, calls: usize) -> Result<(), String> {
         return Err(format!("calls, seed {seed}: the fresh tables differ"));
     }
     let kinds = kinds();
-    let mut seen = Tally::default();
+    let mut seen = Seen { calls: Tally::default(), births: Searches::none(&OF_BIRTHS) };
     let mut at = seed;
-    while seen.calls() < calls {
+    while seen.calls.calls() < calls {
         Round::from_seed(at, &kinds).play(&mut seen).map_err(|walk| told(at, &walk))?;
         at = at.wrapping_add(1);
     }
-    println!("{seen}");
+    println!("{}\n{}", seen.calls, seen.births);
     if calls >= CALLS {
         let again = again(&format!("calls --seed {seed}"));
         seen.is_whole().map_err(|missing| format!("calls, seed {seed}: {missing}\n{again}"))?;
     }
-    println!("compare: {} calls in {} rounds, no difference", seen.calls(), at.wrapping_sub(seed));
+    println!("compare: {} calls in {} rounds, no difference", seen.calls.calls(), at.wrapping_sub(seed));
     Ok(())
+}
+
+/// The calls of a run, and the births among them that must pass long runs of numbers.
+struct Seen {
+    calls: Tally,
+    births: Searches,
+}
+
+impl Seen {
+    fn is_whole(&self) -> Result<(), String> {
+        self.calls.is_whole().and(self.births.is_whole())
+    }
 }
 
 /// A walk on which there is a difference.
@@ -82,22 +97,28 @@ struct Round<'a> {
     kind: &'static Kind,
     damage: &'a [damage::Kind],
     random: Random,
+    /// for the births past long runs, so that walks do not depend on them
+    for_births: Random,
     pair: Pair,
     walk: Vec<Step>,
 }
 
 impl Round<'_> {
     fn from_seed(seed: u64, damage: &[damage::Kind]) -> Round<'_> {
-        Round { kind: kind_of(seed), damage, random: Random::from_seed(seed), pair: Pair::fresh(), walk: Vec::new() }
+        let [random, for_births] = [seed, !seed].map(Random::from_seed);
+        Round { kind: kind_of(seed), damage, random, for_births, pair: Pair::fresh(), walk: Vec::new() }
     }
 
     /// Gives the walk to a difference where there is one.
-    fn play(mut self, seen: &mut Tally) -> Result<(), Vec<Step>> {
+    fn play(mut self, seen: &mut Seen) -> Result<(), Vec<Step>> {
         for place in 0..self.random.pick(&[60, 150, 300, 700]) {
             // What calls leave is a table; of other bytes the next call tells.
             let t = table(self.pair.bytes()).unwrap_or(Table::fresh());
             if self.random.one_in(6) {
                 self.go_off(&t, seen)?;
+            }
+            if self.for_births.one_in(60) {
+                self.go_past_runs(&t, seen)?;
             }
             if self.random.one_in(100) {
                 self.wind(t.clone());
@@ -110,27 +131,43 @@ impl Round<'_> {
             self.walk.push(step);
             let before = root_last(&self.pair);
             let reply = self.pair.go(step).map_err(|_| self.walk.clone())?;
-            seen.count(step, reply, false);
-            seen.count_start_again(root_last(&self.pair) < before);
+            seen.calls.count(step, reply, false);
+            seen.calls.count_start_again(root_last(&self.pair) < before);
         }
         Ok(())
     }
 
     /// A few calls on a damaged copy of the table. They are drawn for the table as it is.
-    fn go_off(&mut self, t: &Table, seen: &mut Tally) -> Result<(), Vec<Step>> {
+    fn go_off(&mut self, t: &Table, seen: &mut Seen) -> Result<(), Vec<Step>> {
         let among = if self.random.one_in(3) { BROAD } else { self.damage.len() };
         let damaged = self.damage[self.random.below(among)].of(t, &mut self.random);
-        let mut way = changes(self.pair.bytes(), &damaged);
+        let way = changes(self.pair.bytes(), &damaged);
         if way.is_empty() {
             return Ok(());
         }
-        way.extend((0..self.random.between(1, 4)).map(|_| self.ask(t)));
-        let mut pair = self.pair.clone();
-        for (k, &step) in way.iter().enumerate() {
-            let reply = pair.go(step).map_err(|_| [&self.walk, &way[..=k]].concat())?;
-            seen.count(step, reply, true);
-        }
-        Ok(())
+        let asks: Vec<Step> = (0..self.random.between(1, 4)).map(|_| self.ask(t)).collect();
+        let see = |step, reply, _: &Bytes, _: &Bytes| seen.calls.count(step, reply, true);
+        go_way(self.pair.clone(), &way, &asks, see).map_err(|way| [self.walk.clone(), way].concat())
+    }
+
+    /// A few births on a copy of the table, or on a chain of namespaces from the fresh one, with many processes and
+    /// long runs of numbers in their way.
+    fn go_past_runs(&mut self, t: &Table, seen: &mut Seen) -> Result<(), Vec<Step>> {
+        let random = &mut self.for_births;
+        let is_chain = random.one_in(2);
+        let mut crowded = if is_chain { chain(random) } else { t.clone() };
+        crowd_path(&mut crowded, random);
+        let (walk, pair) = if is_chain { (&[][..], Pair::fresh()) } else { (&self.walk[..], self.pair.clone()) };
+        let way = changes(pair.bytes(), &bytes(&crowded));
+        let births = random.between(1, 3);
+        let asks: Vec<Step> = (0..births).map(|_| a_birth(&crowded, random)).collect();
+        let see = |step, reply, before: &Bytes, after: &Bytes| {
+            seen.calls.count(step, reply, false);
+            if let (Some(before), Some(after)) = (table(before), table(after)) {
+                seen.births.count_birth(&before, &after);
+            }
+        };
+        go_way(pair, &way, &asks, see).map_err(|way| [walk, &way].concat())
     }
 
     /// The numbers of some namespaces are about to start again. A sound table stays sound.
@@ -165,6 +202,33 @@ impl Round<'_> {
         }
         Step::Ask(caller, request)
     }
+}
+
+/// Changes both tables and makes calls, each of which is seen with the table before and after it. Gives the way to a
+/// difference where there is one.
+fn go_way(
+    mut pair: Pair,
+    way: &[Step],
+    asks: &[Step],
+    mut see: impl FnMut(Step, Option<Reply>, &Bytes, &Bytes),
+) -> Result<(), Vec<Step>> {
+    pair.put(way);
+    for (k, &step) in asks.iter().enumerate() {
+        let before = *pair.bytes();
+        let reply = pair.go(step).map_err(|_| [way, &asks[..=k]].concat())?;
+        see(step, reply, &before, pair.bytes());
+    }
+    Ok(())
+}
+
+/// A birth by a running process, every other time by one whose children are born on the deepest level.
+fn a_birth(t: &Table, random: &mut Random) -> Step {
+    let running: Vec<(u8, &Process)> = t.each_process().filter(|(_, p)| p.state == State::Running).collect();
+    let level = |(_, p): &&(u8, &Process)| t.namespaces[p.children as usize].level;
+    let deepest = running.iter().max_by_key(level).copied();
+    let caller = deepest.filter(|_| random.one_in(2)).or((!running.is_empty()).then(|| random.pick(&running)));
+    let call = random.pick(&[Call::Clone, Call::Clone, Call::Clone, Call::CloneNew]);
+    Step::Ask(caller.map_or(0, |(i, _)| i.into()), Request::of(call))
 }
 
 /// The last number of the root.

@@ -15,12 +15,27 @@ pub struct Kind {
     pub name: String,
     /// whether it leaves bytes that no writer makes
     pub is_foreign: bool,
+    /// whether it is for the search, which is asked for the number of each namespace then
+    pub is_search: bool,
     change: Box<Change>,
 }
 
 impl Kind {
     fn new(name: &str, change: impl Fn(&mut Bytes, &Table, &mut Random) + 'static) -> Kind {
-        Kind { name: name.into(), is_foreign: false, change: Box::new(change) }
+        Kind { name: name.into(), is_foreign: false, is_search: false, change: Box::new(change) }
+    }
+
+    /// A kind that changes the table that is written then.
+    fn of_table(name: &str, damage: impl Fn(&mut Table, &mut Random) + 'static) -> Kind {
+        Kind::new(name, move |all, t, random| {
+            let mut t = t.clone();
+            damage(&mut t, random);
+            *all = bytes(&t);
+        })
+    }
+
+    pub fn of_search(name: &str, damage: impl Fn(&mut Table, &mut Random) + 'static) -> Kind {
+        Kind { is_search: true, ..Kind::of_table(name, damage) }
     }
 
     /// The bytes of a damaged table.
@@ -42,13 +57,7 @@ pub fn kinds() -> Vec<Kind> {
         let name = format!("{}: {}", of.name, field.name);
         kinds.push(Kind::new(&name, move |all, t, random| change(all, of, &field, t, random)));
     }
-    kinds.extend(SPECIAL.map(|(name, damage)| {
-        Kind::new(name, move |all, t, random| {
-            let mut t = t.clone();
-            damage(&mut t, random);
-            *all = bytes(&t);
-        })
-    }));
+    kinds.extend(SPECIAL.map(|(name, damage)| Kind::of_table(name, damage)));
     kinds.extend(FOREIGN.map(|foreign| Kind {
         is_foreign: true,
         ..Kind::new(foreign.name, move |all, t, random| foreign.put(all, t, random))

@@ -72,7 +72,7 @@ pub fn fields(of: &Records) -> Vec<Field> {
 }
 
 /// The field of a byte.
-fn field_at(at: usize) -> Field {
+pub fn field_at(at: usize) -> Field {
     let (of, _, byte) = Records::around(at);
     fields(&of).into_iter().find(|field| field.bytes.contains(&byte)).expect("each byte is a field's")
 }

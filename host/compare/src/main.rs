@@ -1,4 +1,5 @@
-//! compare tables [--seed N]: holds the proved check of a table against the reference on damaged tables.
+//! compare tables [--seed N]: holds the proved check of a table, and the proved search for a number, against the
+//! reference on damaged tables and on those with long runs of numbers.
 //! compare scripts RECORDER [--seed N] [--kind KIND]: plays scripts of many kinds, or of one, to a recorder, to the
 //! proved library and to the reference.
 //! compare calls [--seed N] [--calls N]: makes calls one at a time by the proved library and by the reference, on
@@ -19,6 +20,8 @@ mod library;
 mod naming;
 mod playing;
 mod recorder;
+mod runs;
+mod searches;
 mod shrinking;
 mod tables;
 mod tally;

@@ -110,9 +110,10 @@ impl Walked {
     /// Goes a step and takes note of what is born. Gives the step as it is here, and whether it makes a difference.
     fn go(&mut self, named: &Named) -> (Step, bool) {
         let step = self.resolved(named);
-        let before = self.table();
+        // Bytes alone bear nothing, and there may be many.
+        let before = matches!(step, Step::Ask(..)).then(|| self.table());
         let differs = self.pair.go(step).is_err();
-        if matches!(step, Step::Ask(..)) {
+        if let Some(before) = before {
             let after = self.table();
             let line = [&[named.place], &named.slot[..]].concat();
             let is_born = |slot| before.process(slot).is_none() && after.process(slot).is_some();

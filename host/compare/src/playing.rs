@@ -4,6 +4,7 @@ use crate::difference::{again, by_reference, Difference};
 use crate::forms::Seen;
 use crate::recorder::{pieces, play, Answers};
 use crate::Options;
+use scripts::crowds::round_among_many;
 use scripts::generate::{arbitrary, bytes, script, KINDS};
 use scripts::rounds::round;
 use std::process::Command;
@@ -34,6 +35,7 @@ fn kinds() -> Vec<Kind> {
     add("arbitrary bytes", 40, Box::new(|seed, place| arbitrary(place.is_multiple_of(2), seed, 4000)));
     add("short and long", 7, Box::new(|_, place| SHORT_AND_LONG[place as usize - 1].to_vec()));
     add("numbers going round", 1, Box::new(|seed, _| round(seed)));
+    add("numbers going round among many", 1, Box::new(|seed, _| round_among_many(seed)));
     kinds
 }
 

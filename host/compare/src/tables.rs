@@ -1,10 +1,12 @@
 //! Damaged tables: the proved check, the reference and its quick check must agree on each; and so must the two searches
-//! for the number that a namespace gives next.
+//! for the number that a namespace gives next. In tables with long runs of numbers each namespace is asked for it.
 
 use crate::damage::{kinds, Kind};
 use crate::difference::again;
 use crate::fields::{fields, Records, OF_NAMESPACES, OF_PROCESSES};
 use crate::library;
+use crate::runs;
+use crate::searches::{Searches, OF_TABLES};
 use reference::mirror::{bytes, table, Bytes};
 use reference::script::run;
 use reference::table::{Table, DEEPEST, NAMESPACES};
@@ -25,20 +27,34 @@ struct Count {
     sound: usize,
 }
 
-/// What the library, the reference and its quick check say of a table, and the number that a namespace gives next by
-/// the first two.
-type Verdicts = ([bool; 3], [u16; 2]);
-
-fn verdicts(all: &Bytes, slot: u32) -> Verdicts {
-    let quick = table(all).is_some_and(|t| quick::is_sound(&t));
-    let next = [library::next_pid(all, slot), turns::next_pid(all, slot)];
-    ([library::is_sound(all), turns::is_sound(all), quick], next)
+/// What the library, the reference and its quick check say of a table, and the numbers that some namespaces give next
+/// by the first two.
+struct Verdicts {
+    sound: [bool; 3],
+    next: Vec<[u16; 2]>,
 }
 
-/// The verdict where all agree.
-fn agree(all: &Bytes, slot: u32) -> Option<bool> {
-    let ([a, b, c], [m, n]) = verdicts(all, slot);
-    (a == b && b == c && m == n).then_some(a)
+impl Verdicts {
+    fn of(all: &Bytes, slots: &[u32]) -> Verdicts {
+        let quick = table(all).is_some_and(|t| quick::is_sound(&t));
+        let next = slots.iter().map(|&slot| [library::next_pid(all, slot), turns::next_pid(all, slot)]).collect();
+        Verdicts { sound: [library::is_sound(all), turns::is_sound(all), quick], next }
+    }
+
+    /// The verdict where all agree.
+    fn agreed(&self) -> Option<bool> {
+        let [a, b, c] = self.sound;
+        (a == b && b == c && self.odd_one().is_none()).then_some(a)
+    }
+
+    /// The first place among the slots at which the numbers differ.
+    fn odd_one(&self) -> Option<usize> {
+        self.next.iter().position(|[m, n]| m != n)
+    }
+}
+
+fn all_slots() -> Vec<u32> {
+    (0..NAMESPACES as u32).collect()
 }
 
 /// Sound tables of every kind that scripts make.
@@ -55,21 +71,26 @@ fn bases(seed: u64) -> Vec<Table> {
 
 /// Holds tables against the reference and prints how many of each kind; or shows the first one that differs.
 pub fn hold(seed: u64) -> Result<(), String> {
-    let counts = hold_all(seed)
-        .map_err(|(kind, told)| format!("{kind}, seed {seed}: {told}\n{}", again(&format!("tables --seed {seed}"))))?;
+    let told = |(kind, told)| format!("{kind}, seed {seed}: {told}\n{}", again(&format!("tables --seed {seed}")));
+    let mut seen = Searches::none(&OF_TABLES);
+    let counts = hold_all(seed, &mut seen).map_err(told)?;
     report(&counts);
+    println!("{seen}");
+    seen.is_whole().map_err(|missing| told(("tables".into(), missing)))?;
+    let damaged: usize = counts[1..].iter().map(|c| c.tables).sum();
+    println!("compare: {damaged} damaged tables of {} kinds, no difference", counts.len() - 1);
     Ok(())
 }
 
 /// The kind of damage at which tables differ, and what is told of them.
 type Difference = (String, String);
 
-fn hold_all(seed: u64) -> Result<Vec<Count>, Difference> {
+fn hold_all(seed: u64, seen: &mut Searches) -> Result<Vec<Count>, Difference> {
     let bases = bases(seed);
     let mut random = Random::from_seed(seed.wrapping_add(7));
     let mut counts = vec![hold_whole(&bases).map_err(|told| ("no damage".into(), told))?];
-    for kind in kinds() {
-        let count = hold_kind(&kind, &bases, &mut random);
+    for kind in kinds().into_iter().chain(runs::kinds()) {
+        let count = hold_kind(&kind, &bases, &mut random, seen);
         counts.push(count.map_err(|told| (format!("damage '{}'", kind.name), told))?);
     }
     Ok(counts)
@@ -81,29 +102,24 @@ fn hold_whole(bases: &[Table]) -> Result<Count, String> {
     if !deepest || !bases.iter().any(|t| t.each_namespace().count() == NAMESPACES) {
         return Err("no table reaches the deepest level, or has every namespace slot taken".into());
     }
-    let slots = || (0..NAMESPACES as u32).chain(NO_SLOTS);
-    let mut asked = bases.iter().map(bytes).flat_map(|all| slots().map(move |slot| (all, slot)));
-    match asked.find(|(all, slot)| agree(all, *slot) != Some(true)) {
+    let slots = [&all_slots()[..], &NO_SLOTS].concat();
+    let odd = bases.iter().map(bytes).find(|all| Verdicts::of(all, &slots).agreed() != Some(true));
+    match odd.map(|all| (all, odd_slot(&all, &slots))) {
         Some((all, slot)) => Err(format!("a table that calls made is not sound to all:\n{}", shown(&all, slot))),
         None => Ok(Count { kind: "none".into(), tables: bases.len(), sound: bases.len() }),
     }
 }
 
 /// Damages the tables in turn until there are enough that are not what they were.
-fn hold_kind(kind: &Kind, bases: &[Table], random: &mut Random) -> Result<Count, String> {
+fn hold_kind(kind: &Kind, bases: &[Table], random: &mut Random, seen: &mut Searches) -> Result<Count, String> {
     let mut count = Count { kind: kind.name.clone(), tables: 0, sound: 0 };
     for t in bases.iter().cycle().take(100 * OF_EACH_KIND) {
         let damaged = kind.of(t, random);
         if damaged == bytes(t) {
             continue;
         }
-        let slot = slot_to_ask(&bytes(t), &damaged, random);
-        let Some(verdict) = agree(&damaged, slot) else {
-            return Err(format!("a difference:\n{}", shown(&shrink(damaged, slot), slot)));
-        };
-        if verdict && kind.is_foreign {
-            return Err(format!("it is sound to all:\n{}", shown(&damaged, slot)));
-        }
+        let slots = if kind.is_search { all_slots() } else { vec![slot_to_ask(&bytes(t), &damaged, random)] };
+        let verdict = hold_table(kind, &damaged, &slots, seen)?;
         count.tables += 1;
         count.sound += usize::from(verdict);
         if count.tables == OF_EACH_KIND {
@@ -111,6 +127,27 @@ fn hold_kind(kind: &Kind, bases: &[Table], random: &mut Random) -> Result<Count,
         }
     }
     Err("too few tables could be given it".into())
+}
+
+/// The verdict on a table, on which all must agree, and on the numbers of the namespaces at some slots too.
+fn hold_table(kind: &Kind, all: &Bytes, slots: &[u32], seen: &mut Searches) -> Result<bool, String> {
+    let verdicts = Verdicts::of(all, slots);
+    let Some(verdict) = verdicts.agreed() else {
+        let slot = odd_slot(all, slots);
+        return Err(format!("a difference:\n{}", shown(&shrink(*all, slot), slot)));
+    };
+    if verdict && kind.is_foreign {
+        return Err(format!("it is sound to all:\n{}", shown(all, slots[0])));
+    }
+    if let Some(t) = table(all).filter(|_| kind.is_search) {
+        verdicts.next.iter().zip(slots).for_each(|([_, given], &slot)| seen.count(&t, slot as usize, *given));
+    }
+    Ok(verdict)
+}
+
+/// Of some slots the one whose numbers differ, or else the first.
+fn odd_slot(all: &Bytes, slots: &[u32]) -> u32 {
+    slots[Verdicts::of(all, slots).odd_one().unwrap_or(0)]
 }
 
 /// The slot of a namespace whose number is asked for: one that is damaged, any, or one that is none.
@@ -129,8 +166,6 @@ fn report(counts: &[Count]) {
     for count in counts {
         println!("{:40} {:>7} {:>12}", count.kind, count.tables, count.sound);
     }
-    let damaged: usize = counts[1..].iter().map(|c| c.tables).sum();
-    println!("compare: {damaged} damaged tables of {} kinds, no difference", counts.len() - 1);
 }
 
 // ---- a difference
@@ -140,7 +175,7 @@ fn shrink(mut all: Bytes, slot: u32) -> Bytes {
     for record in OF_PROCESSES.all().chain(OF_NAMESPACES.all()) {
         let mut fewer = all;
         fewer[record].fill(0);
-        if agree(&fewer, slot).is_none() {
+        if Verdicts::of(&fewer, &[slot]).agreed().is_none() {
             all = fewer;
         }
     }
@@ -151,7 +186,8 @@ fn shrink(mut all: Bytes, slot: u32) -> Bytes {
 fn shown(all: &Bytes, slot: u32) -> String {
     let records = [OF_PROCESSES, OF_NAMESPACES].into_iter().flat_map(|of| (0..of.number).map(move |k| (of, k)));
     let mut text: String = records.filter_map(|(of, k)| record_text(of, k, &all[of.record(k)])).collect();
-    let ([library, reference, quick], [next, expected]) = verdicts(all, slot);
+    let verdicts = Verdicts::of(all, &[slot]);
+    let ([library, reference, quick], [next, expected]) = (verdicts.sound, verdicts.next[0]);
     text += &format!("  sound: {library} by the library, {reference} by the reference, {quick} by its quick check\n");
     text + &format!("  the next number of namespace {slot}: {next} by the library, {expected} by the reference")
 }

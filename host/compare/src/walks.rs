@@ -1,7 +1,7 @@
 //! A walk: calls from the fresh table on, and bytes that are changed between them. The library and the reference go it
 //! side by side, and all bytes of both tables are compared after each call.
 
-use crate::fields::{name_of, value_at};
+use crate::fields::{field_at, name_of, value_at, Records};
 use crate::library;
 use crate::naming::{named, to_difference, Named};
 use crate::shrinking::Shrinking;
@@ -110,27 +110,52 @@ fn plain(step: Step) -> Step {
     }
 }
 
-/// A walk to its first difference, a line for each step, and the difference.
+/// A walk to its first difference, a line for each call and for each record that is changed, and the difference.
 pub fn shown(walk: &[Step]) -> String {
     let mut pair = Pair::fresh();
     let mut text = "From the fresh table:\n".to_string();
-    for &step in walk {
+    for steps in walk.chunk_by(|a, b| record_of(*a).is_some() && record_of(*a) == record_of(*b)) {
+        let [step @ Step::Ask(caller, request)] = *steps else {
+            pair.put(steps);
+            text += &format!("    {}\n", record_text(pair.bytes(), steps));
+            continue;
+        };
+        let asked = request_text(caller, request);
         match pair.go(step) {
-            Ok(None) => text += &format!("    {}\n", step_text(step)),
-            Ok(Some(reply)) => text += &format!("    {:28} -> {}\n", step_text(step), reply_text(reply)),
-            Err(replies) => return format!("{text}    {}\n{}", step_text(step), pair.difference(replies)),
+            Ok(reply) => text += &format!("    {asked:28} -> {}\n", reply.map_or(String::new(), reply_text)),
+            Err(replies) => return format!("{text}    {asked}\n{}", pair.difference(replies)),
         }
     }
     text + "no difference"
 }
 
-fn step_text(step: Step) -> String {
+/// The record of which a step changes a byte.
+fn record_of(step: Step) -> Option<(&'static str, usize)> {
     match step {
-        Step::Put(at, byte) => format!("byte {at} = {byte} ({})", name_of(at)),
-        Step::Ask(caller, request) => match request.call() {
-            Some(call) if Request::of(call) == request => format!("{caller} {}", call_text(call)),
-            _ => format!("{caller} request {}: {}, {}, {}", request.call, request.a, request.b, request.c),
-        },
+        Step::Ask(..) => None,
+        Step::Put(at, _) => {
+            let (of, slot, _) = Records::around(at);
+            Some((of.name, slot))
+        }
+    }
+}
+
+/// The fields of a record that are changed, as they are then.
+fn record_text(all: &Bytes, changes: &[Step]) -> String {
+    let field = |step: &Step| match *step {
+        Step::Put(at, _) => Some(format!("{} {}", field_at(at).name, value_at(all, at))),
+        Step::Ask(..) => None,
+    };
+    let mut fields: Vec<String> = changes.iter().filter_map(field).collect();
+    fields.dedup();
+    let (name, slot) = changes.first().and_then(|&step| record_of(step)).expect("a record is changed");
+    format!("{name} {slot}: {}", fields.join(", "))
+}
+
+fn request_text(caller: u32, request: Request) -> String {
+    match request.call() {
+        Some(call) if Request::of(call) == request => format!("{caller} {}", call_text(call)),
+        _ => format!("{caller} request {}: {}, {}, {}", request.call, request.a, request.b, request.c),
     }
 }
 

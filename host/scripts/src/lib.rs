@@ -1,5 +1,6 @@
 //! Scripts for the comparison and the benchmark. Each is made from a seed: the same seed gives the same script.
 
+pub mod crowds;
 pub mod generate;
 pub mod kept;
 pub mod random;

@@ -31,4 +31,11 @@ impl Random {
     pub fn pick<T: Copy>(&mut self, of: &[T]) -> T {
         of[self.below(of.len())]
     }
+
+    /// Any order.
+    pub fn shuffle<T>(&mut self, of: &mut [T]) {
+        for left in (1..of.len()).rev() {
+            of.swap(left, self.below(left + 1));
+        }
+    }
 }

@@ -11,10 +11,10 @@ const INNER: u8 = DEEPEST;
 const KEEPER: u8 = DEEPEST + 1;
 
 /// Ends all but the inits, the keeper, and those of its children that live: these handle it.
-const SIGNAL: u8 = 15;
+pub(crate) const SIGNAL: u8 = 15;
 
 /// Numbers start again here.
-const AGAIN: u16 = 300;
+pub(crate) const AGAIN: u16 = 300;
 
 /// When so many children are held no more are by chance, which leaves slots for the others.
 const MANY: usize = 14;
@@ -111,7 +111,7 @@ fn look_up(writer: &mut Writer) {
 }
 
 /// The parent waits for all its children that have ended.
-fn collect(writer: &mut Writer, parent: u8) {
+pub(crate) fn collect(writer: &mut Writer, parent: u8) {
     let ended = writer.table.each_process().filter(|(_, p)| p.parent == parent && p.has_ended()).count();
     for _ in 0..ended {
         writer.line(&format!("{parent} wait"));

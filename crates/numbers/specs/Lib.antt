@@ -1,0 +1,2 @@
+-- What the contracts of `numbers` cite beside the definitions of `rules`.
+pub mod Marks
