@@ -1,18 +1,18 @@
--- The search by marks: m marks say which of the m numbers above a namespace's last are taken. The code has 64 marks; the
--- laws hold of any number of them.
+-- The search by marks: m marks say which of the m numbers above a namespace's last are taken. The code has as many marks
+-- as there are process slots; the laws hold of any number of them.
 use Prim.Native.Nat.{ℕ, _+_, _-_}
 use mathlib.Core.Bool.{Bool, false, not}
 use mathlib.Core.List.{List}
 use lib.Dec.{leb, ltb}
 use lib.ListN.{getD}
-use Rattle.table.specs.Limits.{greatest-pid}
+use Rattle.table.specs.Limits.{process-slots, greatest-pid}
 use Rattle.table.specs.Slots.{pid-at}
 use Rattle.table.specs.Tests.{_and_, if_then_else_, lowest}
 use Rattle.table.specs.declared.Process.{Process}
 use Rattle.tree.specs.Tree.{seen-from}
 
 abbrev pub marks : ℕ
-marks = 64
+marks = process-slots
 
 -- The place of the mark that a process makes: its number at the level l, if that is one of the m above `last` and the
 -- process is seen from n. Else m, where there is no mark.

@@ -58,7 +58,7 @@ fn free_from(t: Table, n: NsSlot, from: Pid) -> Pid
 // ---- by marks (W-202): one pass over the processes tells of MARKS numbers at once which are taken
 
 // As many as there are processes: so they run out only where every process has one of them.
-pub const MARKS: usize = 64;
+pub const MARKS: usize = PROCESS_SLOTS;
 
 // The place of a process's mark: that of its number at a level among the MARKS numbers above `last`. It has none, which
 // is MARKS, where its number is not one of them or it is not seen from n. The climb comes last, since it takes longest;
