@@ -1,9 +1,8 @@
 // A birth, of clone: the child's record, its number at each level, and what it changes in its namespace and in those
 // above. And a new namespace, of clone and unshare. Each takes the slot that its caller has found free.
-use numbers::MARKS;
+use numbers::held_pid;
 use numbers::next_pid;
-use numbers::place_above;
-use numbers::unmarked_above;
+use numbers::pid_by_marks;
 use table::LEVELS;
 use table::Life;
 use table::NAMESPACE_SLOTS;
@@ -96,8 +95,8 @@ fn record_of(namespaces: [Namespace; NAMESPACE_SLOTS], slot: NsSlot) -> Namespac
 }
 
 // A child of the caller is born into n, at a slot. One search for each level gives the child's number there and the
-// new last number of the namespace; all of them are made on the table as it was. The search by marks stands here and not
-// behind a call, since a call would copy the table at each level.
+// new last number of the namespace; all of them are made on the table as it was. What a search needs of the processes
+// is gathered here, since a call would copy the table at each level.
 pub fn birth(t: Table, slot: ProcSlot, caller: ProcSlot, n: NsSlot) -> Table
     ensures { λ r. ⌜ r ≡ birth-at t (slot .0) (caller .0) (n .0) ⌝ }
 {
@@ -111,18 +110,16 @@ pub fn birth(t: Table, slot: ProcSlot, caller: ProcSlot, n: NsSlot) -> Table
     while 0 < left {
         left -= 1;
         let here = record_of(before, at);
-        let mut known = [false; NAMESPACE_SLOTS];
-        let mut marks = [false; MARKS];
+        let mut owns = [0u8; PROCESS_SLOTS];
+        let mut held = [0u16; PROCESS_SLOTS];
         let mut i: usize = 0;
         while i < PROCESS_SLOTS {
             let p = t.processes[i];
-            let place = place_above(&up, &levels, &mut known, at, here.level, here.last.0, p);
-            if place < MARKS {
-                marks[place] = true;
-            }
+            owns[i] = p.own.0;
+            held[i] = held_pid(p, here.level);
             i += 1;
         }
-        let mut pid = unmarked_above(&marks, here.last.0);
+        let mut pid = pid_by_marks(&up, &levels, &owns, &held, at, here.last.0);
         if pid.0 == 0 {
             pid = next_pid(t, at);
         }

@@ -1,117 +1,128 @@
--- The law behind the marks, over their number m: f says which numbers are free, g is the greatest, and the marks say of
--- each of the m numbers above `last` that it is not free. Then the first number without a mark is the lowest free one,
--- and where there is none up to g the search goes on behind them.
+-- The law behind the marks, over their number m: f says which numbers are free, and the marks say of each of the m
+-- numbers above `last` that it is not. Then the first number without a mark is the lowest free one of them; and that,
+-- if there is one, is the lowest free one above `last`.
 use Prim.Native.Nat.{ℕ, zero, suc, _<_, _≤_, _+_, _-_}
-use mathlib.Core.Bool.{Bool, true, false, not}
+use mathlib.Core.Bool.{Bool, true, false, not, true≢false}
 use mathlib.Core.List.{List}
 use mathlib.Core.Logic.{_⊎_, inl, inr, ⊎-elim}
-use mathlib.Core.Path.{_≡_, refl, sym, ap, _∙_}
+use mathlib.Core.Path.{_≡_, refl, sym, ap, ap₂, subst, _∙_}
 use native.Mathlib.Decide.{decLt}
 use native.Mathlib.Omega.{arith}
 use borrow.Author.Tests.{not-true, not-false, lt-ltb, le-ltb, le-leb, lt-leb}
 use lib.ListN.{getD}
 use Rattle.rules.proofs.Laws.Find.{Lowest, lowest-is}
 use Rattle.table.proofs.Chains.{pick-yes, pick-no, and-true, and-false, and-false-later}
-use Rattle.table.proofs.FirstLoops.{lowest-here, lowest-on, lowest-end}
 use Rattle.table.proofs.MarkLoops.{Marks}
 use Rattle.table.specs.Limits.{greatest-pid}
 use Rattle.table.specs.Tests.{lowest}
-use Rattle.numbers.specs.Marks.{unmarked-from}
+use Rattle.numbers.specs.Marks.{first-of}
 
--- k numbers that are not free are passed over
-pub passed-over : (f : ℕ → Bool) (e from k : ℕ) → from + k ≤ e → ((j : ℕ) → j < k → f (from + j) ≡ false) → lowest f (e - from) from ≡ lowest f (e - (from + k)) (from + k)
-passed-over f e from zero h none =
-    let z : from ≡ from + 0 = omega arith in
-    ap (λ c. lowest f (e - c) c) z
-passed-over f e from (suc k) h none =
-    let z : from + k + 1 ≡ from + suc k = omega arith in
-    passed-over f e from k (omega arith) (λ j l. none j (omega arith))
-    ∙ lowest-on f e (from + k) (omega arith) (none k (omega arith))
-    ∙ ap (λ c. lowest f (e - c) c) z
+-- ---- the lowest number
 
--- ---- the first place without a mark
+-- it rests on the numbers that are looked at
+pub lowest-same : (f g : ℕ → Bool) (n k : ℕ) → ((j : ℕ) → k ≤ j → f j ≡ g j) → lowest f n k ≡ lowest g n k
+unfolding lowest
+lowest-same f g zero k h = refl
+lowest-same f g (suc n) k h =
+    ap₂ (λ (b : Bool) (x : ℕ). elim b as (λ y. ℕ) [ true ↦ k | false ↦ x ]) (h k (omega arith)) (lowest-same f g n (suc k) (λ j l. h j (omega arith)))
 
-abbrev pub first : ℕ → List Bool → ℕ
-first m ms = lowest (λ j. not (getD ms j false)) m 0
+-- f holds nowhere below what a search comes to
+pub no-lower : (f : ℕ → Bool) (n k x : ℕ) → Lowest f n k x → (y : ℕ) → k ≤ y → y < x → f y ≡ true → ⊥
+no-lower f n k x w y a b t = true≢false (sym t ∙ w .none-before y a b)
 
-abbrev is-first : (m : ℕ) (ms : List Bool) → Lowest (λ j. not (getD ms j false)) m 0 (first m ms)
-is-first m ms = lowest-is (λ j. not (getD ms j false)) m 0
+-- ---- the m numbers above `last`
 
--- The tests of the code: k is what `first_unmarked` gives.
-module _ (m last : ℕ) (ms : List Bool) where
-  pub none-above : greatest-pid ≤ last → 0 ≡ unmarked-from m ms last
-  none-above h = sym (pick-no _ _ _ (and-false-later _ _ (lt-leb (last + 1 + first m ms) greatest-pid (omega arith))))
+module _ (m : ℕ) (f : ℕ → Bool) (last : ℕ) where
+  abbrev low : ℕ
+  low = lowest f m (last + 1)
 
-  module _ (k : ℕ) (e : k ≡ first m ms) where
-    pub all-marked : m ≤ k → 0 ≡ unmarked-from m ms last
-    all-marked h = sym (pick-no _ _ _ (and-false _ _ (le-ltb (first m ms) m (omega arith))))
+  is-low : Lowest f m (last + 1) low
+  is-low = lowest-is f m (last + 1)
 
-    pub past-greatest : greatest-pid < last + 1 + k → 0 ≡ unmarked-from m ms last
-    past-greatest h = sym (pick-no _ _ _ (and-false-later _ _ (lt-leb (last + 1 + first m ms) greatest-pid (omega arith))))
+  pub none-above : greatest-pid ≤ last → 0 ≡ first-of m f last
+  unfolding first-of
+  none-above h = sym (pick-no _ _ _ (and-false-later _ _ (lt-leb low greatest-pid (omega (arith, is-low .from)))))
 
-    pub is-unmarked : k < m → last + 1 + k ≤ greatest-pid → last + 1 + k ≡ unmarked-from m ms last
-    is-unmarked a b =
-        ap (λ x. last + 1 + x) e
-        ∙ sym (pick-yes _ _ _ (and-true _ _ (lt-ltb (first m ms) m (omega arith)) (le-leb (last + 1 + first m ms) greatest-pid (omega arith))))
+  -- all that there are
+  abbrev first : ℕ
+  first = lowest f (suc greatest-pid - (last + 1)) (last + 1)
 
-pub ruleset unmarked = (none-above, all-marked, past-greatest, is-unmarked)
+  is-first : Lowest f (suc greatest-pid - (last + 1)) (last + 1) first
+  is-first = lowest-is f (suc greatest-pid - (last + 1)) (last + 1)
 
--- ---- what it says of the numbers
+  -- r is what the search among the m gives
+  module _ (r : ℕ) (e : r ≡ first-of m f last) where
+    low-or-none : ((r ≡ low) × (low < last + 1 + m) × (low ≤ greatest-pid)) ⊎ ((r ≡ 0) × (low < last + 1 + m → greatest-pid < low))
+    unfolding first-of
+    low-or-none = go (decLt low (last + 1 + m)) (decLt greatest-pid low)
+      where
+        go : Dec (low < last + 1 + m) → Dec (greatest-pid < low) → ((r ≡ low) × (low < last + 1 + m) × (low ≤ greatest-pid)) ⊎ ((r ≡ 0) × (low < last + 1 + m → greatest-pid < low))
+        go (no a) b = inr (e ∙ pick-no _ _ _ (and-false _ _ (le-ltb low (last + 1 + m) (omega arith))), λ l. absurd (a l))
+        go (yes a) (yes b) = inr (e ∙ pick-no _ _ _ (and-false-later _ _ (lt-leb low greatest-pid b)), λ l. b)
+        go (yes a) (no b) =
+            inl (e ∙ pick-yes _ _ _ (and-true _ _ (lt-ltb low (last + 1 + m) a) (le-leb low greatest-pid (omega arith))), a, omega arith)
+
+    pub found-free : (r ≡ 0 → ⊥) → (r ≡ first) × (r ≤ greatest-pid)
+    found-free o = ⊎-elim (λ (q, a, b). go q a b (decLt first low) (decLt low first)) (λ x. absurd (o (x .0))) low-or-none
+      where
+        go : r ≡ low → low < last + 1 + m → low ≤ greatest-pid → Dec (first < low) → Dec (low < first) → (r ≡ first) × (r ≤ greatest-pid)
+        go q a b (yes l) d = absurd (no-lower f _ _ low is-low first (is-first .from) l (is-first .holds (omega (arith, is-first .from))))
+        go q a b (no l) (yes d) = absurd (no-lower f _ _ first is-first low (is-low .from) d (is-low .holds a))
+        go q a b (no l) (no d) = (omega arith, omega arith)
+
+    -- the m numbers reach to the greatest
+    pub none-free : r ≡ 0 → greatest-pid ≤ last + m → greatest-pid < first
+    none-free z h = ⊎-elim (λ (q, a, b). absurd (omega (arith, is-low .from))) (λ (y, past). go past (decLt greatest-pid first)) low-or-none
+      where
+        go : (low < last + 1 + m → greatest-pid < low) → Dec (greatest-pid < first) → greatest-pid < first
+        go past (yes l) = l
+        go past (no o) = absurd (no-lower f _ _ low is-low first (is-first .from) (far (decLt low (last + 1 + m))) (is-first .holds (omega (arith, is-first .from))))
+          where
+            far : Dec (low < last + 1 + m) → first < low
+            far (yes a) = omega (arith, past a)
+            far (no a) = omega arith
+
+-- ---- by marks
 
 -- the marks say of each of the m numbers above `last` whether it is taken
 abbrev pub Window : ℕ → (ℕ → Bool) → ℕ → List Bool → Type 0
 Window m f last ms = Marks m ms (λ k. not (f (last + 1 + k)))
 
-module _ (m : ℕ) (f : ℕ → Bool) (last : ℕ) (ms : List Bool) (w : Window m f last ms) where
-  taken-before : (j : ℕ) → j < first m ms → f (last + 1 + j) ≡ false
-  taken-before j l =
-      let marked : getD ms j false ≡ true = not-false _ (is-first m ms .none-before j (omega arith) l) in
-      not-true _ (sym (w .says j (omega (arith, is-first m ms .upto))) ∙ marked)
+-- The tests of the code: k is what `first_unmarked` gives.
+module _ (m : ℕ) (f : ℕ → Bool) (last : ℕ) (ms : List Bool) (w : Window m f last ms) (k : ℕ) (e : k ≡ lowest (λ j. not (getD ms j false)) m 0) where
+  unmarked : Lowest (λ j. not (getD ms j false)) m 0 k
+  unmarked = subst (Lowest (λ j. not (getD ms j false)) m 0) (sym e) (lowest-is (λ j. not (getD ms j false)) m 0)
 
-  free-there : first m ms < m → f (last + 1 + first m ms) ≡ true
-  free-there l =
-      let unmarked : getD ms (first m ms) false ≡ false = not-true _ (is-first m ms .holds (omega arith)) in
-      not-false _ (sym (w .says (first m ms) l) ∙ unmarked)
+  marked-taken : (j : ℕ) → j < k → f (last + 1 + j) ≡ true → ⊥
+  marked-taken j l t =
+      let s : getD ms j false ≡ not true = w .says j (omega (arith, unmarked .upto)) ∙ ap not t in
+      true≢false (sym (ap not s) ∙ unmarked .none-before j (omega arith) l)
 
-  pub first-is-lowest : (g : ℕ) → first m ms < m → last + 1 + first m ms ≤ g → last + 1 + first m ms ≡ lowest f (suc g - (last + 1)) (last + 1)
-  first-is-lowest g l h =
-      sym (passed-over f (suc g) (last + 1) (first m ms) (omega arith) taken-before ∙ lowest-here f (suc g) (last + 1 + first m ms) (omega arith) (free-there l))
+  unmarked-free : k < m → f (last + 1 + k) ≡ true
+  unmarked-free l = not-false _ (sym (w .says k l) ∙ not-true _ (unmarked .holds (omega arith)))
 
-  -- k of them are taken
-  pub goes-on : (g k : ℕ) → last + 1 + k ≤ suc g → k ≤ first m ms → lowest f (suc g - (last + 1)) (last + 1) ≡ lowest f (suc g - (last + 1 + k)) (last + 1 + k)
-  goes-on g k h l = passed-over f (suc g) (last + 1) k h (λ j i. taken-before j (omega arith))
+  there : low m f last ≡ last + 1 + k
+  there = go (decLt (low m f last) (last + 1 + k)) (decLt (last + 1 + k) (low m f last))
+    where
+      go : Dec (low m f last < last + 1 + k) → Dec (last + 1 + k < low m f last) → low m f last ≡ last + 1 + k
+      go (yes a) b =
+          let j : ℕ = low m f last - (last + 1) in
+          let q : low m f last ≡ last + 1 + j = omega (arith, is-low m f last .from) in
+          absurd (marked-taken j (omega (arith, is-low m f last .from)) (sym (ap f q) ∙ is-low m f last .holds (omega (arith, unmarked .upto))))
+      go (no a) (yes b) =
+          absurd (no-lower f _ _ _ (is-low m f last) (last + 1 + k) (omega arith) b (unmarked-free (omega (arith, is-low m f last .upto))))
+      go (no a) (no b) = omega arith
 
-  -- r is what `unmarked_above` gives
-  module _ (r : ℕ) (e : r ≡ unmarked-from m ms last) where
-    abbrev Free : ℕ → Type 0
-    Free x = x ≡ lowest f (suc greatest-pid - (last + 1)) (last + 1)
+  pub all-marked : m ≤ k → 0 ≡ first-of m f last
+  unfolding first-of
+  all-marked h = sym (pick-no _ _ _ (and-false _ _ (le-ltb (low m f last) (last + 1 + m) (omega (arith, there)))))
 
-    first-or-none : ((r ≡ last + 1 + first m ms) × (first m ms < m) × (last + 1 + first m ms ≤ greatest-pid)) ⊎ ((r ≡ 0) × (first m ms < m → greatest-pid < last + 1 + first m ms))
-    first-or-none = go (decLt (first m ms) m) (decLt greatest-pid (last + 1 + first m ms))
-      where
-        go : Dec (first m ms < m) → Dec (greatest-pid < last + 1 + first m ms) → ((r ≡ last + 1 + first m ms) × (first m ms < m) × (last + 1 + first m ms ≤ greatest-pid)) ⊎ ((r ≡ 0) × (first m ms < m → greatest-pid < last + 1 + first m ms))
-        go (no a) b = inr (e ∙ sym (all-marked m last ms (first m ms) refl (omega arith)), λ l. absurd (a l))
-        go (yes a) (yes b) = inr (e ∙ sym (past-greatest m last ms (first m ms) refl b), λ l. b)
-        go (yes a) (no b) = inl (e ∙ sym (is-unmarked m last ms (first m ms) refl a (omega arith)), a, omega arith)
+  pub past-greatest : greatest-pid < last + 1 + k → 0 ≡ first-of m f last
+  unfolding first-of
+  past-greatest h = sym (pick-no _ _ _ (and-false-later _ _ (lt-leb (low m f last) greatest-pid (omega (arith, there)))))
 
-    pub found-free : (r ≡ 0 → ⊥) → Free r × (r ≤ greatest-pid)
-    found-free n =
-        ⊎-elim (λ (q, a, b). (q ∙ first-is-lowest greatest-pid a b, omega arith)) (λ x. absurd (n (x .0))) first-or-none
-
-    -- k of them are taken, where nothing is found
-    at-least : (k : ℕ) → last + k ≤ greatest-pid → r ≡ 0 → k ≤ m → k ≤ first m ms
-    at-least k h z l =
-        ⊎-elim (λ (q, a, b). absurd (omega arith)) (λ (y, past). go past (decLt (first m ms) m)) first-or-none
-      where
-        go : (first m ms < m → greatest-pid < last + 1 + first m ms) → Dec (first m ms < m) → k ≤ first m ms
-        go past (yes a) = omega (arith, past a)
-        go past (no a) = omega arith
-
-    pub none-free : r ≡ 0 → last < greatest-pid → greatest-pid - last ≤ m → Free (suc greatest-pid)
-    none-free z h l =
-        let k : ℕ = greatest-pid - last in
-        let end : last + 1 + k ≡ suc greatest-pid = omega arith in
-        sym (goes-on greatest-pid k (omega arith) (at-least k (omega arith) z l) ∙ lowest-end f (suc greatest-pid) (last + 1 + k) (omega arith) ∙ end)
-
-    pub rest-free : (x : ℕ) → r ≡ 0 → m < greatest-pid - last → x ≡ lowest f (suc greatest-pid - (last + 1 + m)) (last + 1 + m) → Free x
-    rest-free x z l q = q ∙ sym (goes-on greatest-pid m (omega arith) (at-least m (omega arith) z (omega arith)))
+  pub is-unmarked : k < m → last + 1 + k ≤ greatest-pid → last + 1 + k ≡ first-of m f last
+  unfolding first-of
+  is-unmarked a b =
+      sym there
+      ∙ sym (pick-yes _ _ _ (and-true _ _ (lt-ltb (low m f last) (last + 1 + m) (omega (arith, there))) (le-leb (low m f last) greatest-pid (omega (arith, there)))))

@@ -1,12 +1,10 @@
 -- The definitions of `rules` read a view, that is a table by its slots. The code takes a table's parents and levels out
 -- once, as small arrays, and one process at a time: these say the same of such arrays and of a process.
 use Prim.Native.Nat.{ℕ}
-use mathlib.Core.Bool.{Bool, true, false, not}
-use mathlib.Core.Path.{_≡_}
+use mathlib.Core.Bool.{Bool, true, not}
 use mathlib.Core.List.{List}
 use lib.Dec.{eqb}
-use lib.ListN.{length, getD, set}
-use Rattle.table.specs.Limits.{namespace-slots}
+use lib.ListN.{getD, set}
 use Rattle.table.specs.Slots.{no-namespace, pid-at, is-unborn}
 use Rattle.rules.specs.Read.{climb}
 use Rattle.table.specs.Tests.{_and_, _or_, if_then_else_}
@@ -27,11 +25,6 @@ slot-in up n = getD up n (record { 0 = 0 }) .0
 
 abbrev pub level-in : List ℕ → ℕ → ℕ
 level-in levels n = getD levels n 0
-
--- what is known of the climbs to n: from a namespace with a mark, in as many steps as its level, they come there
-pub record Known (up level : ℕ → ℕ) (n : ℕ) (known : List Bool) : Type 0 where
-  pub long : length known ≡ namespace-slots
-  pub comes : (a : ℕ) → getD known a false ≡ true → climb up (level a) a n ≡ true
 
 -- ---- one process, given the parents and the levels
 

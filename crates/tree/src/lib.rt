@@ -9,15 +9,12 @@ use table::Pid;
 use table::ProcSlot;
 use table::Process;
 use table::Table;
-ghost use mathlib.Core.Bool.{true, false};
-ghost use lib.Dec.{eqb};
+ghost use mathlib.Core.Bool.{true};
 ghost use mathlib.Core.Path.{_≡_};
-ghost use lib.ListN.{length, getD, set};
-ghost use Rattle.table.specs.Tests.{_and_, if_then_else_};
-ghost use Rattle.table.specs.Limits.{namespace-slots};
+ghost use lib.ListN.{set};
 ghost use Rattle.rules.specs.Read.{view, climb, find as find-in};
 ghost use Rattle.rules.specs.Pids.{free-slot, free-namespace-slot};
-ghost use Rattle.tree.specs.Tree.{ups-of, levels-of, slot-in, level-in, seen-from, pid-from, named-from, holds-namespace, is-blank-namespace, mark-process, Known};
+ghost use Rattle.tree.specs.Tree.{ups-of, levels-of, slot-in, level-in, seen-from, pid-from, named-from, holds-namespace, is-blank-namespace, mark-process};
 
 // ---- no slot
 
@@ -41,6 +38,20 @@ pub fn ups(namespaces: [Namespace; NAMESPACE_SLOTS]) -> [NsSlot; NAMESPACE_SLOTS
         child += 1;
     }
     up
+}
+
+// The parents once more, as plain numbers: such a column can be lent, and then no call copies it.
+pub fn parents(namespaces: [Namespace; NAMESPACE_SLOTS]) -> [u8; NAMESPACE_SLOTS]
+    ensures { λ r. ⌜ level-in r ≡ ups-of namespaces ⌝ }
+{
+    let mut column = [0u8; NAMESPACE_SLOTS];
+    let mut k: usize = 0;
+    while k < NAMESPACE_SLOTS {
+        let s = namespaces[k];
+        column[k] = s.parent.0;
+        k += 1;
+    }
+    column
 }
 
 pub fn levels(namespaces: [Namespace; NAMESPACE_SLOTS]) -> [u8; NAMESPACE_SLOTS]
@@ -164,117 +175,6 @@ pub fn find(t: Table, n: NsSlot, pid: Pid) -> ProcSlot
         i += 1;
     }
     ProcSlot(NO_PROCESS)
-}
-
-// ---- the same by lent columns. An array of plain numbers can be lent, and then no call copies it.
-
-// The parents of all namespaces.
-pub fn parents(namespaces: [Namespace; NAMESPACE_SLOTS]) -> [u8; NAMESPACE_SLOTS]
-    ensures { λ r. ⌜ level-in r ≡ ups-of namespaces ⌝ }
-{
-    let mut column = [0u8; NAMESPACE_SLOTS];
-    let mut k: usize = 0;
-    while k < NAMESPACE_SLOTS {
-        let s = namespaces[k];
-        column[k] = s.parent.0;
-        k += 1;
-    }
-    column
-}
-
-// What a column has at a slot; past the last slot 0, as in an empty one.
-pub fn in_column(column: &[u8; NAMESPACE_SLOTS], slot: u8) -> u8
-    requires { ⌜ length (now column) ≡ namespace-slots ⌝ }
-    ensures { λ r. ⌜ r ≡ level-in (now (column .entry)) slot ⌝ }
-{
-    let k = slot as usize;
-    if k >= NAMESPACE_SLOTS {
-        return 0;
-    }
-    column[k]
-}
-
-// Whether a climb to n from a, with so many steps left, is known to come there: a has its mark, and the steps are as many
-// as a's level. (In a sound table they are. In any other the mark says nothing about so many steps.)
-fn is_known(
-    levels: &[u8; NAMESPACE_SLOTS],
-    known: &[bool; NAMESPACE_SLOTS],
-    a: u8,
-    steps: u8,
-) -> bool
-    requires { ⌜ (length (now levels) ≡ namespace-slots) × (length (now known) ≡ namespace-slots) ⌝ }
-    ensures { λ r. ⌜ r ≡ eqb (level-in (now (levels .entry)) a) steps and getD (now (known .entry)) a false ⌝ }
-{
-    let at = a as usize;
-    if at >= NAMESPACE_SLOTS {
-        return false;
-    }
-    if levels[at] != steps {
-        return false;
-    }
-    known[at]
-}
-
-// Keeps it for later climbs.
-fn keep(levels: &[u8; NAMESPACE_SLOTS], known: &mut [bool; NAMESPACE_SLOTS], a: u8, steps: u8)
-    requires { ⌜ (length (now levels) ≡ namespace-slots) × (length (now known) ≡ namespace-slots) ⌝ }
-    ensures { λ r. ⌜ now (known .exit) ≡ (if eqb (level-in (now (levels .entry)) a) steps then set (now (known .entry)) a true else now (known .entry)) ⌝ }
-{
-    let k = a as usize;
-    if k < NAMESPACE_SLOTS {
-        if levels[k] == steps {
-            known[k] = true;
-        }
-    }
-}
-
-// Whether the climb from a comes to n, in so many steps at most, as in `below`. The namespaces from which it does get a
-// mark in `known`, so that no two climbs to n go the same way.
-fn lies_below(
-    up: &[u8; NAMESPACE_SLOTS],
-    levels: &[u8; NAMESPACE_SLOTS],
-    known: &mut [bool; NAMESPACE_SLOTS],
-    n: u8,
-    a: u8,
-    steps: u8,
-) -> bool
-    requires { ⌜ (length (now up) ≡ namespace-slots) × (length (now levels) ≡ namespace-slots) × Known (level-in (now up)) (level-in (now levels)) n (now known) ⌝ }
-    ensures { λ r. ⌜ (r ≡ climb (level-in (now (up .entry))) steps a n) × Known (level-in (now (up .entry))) (level-in (now (levels .entry))) n (now (known .exit)) ⌝ }
-{
-    if a == n {
-        return true;
-    }
-    if steps == 0 {
-        return false;
-    }
-    if is_known(levels, known, a, steps) {
-        return true;
-    }
-    let parent = in_column(up, a);
-    let found = lies_below(up, levels, known, n, parent, steps - 1);
-    if found {
-        keep(levels, known, a, steps);
-    }
-    found
-}
-
-// Whether a process is in the subtree of n, as in `seen`.
-pub fn is_seen(
-    up: &[u8; NAMESPACE_SLOTS],
-    levels: &[u8; NAMESPACE_SLOTS],
-    known: &mut [bool; NAMESPACE_SLOTS],
-    n: NsSlot,
-    p: Process,
-) -> bool
-    requires { ⌜ (length (now up) ≡ namespace-slots) × (length (now levels) ≡ namespace-slots) × Known (level-in (now up)) (level-in (now levels)) (n .0) (now known) ⌝ }
-    ensures { λ r. ⌜ (r ≡ seen-from (level-in (now (up .entry))) (level-in (now (levels .entry))) (n .0) p) × Known (level-in (now (up .entry))) (level-in (now (levels .entry))) (n .0) (now (known .exit)) ⌝ }
-{
-    if p.is_taken() {
-        let own = p.own.0;
-        let level = in_column(levels, own);
-        return lies_below(up, levels, known, n.0, own, level);
-    }
-    false
 }
 
 // ---- free slots

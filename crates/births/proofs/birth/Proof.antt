@@ -1,26 +1,23 @@
 -- `birth` is the walk up from the child's namespace: what it makes of the numbers and of the namespaces is the
--- definition's. The number at each level is the first without a mark, or what `next_pid` gives.
+-- definition's. The number at each level is what the marks find, or what `next_pid` gives.
 use Prim.Native.Nat.{_-_}
 use mathlib.Core.Logic.{⊎-elim}
 use mathlib.Core.Path.{ap, _∙_}
 use borrow.Author.Needs.{needs}
-use Rattle.numbers.proofs.Marking.{Marking, markings, marks-give-next}
-use Rattle.numbers.specs.Marks as by
+use Rattle.numbers.proofs.Columns.{Gathered, gathering, columns, marks-give-next}
 use Rattle.table.proofs.Slots.{length-mapped}
 use Rattle.table.specs.Limits.{process-slots}
 use Rattle.table.specs.declared.Pid.{Pid}
-use Rattle.tree.proofs.Knowing.{nothing-known}
-use Rattle.tree.specs.Tree.{Known, level-in}
 use Rattle.births.proofs.Walk.{Walking, walks, walk-goes-on, walk-done}
 use Rattle.births.proofs.birth.Statement.{statement}
 use Rattle.births.proofs.birth.Tie as tie
 
 abbrev Inv-loop2 : tie.InvT-loop2
-Inv-loop2 slot caller n t before up levels namespaces pids at left here known₀ marks₀ i₀ known marks i =
-    Marking by.marks t up levels (at .0) (here .level) (here .last .0) marks i × Known (level-in up) (level-in levels) (at .0) known
+Inv-loop2 slot caller n t before up levels namespaces pids at left here owns₀ held₀ i₀ owns held i =
+    Gathered t (here .level) owns₀ owns held₀ held i
 
 abbrev μ-loop2 : tie.MeasureT-loop2
-μ-loop2 slot caller n t before up levels namespaces pids at left here known₀ marks₀ i₀ known marks i = process-slots - i
+μ-loop2 slot caller n t before up levels namespaces pids at left here owns₀ held₀ i₀ owns held i = process-slots - i
 
 abbrev Inv-loop : tie.InvT-loop
 Inv-loop slot caller n t before up levels namespaces₀ pids₀ at₀ left₀ namespaces pids at left =
@@ -54,7 +51,7 @@ record-of-requires-2 : tie.Need-record-of-requires-2 Inv-loop2 μ-loop2 Inv-loop
 record-of-requires-2 c κs = search needs
 
 loop2-holds : tie.Need-loop2-holds Inv-loop2 μ-loop2 Inv-loop μ-loop
-loop2-holds c = (search markings, search nothing-known)
+loop2-holds c = search gathering
 
 mul-p : tie.Need-mul-p Inv-loop2 μ-loop2 Inv-loop μ-loop
 mul-p c = search needs
@@ -62,11 +59,17 @@ mul-p c = search needs
 element-copy-out-p : tie.Need-element-copy-out-p Inv-loop2 μ-loop2 Inv-loop μ-loop
 element-copy-out-p c = search needs
 
-place-above-requires : tie.Need-place-above-requires Inv-loop2 μ-loop2 Inv-loop μ-loop
-place-above-requires c κs = search needs
+array-write-owns : tie.Need-array-write-owns Inv-loop2 μ-loop2 Inv-loop μ-loop
+array-write-owns c = search needs
 
-array-write-marks : tie.Need-array-write-marks Inv-loop2 μ-loop2 Inv-loop μ-loop
-array-write-marks c = search needs
+held-pid-requires : tie.Need-held-pid-requires Inv-loop2 μ-loop2 Inv-loop μ-loop
+held-pid-requires c κs = search needs
+
+mul-held : tie.Need-mul-held Inv-loop2 μ-loop2 Inv-loop μ-loop
+mul-held c = search needs
+
+array-write-held : tie.Need-array-write-held Inv-loop2 μ-loop2 Inv-loop μ-loop
+array-write-held c = search needs
 
 add-i : tie.Need-add-i Inv-loop2 μ-loop2 Inv-loop μ-loop
 add-i c = search needs
@@ -75,10 +78,10 @@ loop2-less : tie.Need-loop2-less Inv-loop2 μ-loop2 Inv-loop μ-loop
 loop2-less c = search needs
 
 loop2-again : tie.Need-loop2-again Inv-loop2 μ-loop2 Inv-loop μ-loop
-loop2-again c = (⊎-elim (λ w. search markings) (λ w. search markings) (c .if1 .came), search needs)
+loop2-again c = search gathering
 
-unmarked-above-requires : tie.Need-unmarked-above-requires Inv-loop2 μ-loop2 Inv-loop μ-loop
-unmarked-above-requires c κs = search needs
+pid-by-marks-requires : tie.Need-pid-by-marks-requires Inv-loop2 μ-loop2 Inv-loop μ-loop
+pid-by-marks-requires c κs = search needs
 
 next-pid-requires : tie.Need-next-pid-requires Inv-loop2 μ-loop2 Inv-loop μ-loop
 next-pid-requires c κs = search needs
@@ -96,17 +99,21 @@ loop-again : tie.Need-loop-again Inv-loop2 μ-loop2 Inv-loop μ-loop
 loop-again c =
     let chosen = c .before .before .before in
     let found = chosen .before .before in
-    let here = found .before .before .before .before in
+    let tested = found .before .before .before .before .before in
+    let filled = tested .before in
+    let here = filled .before in
     let walk = here .before .before in
-    let columns = walk .before .before .before in
-    walk-goes-on _ _ _ _ _ _ _ (here .record-of2 .result) (chosen .if2 .pid) _ _ (walk .loop .inv) (here .before .loop-test .taken) (here .record-of2 .ensures)
+    let levels = walk .before .before .before in
+    let entry = levels .before .before .before in
+    walk-goes-on _ _ _ _ _ _ _ (here .record-of2 .result) (chosen .if1 .pid) _ _ (walk .loop .inv) (here .before .loop-test .taken) (here .record-of2 .ensures)
     (⊎-elim
     (λ w. ap (λ (x : Pid). x .0) (w .2) ∙ w .1 .ensures)
     (λ w.
     ap (λ (x : Pid). x .0) (w .1)
-    ∙ marks-give-next _ _ _ _ _ (here .record-of2 .result) _ _ _ (found .before .before .before .loop2 .inv .0) (search needs) (columns .before .parents .ensures) (columns .levels .ensures)
-    (here .record-of2 .ensures) (found .unmarked-above .ensures) (w .0 .left))
-    (chosen .if2 .came))
+    ∙ marks-give-next (entry .args .t1) _ (here .record-of2 .result) _ _ _ _ _ _ (found .pid-by-marks .ensures) (w .0 .left)
+    (columns _ _ _ (levels .before .parents .result) (levels .levels .result) _ (filled .loop2 .owns) _ (filled .loop2 .held) _ (here .record-of2 .ensures) (filled .loop2 .inv) (tested .loop2-test .left) (search (length-mapped, entry .good .0 .1 .1 .0 .1)) (search needs)
+    (search needs) (search (needs, levels .before .parents .ok)) (levels .before .parents .ensures) (search (needs, levels .levels .ok)) (levels .levels .ensures)))
+    (chosen .if1 .came))
     (c .before .before .with-pid .ensures) (c .before .joined-at .ensures)
 
 process-requires : tie.Need-process-requires Inv-loop2 μ-loop2 Inv-loop μ-loop
@@ -147,12 +154,14 @@ birth-spec =
     loop2-holds
     mul-p
     element-copy-out-p
-    place-above-requires
-    array-write-marks
+    array-write-owns
+    held-pid-requires
+    mul-held
+    array-write-held
     add-i
     loop2-less
     loop2-again
-    unmarked-above-requires
+    pid-by-marks-requires
     next-pid-requires
     with-pid-requires
     joined-at-requires

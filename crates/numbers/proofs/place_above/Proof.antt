@@ -4,9 +4,6 @@ use Rattle.numbers.proofs.Places.{places}
 use Rattle.numbers.proofs.place_above.Statement.{statement}
 use Rattle.numbers.proofs.place_above.Tie as tie
 
-pid-at-requires : tie.Need-pid-at-requires
-pid-at-requires c κs = search needs
-
 returns : tie.Need-returns
 returns c = (search places, search needs)
 
@@ -22,8 +19,8 @@ cast-place c = search needs
 returns-2 : tie.Need-returns-2
 returns-2 c = (search places, search needs)
 
-is-seen-requires : tie.Need-is-seen-requires
-is-seen-requires c κs = search needs
+is-below-requires : tie.Need-is-below-requires
+is-below-requires c κs = search needs
 
 returns-3 : tie.Need-returns-3
 returns-3 c = (search places, search needs)
@@ -35,12 +32,11 @@ pub place-above-spec : {M : Type 1} → statement M
 place-above-spec =
     tie.close
     (tie.spec
-    pid-at-requires
     returns
     sub-place
     sub-place-2
     cast-place
     returns-2
-    is-seen-requires
+    is-below-requires
     returns-3
     returns-4)

@@ -4,16 +4,16 @@ use Prim.Native.Nat.{ℕ, _<_}
 use borrow.Author.Needs.{needs}
 use borrow.Fn.Kinds.{In}
 use borrow.Fn.PlainCycle.{Measures, is, falls, and}
 use Rattle.tree.proofs.Climbs.{climb-there, climb-ends, climb-on}
-use Rattle.tree.proofs.Knowing.{knowing}
-use Rattle.tree.proofs.lies_below.Reads as lies-below
-use Rattle.tree.proofs.lies_below.Kinds as lies-below-kinds
-use Rattle.tree.proofs.+lies_below.Lts-lies_below as lies-below-lts
-use Rattle.tree.proofs.in_column.Reads as in-column-reads
-use Rattle.tree.proofs.is_known.Reads as is-known-reads
-use Rattle.tree.proofs.keep.Reads as keep-reads
-use Rattle.tree.proofs.+lies_below.{statement}
-use Rattle.tree.proofs.+lies_below.Tie.{close}
+use Rattle.numbers.proofs.Knowing.{knowing}
+use Rattle.numbers.proofs.climbs.lies_below.Reads as lies-below
+use Rattle.numbers.proofs.climbs.lies_below.Kinds as lies-below-kinds
+use Rattle.numbers.proofs.climbs.+lies_below.Lts-lies_below as lies-below-lts
+use Rattle.numbers.proofs.climbs.in_column.Reads as in-column-reads
+use Rattle.numbers.proofs.climbs.is_known.Reads as is-known-reads
+use Rattle.numbers.proofs.climbs.keep.Reads as keep-reads
+use Rattle.numbers.proofs.climbs.+lies_below.{statement}
+use Rattle.numbers.proofs.climbs.+lies_below.Tie.{close}
 
 abbrev μ-lies-below : Measures 3 lies-below-kinds.ps ℕ
 μ-lies-below κs a = a .1 .1 .1 .1 .1 .0
