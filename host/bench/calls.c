@@ -23,3 +23,13 @@ size_t bench_copies(call_function *call, const struct lampfunnel_table *table, u
     }
     return told;
 }
+
+/* How often the fresh table had its root init. */
+size_t bench_fresh(struct lampfunnel_table *table, size_t times) {
+    size_t told = 0;
+    while (times-- > 0) {
+        *table = lampfunnel_fresh();
+        told += table->processes[0].pids[0] == 1;
+    }
+    return told;
+}

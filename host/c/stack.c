@@ -33,7 +33,7 @@ static void sound_alone(void) {
 }
 
 /* The same end by a script, in which the table is filled as full_chain does it. */
-static void end_by(size_t (*run)(const uint8_t *, size_t, uint8_t *, size_t)) {
+static void end_by_script(void) {
     static const char tail[] = "0 kill 2 9\n1 getpid\n", answers[] = "0\n-1001\n";
     static char script[LAMPFUNNEL_PROCESSES * 16];
     static uint8_t out[(LAMPFUNNEL_PROCESSES + 1) * LAMPFUNNEL_ANSWER_BYTES];
@@ -42,16 +42,8 @@ static void end_by(size_t (*run)(const uint8_t *, size_t, uint8_t *, size_t)) {
         length += (size_t)sprintf(script + length, slot < 32 ? "%d clone new\n" : "32 clone\n", slot);
     }
     strcpy(script + length, tail);
-    used = run((const uint8_t *)script, strlen(script), out, sizeof out);
+    used = lampfunnel_run((const uint8_t *)script, strlen(script), out, sizeof out);
     CHECK(used != LAMPFUNNEL_SHORT && memcmp(out + used - strlen(answers), answers, strlen(answers)) == 0);
-}
-
-static void end_by_script(void) {
-    end_by(lampfunnel_run);
-}
-
-static void end_by_checked_script(void) {
-    end_by(lampfunnel_run_checked);
 }
 
 /* ---- measuring -------------------------------------------------------------------------------------------------- */
@@ -89,8 +81,7 @@ static void nothing(void) {
 int main(void) {
     static const struct work works[] = {{"kill, a chain ends", end_of_chain}, {"kill -1, all end", end_of_all},
                                         {"exit, a chain ends", exit_of_chain}, {"getpid", getpid_alone},
-                                        {"sound, next_pid", sound_alone},      {"run, a chain ends", end_by_script},
-                                        {"run_checked, a chain ends", end_by_checked_script}};
+                                        {"sound, next_pid", sound_alone},      {"run, a chain ends", end_by_script}};
     const struct work none = {"", nothing};
     size_t thread = taken(none), most = 0, where = 0;
     for (size_t k = 0; k < sizeof works / sizeof *works; k++) {

@@ -31,7 +31,7 @@ extern "C" {
 
 /*
  * Bytes of stack that are enough for each function. The most was taken where a namespace on level 1 ended with a chain
- * of namespaces to level 32 below it: 830,712 bytes by lampfunnel_call, 854,488 by lampfunnel_run (host/c/stack.c).
+ * of namespaces to level 32 below it: 829,768 bytes by lampfunnel_call, 864,408 by lampfunnel_run (host/c/stack.c).
  */
 #define LAMPFUNNEL_STACK_BYTES ((size_t)1 << 20)
 
@@ -194,7 +194,7 @@ static inline int32_t lampfunnel_poll(struct lampfunnel_table *t, uint32_t calle
 /* An answer has at most so many bytes, its line feed counted. */
 #define LAMPFUNNEL_ANSWER_BYTES ((size_t)32)
 
-/* What both functions below answer where the buffer is too short. */
+/* What lampfunnel_run answers where the buffer is too short. */
 #define LAMPFUNNEL_SHORT SIZE_MAX
 
 /*
@@ -206,12 +206,6 @@ static inline int32_t lampfunnel_poll(struct lampfunnel_table *t, uint32_t calle
  * it was. `script` and `out` do not overlap.
  */
 size_t lampfunnel_run(const uint8_t *script, size_t script_len, uint8_t *out, size_t out_len);
-
-/*
- * The same answers. Here the table is checked at each call, where lampfunnel_run checks it once, before the first: a
- * call leaves a sound table sound. For a host that wants each check made, and to see what they cost.
- */
-size_t lampfunnel_run_checked(const uint8_t *script, size_t script_len, uint8_t *out, size_t out_len);
 
 #ifdef __cplusplus
 }

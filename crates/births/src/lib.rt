@@ -9,7 +9,7 @@ use table::{
     LEVELS, Life, NAMESPACE_SLOTS, Namespace, NsSlot, PROCESS_SLOTS, Pid, ProcSlot, Process, State,
     Table, Traits, empty_namespace,
 };
-use tree::{levels, namespace_at, parents};
+use tree::{levels, parents};
 
 // ---- one record
 
@@ -71,6 +71,17 @@ fn joined_at(
 
 // ---- the table
 
+// The record of a namespace; past the last slot an empty one.
+fn record_of(namespaces: [Namespace; NAMESPACE_SLOTS], slot: NsSlot) -> Namespace
+    ensures { result ≡ get_or namespaces slot.0 no_namespace }
+{
+    let k = slot.0 as usize;
+    if k >= NAMESPACE_SLOTS {
+        return empty_namespace();
+    }
+    namespaces[k]
+}
+
 // A child of the caller is born into n, at a slot. One search for each level gives the child's number there and the
 // new last number of the namespace; all of them are made on the table as it was. What a search needs of the processes
 // is gathered here, since a call would copy the table at each level.
@@ -83,14 +94,10 @@ pub fn birth(t: Table, slot: ProcSlot, caller: ProcSlot, n: NsSlot) -> Table
     let mut namespaces = before;
     let mut pids = [Pid(0); LEVELS];
     let mut at = n;
-    let mut left = namespace_at(before, n).level as usize + 1;
+    let mut left = record_of(before, n).level as usize + 1;
     while 0 < left {
         left -= 1;
-        let k = at.0 as usize;
-        let mut here = empty_namespace();
-        if k < NAMESPACE_SLOTS {
-            here = before[k];
-        }
+        let here = record_of(before, at);
         let mut owns = [0u8; PROCESS_SLOTS];
         let mut held = [0u16; PROCESS_SLOTS];
         let mut i: usize = 0;

@@ -30,7 +30,6 @@ use Rattle.table.specs.declared.Outcome.{Outcome}
 use Rattle.table.specs.declared.Process.{Process}
 use Rattle.table.specs.declared.Refusal.TheVariants.{Einval, Enospc, Eagain}
 use Rattle.table.specs.declared.Table.{Table}
-pub use Rattle.tree.proofs.Places.{Found, found_within, found_past}
 use Rattle.tree.proofs.Sights.{pid_in_read}
 use Rattle.tree.specs.Tree.{slot_in, level_in, pid_from}
 

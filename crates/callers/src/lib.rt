@@ -1,12 +1,9 @@
 // The caller: its namespace's level, whether its children are born into another one, whom a number names in its own,
-// and the calls that only ask: getpid and getppid. A record is read where the table is at hand, since a function that
-// takes the table copies it.
+// and the calls that only ask: getpid and getppid.
 use arguments::{names_one, natural_of};
 use outcomes::{Verdict, answers, refuse_if};
-use table::{
-    DEEPEST, Outcome, PID_VALUES, PROCESS_SLOTS, Pid, ProcSlot, Refusal, Table, empty_process,
-};
-use tree::{find, levels, namespace_at, pid_in, ups};
+use table::{DEEPEST, Outcome, PID_VALUES, Pid, ProcSlot, Refusal, Table};
+use tree::{find, levels, pid_in, ups};
 // What `named` gives where a number names nobody.
 ghost use Rattle.std.specs.Prelude.{◌≡◌};
 ghost use Rattle.outcomes.specs.Verdicts.{verdict};
@@ -20,14 +17,9 @@ pub use tree::NO_PROCESS;
 pub fn own_level(t: Table, caller: ProcSlot) -> u8
     ensures { result ≡ own_level (view t) caller.0 }
 {
-    let at = caller.0 as usize;
-    let p = if at < PROCESS_SLOTS {
-        t.processes[at]
-    } else {
-        empty_process()
-    };
-    let namespaces = t.namespaces;
-    let home = namespace_at(namespaces, p.own);
+    let p = t.process(caller);
+    let own = p.own;
+    let home = t.namespace(own);
     home.level
 }
 
@@ -35,12 +27,7 @@ pub fn own_level(t: Table, caller: ProcSlot) -> u8
 fn is_elsewhere(t: Table, caller: ProcSlot) -> bool
     ensures { result ≡ elsewhere (view t) caller.0 }
 {
-    let at = caller.0 as usize;
-    let p = if at < PROCESS_SLOTS {
-        t.processes[at]
-    } else {
-        empty_process()
-    };
+    let p = t.process(caller);
     p.children.0 != p.own.0
 }
 
@@ -69,12 +56,7 @@ pub fn named(t: Table, caller: ProcSlot, n: i32) -> ProcSlot
     if k >= PID_VALUES {
         return ProcSlot(NO_PROCESS);
     }
-    let at = caller.0 as usize;
-    let p = if at < PROCESS_SLOTS {
-        t.processes[at]
-    } else {
-        empty_process()
-    };
+    let p = t.process(caller);
     let own = p.own;
     find(t, own, Pid(k as u16))
 }
@@ -82,35 +64,18 @@ pub fn named(t: Table, caller: ProcSlot, n: i32) -> ProcSlot
 pub fn getpid(t: Table, caller: ProcSlot) -> Outcome
     ensures { result ≡ getpid_of t caller.0 }
 {
-    let at = caller.0 as usize;
-    let p = if at < PROCESS_SLOTS {
-        t.processes[at]
-    } else {
-        empty_process()
-    };
-    let own = p.own;
-    let namespaces = t.namespaces;
-    let home = namespace_at(namespaces, own);
-    let pid = p.pid_at(home.level);
+    let p = t.process(caller);
+    let pid = p.pid_at(own_level(t, caller));
     answers(t, pid.0)
 }
 
 pub fn getppid(t: Table, caller: ProcSlot) -> Outcome
     ensures { result ≡ getppid_of t caller.0 }
 {
-    let at = caller.0 as usize;
-    let p = if at < PROCESS_SLOTS {
-        t.processes[at]
-    } else {
-        empty_process()
-    };
+    let p = t.process(caller);
     let own = p.own;
-    let above = p.parent.0 as usize;
-    let parent = if above < PROCESS_SLOTS {
-        t.processes[above]
-    } else {
-        empty_process()
-    };
+    let slot = p.parent;
+    let parent = t.process(slot);
     let namespaces = t.namespaces;
     let pid = pid_in(ups(namespaces), levels(namespaces), own, parent);
     answers(t, pid.0)

@@ -1,6 +1,6 @@
 // One call on any table, by any caller.
-ghost use Rattle.std.specs.Prelude.{true, ◌≡◌};
 ghost use Rattle.std.proofs.Math.Bool.{So};
+ghost use Rattle.std.specs.Prelude.{◌≡◌};
 ghost use Rattle.rules.specs.Read.{view};
 ghost use Rattle.rules.specs.Sound.{sound};
 ghost use Rattle.rules.specs.Step.{runs, make as make_of, step as step_of_lem};
@@ -12,7 +12,7 @@ use kills::kill;
 use namespaces::{setns, unshare};
 use outcomes::refused;
 use sound::is_sound;
-use table::{Call, Outcome, PROCESS_SLOTS, ProcSlot, Refusal, Table, empty_process};
+use table::{Call, Outcome, ProcSlot, Refusal, Table};
 use waits::{exit, wait};
 
 // A call by a caller that may call. (Of another one nothing is said: `step` refuses it before.)
@@ -34,22 +34,14 @@ fn make(t: Table, caller: ProcSlot, call: Call) -> Outcome
     }
 }
 
-// One call on any table, by any caller. A table that is known to be sound is not checked. (Of one that is called so and
-// is not, nothing is said.)
-pub fn step_known(t: Table, known: bool, caller: ProcSlot, call: Call) -> Outcome
-    ensures { (known ≡ true → So (sound t)) → result ≡ step_of_lem t caller.0 call }
+// One call on any table, by any caller.
+pub fn step(t: Table, caller: ProcSlot, call: Call) -> Outcome
+    ensures { result ≡ step_of_lem t caller.0 call }
 {
-    let sound = if known { true } else { is_sound(t) };
-    if !sound {
+    if !is_sound(t) {
         return refused(t, Refusal::Unsound);
     }
-    // Read in place: a reader that takes the table would copy it.
-    let i = caller.0 as usize;
-    let p = if i < PROCESS_SLOTS {
-        t.processes[i]
-    } else {
-        empty_process()
-    };
+    let p = t.process(caller);
     let taken = p.is_taken();
     if !taken {
         return refused(t, Refusal::NotRunning);
@@ -59,11 +51,4 @@ pub fn step_known(t: Table, known: bool, caller: ProcSlot, call: Call) -> Outcom
         return refused(t, Refusal::NotRunning);
     }
     make(t, caller, call)
-}
-
-// The same, with nothing known of the table: it is checked.
-pub fn step(t: Table, caller: ProcSlot, call: Call) -> Outcome
-    ensures { result ≡ step_of_lem t caller.0 call }
-{
-    step_known(t, false, caller, call)
 }

@@ -1,5 +1,4 @@
-// clone, plain and new: a child is born, if it is not refused, in document 01's order. Records are read in place, since
-// a function that takes the table copies it.
+// clone, plain and new: a child is born, if it is not refused, in document 01's order.
 ghost use Rattle.std.specs.Prelude.{◌≡◌};
 ghost use Rattle.outcomes.specs.Verdicts.{verdict};
 ghost use Rattle.rules.specs.Calls.{born as born_of, clone_refusals, clone as clone_of, clone_new as clone_new_of};
@@ -10,20 +9,15 @@ use births::{birth, new_namespace};
 use callers::{may_make, own_level};
 use numbers::next_pid;
 use outcomes::{Verdict, refuse_if, refused};
-use table::{Answer, Outcome, PROCESS_SLOTS, ProcSlot, Refusal, Reply, Table, empty_process};
-use tree::{NO_NAMESPACE, NO_PROCESS, free_namespace_slot, free_slot, namespace_at};
+use table::{Answer, Outcome, ProcSlot, Refusal, Reply, Table};
+use tree::{NO_NAMESPACE, NO_PROCESS, free_namespace_slot, free_slot};
 
 // A child is born: t is the table before, u the one with the child at a slot. The answer is its number in the caller's
 // namespace, and the host is told its slot.
 fn born(t: Table, caller: ProcSlot, slot: ProcSlot, u: Table) -> Outcome
     ensures { slot.0 ≡ free_slot (view t) → result ≡ born_of t caller.0 u }
 {
-    let at = caller.0 as usize;
-    let p = if at < PROCESS_SLOTS {
-        t.processes[at]
-    } else {
-        empty_process()
-    };
+    let p = t.process(caller);
     let own = p.own;
     let pid = next_pid(t, own);
     Outcome {
@@ -39,14 +33,8 @@ fn born(t: Table, caller: ProcSlot, slot: ProcSlot, u: Table) -> Outcome
 fn may_clone(t: Table, caller: ProcSlot, slot: ProcSlot) -> Verdict
     ensures { slot.0 ≡ free_slot (view t) → result ≡ verdict (clone_refusals (view t) caller.0) }
 {
-    let at = caller.0 as usize;
-    let p = if at < PROCESS_SLOTS {
-        t.processes[at]
-    } else {
-        empty_process()
-    };
-    let namespaces = t.namespaces;
-    let home = namespace_at(namespaces, p.children);
+    let p = t.process(caller);
+    let home = t.namespace(p.children);
     let dead = home.is_dead();
     let full = slot.0 == NO_PROCESS;
     let room = refuse_if(full, Refusal::Eagain, Verdict::Granted);
@@ -58,12 +46,7 @@ fn may_clone(t: Table, caller: ProcSlot, slot: ProcSlot) -> Verdict
 pub fn clone(t: Table, caller: ProcSlot) -> Outcome
     ensures { result ≡ clone_of t caller.0 }
 {
-    let at = caller.0 as usize;
-    let p = if at < PROCESS_SLOTS {
-        t.processes[at]
-    } else {
-        empty_process()
-    };
+    let p = t.process(caller);
     let n = p.children;
     let slot = free_slot(t);
     let verdict = may_clone(t, caller, slot);
@@ -77,21 +60,15 @@ pub fn clone(t: Table, caller: ProcSlot) -> Outcome
 pub fn clone_new(t: Table, caller: ProcSlot) -> Outcome
     ensures { result ≡ clone_new_of t caller.0 }
 {
-    let at = caller.0 as usize;
-    let p = if at < PROCESS_SLOTS {
-        t.processes[at]
-    } else {
-        empty_process()
-    };
-    let namespaces = t.namespaces;
     let level = own_level(t, caller);
     let slot = free_slot(t);
-    let n = free_namespace_slot(namespaces);
+    let n = free_namespace_slot(t);
     let full = (slot.0 == NO_PROCESS) | (n.0 == NO_NAMESPACE);
     let verdict = may_make(t, caller, level, full);
     if let Verdict::Refused(why) = verdict {
         return refused(t, why);
     }
+    let p = t.process(caller);
     let own = p.own;
     let u = new_namespace(t, n, own, level + 1);
     born(t, caller, slot, birth(u, slot, caller, n))

@@ -17,9 +17,9 @@ use ending::end_process;
 use signals::{default_action, has_signal, with_signal};
 use table::{
     Action, End, NAMESPACE_SLOTS, NsSlot, PROCESS_SLOTS, Pid, ProcSlot, Process, SIGCONT, SIGKILL,
-    SIGSTOP, State, Table, empty_process,
+    SIGSTOP, State, Table,
 };
-use tree::{level_of, levels, namespace_at, seen, ups};
+use tree::{level_of, levels, seen, ups};
 
 // ---- what a signal does to a process
 
@@ -129,19 +129,21 @@ fn resumed(p: Process) -> Process
 
 // ---- one target
 
+// Whether the process at a slot is the init of its own namespace.
+fn is_init(t: Table, slot: ProcSlot) -> bool
+    ensures { result ≡ is_init_in (view t) slot.0 }
+{
+    let p = t.process(slot);
+    let home = t.namespace(p.own);
+    home.init().0 == slot.0
+}
+
 // Delivers a signal that a process of the namespace `from` sends. An empty slot is passed over, as an ended target is.
 pub fn deliver(t: Table, from: NsSlot, slot: ProcSlot, s: u8) -> Table
     ensures { Delivers t from.0 slot.0 s result }
 {
-    let at = slot.0 as usize;
-    let p = if at < PROCESS_SLOTS {
-        t.processes[at]
-    } else {
-        empty_process()
-    };
-    let namespaces = t.namespaces;
-    let home = namespace_at(namespaces, p.own);
-    let action = action_on(p, home.init().0 == slot.0, from, s);
+    let p = t.process(slot);
+    let action = action_on(p, is_init(t, slot), from, s);
     match action {
         Action::Nothing => t,
         Action::Resume => t.with_process(slot, resumed(p)),

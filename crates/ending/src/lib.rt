@@ -1,21 +1,20 @@
 // The end of a process, and the freeing of namespaces that nobody holds. A table is large and is copied at each call:
 // what is done at each slot takes one record, and the table goes only where it changes.
-ghost use Rattle.std.specs.Prelude.{◌≡◌, ◌<◌, ◌+◌, ltb, get_or, set};
+ghost use Rattle.std.specs.Prelude.{◌≡◌, ◌<◌, get_or};
 ghost use Rattle.rules.specs.Freeing.{freed};
-ghost use Rattle.table.specs.Limits.{process_slots, namespace_slots};
+ghost use Rattle.table.specs.Limits.{process_slots};
 ghost use Rattle.table.specs.Slots.{no_namespace};
 ghost use Rattle.table.specs.Records.{as_ended};
-ghost use Rattle.rules.specs.Read.{view, climb, seen as seen_in};
-ghost use Rattle.table.specs.Tests.{◌and◌, if◌then◌else◌, changed_to};
-ghost use Rattle.tree.specs.Tree.{column_at};
+ghost use Rattle.rules.specs.Read.{view, seen as seen_in};
+ghost use Rattle.tree.specs.Tree.{slot_in, level_in};
 ghost use Rattle.ending.specs.Ending.{killed as killed_by_9, dies_with, once_dead, marked_dead, falls_with, end_member, end_namespace, once_swept, swept, end_init, once_handed, handed_over, Ends};
-ghost use Rattle.ending.specs.Holding.{mark_at, MarksMore, holder_of, once_marked};
+ghost use Rattle.ending.specs.Holding.{mark_at, marks_of, kept_for, once_freed};
 
 use table::{
     DEEPEST, End, Life, NAMESPACE_SLOTS, NO_SLOT, Namespace, NsSlot, PROCESS_SLOTS, ProcSlot,
     Process, SIGKILL, State, Table, empty_namespace, empty_process,
 };
-use tree::{in_column, levels, namespace_at, parents, seen, ups};
+use tree::{below, is_blank_namespace, levels, mark_process, seen, ups};
 
 // ---- one record
 
@@ -43,6 +42,17 @@ fn killed(p: Process) -> Process
         return p;
     }
     ended(p, End::Signaled(SIGKILL))
+}
+
+// The namespace at a slot; past the last slot an empty one.
+fn namespace_at(namespaces: [Namespace; NAMESPACE_SLOTS], n: NsSlot) -> Namespace
+    ensures { result ≡ get_or namespaces n.0 no_namespace }
+{
+    let i = n.0 as usize;
+    if i < NAMESPACE_SLOTS {
+        return namespaces[i];
+    }
+    empty_namespace()
 }
 
 // ---- a namespace ends with its members
@@ -278,92 +288,79 @@ pub fn end_process(t: Table, slot: ProcSlot, how: End) -> Table
 
 // ---- freeing
 
-// Whether a namespace has a mark that stood for as many steps: then all that so many come to have marks too.
-fn is_marked(marks: &[u16; NAMESPACE_SLOTS], a: u8, steps: u8) -> bool
-    ensures { result ≡ ltb a namespace_slots and ltb steps (get_or marks.now a 0) }
+// The namespaces that some process has as its own or for its children.
+fn held(t: Table) -> [bool; NAMESPACE_SLOTS]
+    ensures { result ≡ marks_of t }
 {
-    let k = a as usize;
-    if k >= NAMESPACE_SLOTS {
-        return false;
-    }
-    (steps as u16) < marks[k]
-}
-
-// Puts a mark, one more than the steps. Past the last slot there is none to put.
-fn put_mark(marks: &mut [u16; NAMESPACE_SLOTS], a: u8, steps: u8)
-    ensures { marks.new ≡ (if ltb a namespace_slots then set marks.old a (steps + 1) else marks.old) }
-{
-    let k = a as usize;
-    if k < NAMESPACE_SLOTS {
-        marks[k] = steps as u16 + 1;
-    }
-}
-
-// Marks a, and what a climb from it comes to in so many steps at most. It stops at a mark that stood for as many: in a
-// sound table that is the first it meets, so that no two climbs go the same way.
-fn mark_up(up: &[u8; NAMESPACE_SLOTS], marks: &mut [u16; NAMESPACE_SLOTS], a: u8, steps: u8)
-    ensures { MarksMore (column_at up.now) (climb (column_at up.now) steps a) marks.old marks.new }
-{
-    if is_marked(marks, a, steps) {
-        return;
-    }
-    if 0 < steps {
-        let parent = in_column(up, a);
-        mark_up(up, marks, parent, steps - 1);
-    }
-    put_mark(marks, a, steps);
-}
-
-// Marks what a process holds, and all above that: ended or not, it holds its own namespace and that for its children.
-fn mark_held(
-    up: &[u8; NAMESPACE_SLOTS],
-    levels: &[u8; NAMESPACE_SLOTS],
-    marks: &mut [u16; NAMESPACE_SLOTS],
-    p: Process,
-)
-    ensures { MarksMore (column_at up.now) (holder_of (column_at up.now) (column_at levels.now) p) marks.old marks.new }
-{
-    if !p.is_taken() {
-        return;
-    }
-    let own = p.own.0;
-    let children = p.children.0;
-    mark_up(up, marks, own, in_column(levels, own));
-    mark_up(up, marks, children, in_column(levels, children));
-}
-
-// The namespaces that have a mark.
-fn marked(
-    mut namespaces: [Namespace; NAMESPACE_SLOTS],
-    marks: &[u16; NAMESPACE_SLOTS],
-) -> [Namespace; NAMESPACE_SLOTS]
-    ensures { result ≡ changed_to (once_marked marks.now) no_namespace namespace_slots namespaces }
-{
-    let mut n: usize = 0;
-    while n < NAMESPACE_SLOTS {
-        if marks[n] == 0 {
-            namespaces[n] = empty_namespace();
-        }
-        n += 1;
-    }
-    namespaces
-}
-
-// Frees the namespaces that nobody holds, upward as far as that goes. The root stays.
-pub fn free_unheld(mut t: Table) -> Table
-    ensures { result ≡ freed t }
-{
-    let namespaces = t.namespaces;
-    let up = parents(namespaces);
-    let levels = levels(namespaces);
-    let mut marks = [0u16; NAMESPACE_SLOTS];
-    mark_up(&up, &mut marks, 0, 0);
+    let mut marks = [false; NAMESPACE_SLOTS];
     let mut i: usize = 0;
     while i < PROCESS_SLOTS {
         let p = t.processes[i];
-        mark_held(&up, &levels, &mut marks, p);
+        let more = mark_process(marks, p);
+        marks = more;
         i += 1;
     }
-    t.namespaces = marked(namespaces, &marks);
-    t
+    marks
+}
+
+// Whether n stays: it is the root, or a marked namespace lies in its subtree.
+fn is_kept(
+    up: [NsSlot; NAMESPACE_SLOTS],
+    levels: [u8; NAMESPACE_SLOTS],
+    marks: [bool; NAMESPACE_SLOTS],
+    n: NsSlot,
+) -> bool
+    ensures { result ≡ kept_for (slot_in up) (level_in levels) (mark_at marks) n.0 }
+{
+    if n.0 == 0 {
+        return true;
+    }
+    let mut i: usize = 0;
+    while i < NAMESPACE_SLOTS {
+        if marks[i] {
+            if below(up, NsSlot(i as u8), n, levels[i]) {
+                return true;
+            }
+        }
+        i += 1;
+    }
+    false
+}
+
+// What is left of the namespace s at slot n. Most slots are blank, and need no climbs.
+fn once_freed(
+    up: [NsSlot; NAMESPACE_SLOTS],
+    levels: [u8; NAMESPACE_SLOTS],
+    marks: [bool; NAMESPACE_SLOTS],
+    n: NsSlot,
+    s: Namespace,
+) -> Namespace
+    ensures { result ≡ once_freed (slot_in up) (level_in levels) (mark_at marks) n.0 s }
+{
+    if is_blank_namespace(s) {
+        return s;
+    }
+    if is_kept(up, levels, marks, n) {
+        return s;
+    }
+    empty_namespace()
+}
+
+// Frees the namespaces that nobody holds, upward as far as that goes.
+pub fn free_unheld(t: Table) -> Table
+    ensures { result ≡ freed t }
+{
+    let namespaces = t.namespaces;
+    let up = ups(namespaces);
+    let levels = levels(namespaces);
+    let marks = held(t);
+    let mut u = t;
+    let mut i: usize = 0;
+    while i < NAMESPACE_SLOTS {
+        let s = u.namespaces[i];
+        let f = once_freed(up, levels, marks, NsSlot(i as u8), s);
+        u.namespaces[i] = f;
+        i += 1;
+    }
+    u
 }

@@ -13,7 +13,7 @@ use callers::{NO_PROCESS, named};
 use delivery::{Targets, deliver, deliver_all, others};
 use ending::free_unheld;
 use outcomes::{Verdict, answers, refuse_if, refused};
-use table::{Outcome, PROCESS_SLOTS, ProcSlot, Refusal, Table, empty_process};
+use table::{Outcome, ProcSlot, Refusal, Table};
 
 // Whether signal s may be sent to those that the number n means, who are nobody or not: the last refusal first.
 fn may_kill(n: i32, s: i32, nobody: bool) -> Verdict
@@ -30,12 +30,7 @@ fn may_kill(n: i32, s: i32, nobody: bool) -> Verdict
 fn send_one(t: Table, caller: ProcSlot, slot: ProcSlot, s: u8) -> Outcome
     ensures { Sends t caller.0 (slot.0 ∷ []) s result }
 {
-    let at = caller.0 as usize;
-    let p = if at < PROCESS_SLOTS {
-        t.processes[at]
-    } else {
-        empty_process()
-    };
+    let p = t.process(caller);
     let own = p.own;
     answers(free_unheld(deliver(t, own, slot, s)), 0)
 }

@@ -152,10 +152,9 @@ pub record FedWhole (script before mid : List ℕ) (r : Fed) : Type 0 where
   pub table_is : r.session.table ≡ (run_all fresh (ended [] script)).table
   pub carries : Carries r.session.line (left [] script)
 
--- m and g are what one of the two functions that feed it gave
-pub fed_whole : (script before mid m : List ℕ) (n : ℕ) (s : Session) (r g : Fed) → n ≡ length (lines script) → n ≤ length before / answer_bytes → (s.table ≡ fresh) × Carries s.line [] → ((l : List ℕ) → Carries (cut s.line) l → Feeds s l script before m g) → mid ≡ m → r ≡ g → FedWhole script before mid r
-fed_whole script before mid m n s r g e h b f p q =
-    let w : Feeds s [] script before mid r = subst₂ (Feeds s [] script before) (sym p) (sym q) (f [] (carries_cut s.line [] b.1)) in
+pub fed_whole : (script before mid : List ℕ) (n : ℕ) (s : Session) (r : Fed) → n ≡ length (lines script) → n ≤ length before / answer_bytes → (s.table ≡ fresh) × Carries s.line [] → ((l : List ℕ) → Carries (cut s.line) l → Feeds s l script before mid r) → FedWhole script before mid r
+fed_whole script before mid n s r e h b f =
+    let w : Feeds s [] script before mid r = f [] (carries_cut s.line [] b.1) in
     record {
       room = has_room script (length before) n e h;
       wrote = subst (λ t. Wrote (run_all t (ended [] script)).text before mid r.used) b.0 w.wrote;
@@ -178,7 +177,7 @@ fed_short script before mid r w =
     let s = w.wrote.size in
     omega arith
 
-pub fed_length : (script before mid : List ℕ) (r : Fed) → FedWhole script before mid r → length mid ≡ length before
+fed_length : (script before mid : List ℕ) (r : Fed) → FedWhole script before mid r → length mid ≡ length before
 unfolding needed
 fed_length script before mid r w =
     let u = fed_short script before mid r w in

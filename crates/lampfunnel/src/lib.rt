@@ -11,7 +11,7 @@ use mirror::{Mirror, mirror_of, table_from};
 use numbers::next_pid;
 use requests::{Request, Told};
 use script::ANSWER_BYTES;
-use session::{feed, feed_checked, finish, start};
+use session::{feed, finish, start};
 use sound::is_sound;
 use table::{NAMESPACE_SLOTS, NsSlot, fresh};
 use turns::turn;
@@ -38,19 +38,16 @@ fn line_count(script: &[u8]) -> usize
     count
 }
 
-// What the next two do: the table is checked at each call, or once.
-fn run_script(script: &[u8], each: bool, out: &mut [u8]) -> usize
+// Runs a whole script from the fresh table and writes its answers to the start of `out`. Tells how many bytes they are,
+// or SHORT where `out` has less room than the lines may need; then it is as before.
+#[unsafe(no_mangle)]
+pub extern "C" fn lampfunnel_run(script: &[u8], out: &mut [u8]) -> usize
     ensures { (result ≡ told script.now (length out.old)) × (out.new ≡ filled script.now out.old) }
 {
     if line_count(script) > out.len() / ANSWER_BYTES {
         return SHORT;
     }
-    let first = start();
-    let fed = if each {
-        feed_checked(first, script, out)
-    } else {
-        feed(first, script, out)
-    };
+    let fed = feed(start(), script, out);
     let used = fed.used;
     let session = fed.session;
     let line = session.line;
@@ -58,24 +55,6 @@ fn run_script(script: &[u8], each: bool, out: &mut [u8]) -> usize
         return used;
     }
     used + finish(session, &mut out[used..])
-}
-
-// Runs a whole script from the fresh table and writes its answers to the start of `out`. Tells how many bytes they are,
-// or SHORT where `out` has less room than the lines may need; then it is as before. The table is checked once, before
-// the first call.
-#[unsafe(no_mangle)]
-pub extern "C" fn lampfunnel_run(script: &[u8], out: &mut [u8]) -> usize
-    ensures { (result ≡ told script.now (length out.old)) × (out.new ≡ filled script.now out.old) }
-{
-    run_script(script, false, out)
-}
-
-// The same, with the table checked at each call.
-#[unsafe(no_mangle)]
-pub extern "C" fn lampfunnel_run_checked(script: &[u8], out: &mut [u8]) -> usize
-    ensures { (result ≡ told script.now (length out.old)) × (out.new ≡ filled script.now out.old) }
-{
-    run_script(script, true, out)
 }
 
 // ---- a table that the host holds

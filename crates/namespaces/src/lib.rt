@@ -8,7 +8,7 @@ use births::new_namespace;
 use callers::{may_make, named, own_level};
 use ending::free_unheld;
 use outcomes::{Verdict, answers, refuse_if, refused};
-use table::{NsSlot, Outcome, PROCESS_SLOTS, ProcSlot, Process, Refusal, Table, empty_process};
+use table::{NsSlot, Outcome, ProcSlot, Process, Refusal, Table};
 use tree::{NO_NAMESPACE, NO_PROCESS, free_namespace_slot};
 
 // The caller's children's namespace becomes n; the caller's own stays.
@@ -25,19 +25,13 @@ fn set_children(t: Table, caller: ProcSlot, n: NsSlot) -> Table
 pub fn unshare(t: Table, caller: ProcSlot) -> Outcome
     ensures { result ≡ unshare_of t caller.0 }
 {
-    let at = caller.0 as usize;
-    let p = if at < PROCESS_SLOTS {
-        t.processes[at]
-    } else {
-        empty_process()
-    };
-    let namespaces = t.namespaces;
     let level = own_level(t, caller);
-    let n = free_namespace_slot(namespaces);
+    let n = free_namespace_slot(t);
     let verdict = may_make(t, caller, level, n.0 == NO_NAMESPACE);
     if let Verdict::Refused(why) = verdict {
         return refused(t, why);
     }
+    let p = t.process(caller);
     let own = p.own;
     let u = new_namespace(t, n, own, level + 1);
     answers(set_children(u, caller, n), 0)

@@ -9,8 +9,9 @@ use borrow.Author.Tests.{eq-eqb, ne_eqb, eqb-true, leb-true}
 use lib.Dec.{eqb, ltb, leb}
 use lib.ListN.{length, set}
 use Rattle.numbers.proofs.Choice as choice
-use Rattle.tree.proofs.Columns.{column_reads}
+use Rattle.numbers.proofs.Knowing.{column_reads}
 use Rattle.numbers.proofs.Window.{lowest_same, found_free, none_free}
+use Rattle.numbers.specs.Climbs.{column_at}
 use Rattle.numbers.specs.Marks.{held_pid, unheld, first_of, by_marks}
 use Rattle.rules.specs.Pids.{free_pid, next_pid}
 use Rattle.rules.specs.Read.{view, climb, taken, below, seen, pid_seen}
@@ -24,7 +25,7 @@ use Rattle.table.specs.Tests.{◌and◌, if◌then◌else◌, any}
 use Rattle.table.specs.declared.Namespace.{Namespace}
 use Rattle.table.specs.declared.Process.{Process}
 use Rattle.table.specs.declared.Table.{Table}
-use Rattle.tree.specs.Tree.{level_in, column_at}
+use Rattle.tree.specs.Tree.{level_in}
 
 -- ---- the number of a process, by the tests of the code
 

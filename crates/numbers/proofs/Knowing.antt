@@ -4,10 +4,10 @@ use native.Mathlib.Decide.{dec_lt, ℕ_discrete}
 use native.Mathlib.Omega.{arith}
 use mathlib.Core.Bool.{Bool, true, false, false≢true}
 use mathlib.Core.List.{List}
-use mathlib.Core.Path.{◌≡◌, sym, ap, subst, ◌∙◌}
-use borrow.Author.Tests.{eqb-true}
+use mathlib.Core.Path.{◌≡◌, sym, ap, subst, fun_ext, ◌∙◌}
+use borrow.Author.Tests.{eqb-true, lt-ltb, le-ltb}
 use lib.Dec.{eqb, ltb}
-use lib.ListN.{get_or, set, replicate, length-replicate, get_or-replicate}
+use lib.ListN.{length, get_or, set, replicate, length-replicate, get_or-replicate}
 use lib.Seq.{get_or-set_other}
 use Rattle.rules.proofs.Laws.Tests.{left, right}
 use Rattle.rules.specs.Read.{climb}
@@ -16,7 +16,8 @@ use Rattle.table.proofs.Slots.{array_past}
 use Rattle.table.specs.Limits.{namespace_slots}
 use Rattle.table.specs.Tests.{◌and◌, if◌then◌else◌}
 use Rattle.tree.proofs.Climbs.{climb_on}
-use Rattle.numbers.specs.Climbs.{Known}
+use Rattle.tree.specs.Tree.{level_in}
+use Rattle.numbers.specs.Climbs.{column_at, Known}
 
 module _ (up level : ℕ → ℕ) (n : ℕ) where
   pub nothing_known : Known up level n (replicate namespace_slots false)
@@ -51,5 +52,14 @@ module _ (up level : ℕ → ℕ) (n : ℕ) where
       let there : climb up (level a) a n ≡ true = ap (λ k. climb up k a n) (eqb-true (level a) steps (right _ _ t)) ∙ sym (climb_on up a n steps m r o z p e) ∙ q in
       subst (Known up level n) (sym (d ∙ pick_yes _ _ _ t)) (kept known a w there))
       (λ t. subst (Known up level n) (sym (d ∙ pick_no _ _ _ t)) w)
+
+-- a column that is as long as its type says reads as a list does
+pub column_reads : (c : List ℕ) (f : ℕ → ℕ) → length c ≡ namespace_slots → level_in c ≡ f → column_at c ≡ f
+unfolding column_at
+column_reads c f e q = fun_ext (λ n. go n (dec_lt n namespace_slots)) ∙ q
+  where
+    go : (n : ℕ) → Dec (n < namespace_slots) → column_at c n ≡ level_in c n
+    go n (yes l) = pick_yes _ _ _ (lt-ltb n namespace_slots l)
+    go n (no o) = pick_no _ _ _ (le-ltb n namespace_slots (omega arith)) ∙ array_past c 0 namespace_slots n e (omega arith)
 
 pub ruleset knowing = (known_comes, known_kept)

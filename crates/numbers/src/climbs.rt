@@ -4,11 +4,20 @@ ghost use Rattle.std.specs.Prelude.{true, false, ◌≡◌, eqb, ltb, get_or, se
 ghost use Rattle.rules.specs.Read.{climb};
 ghost use Rattle.table.specs.Limits.{namespace_slots};
 ghost use Rattle.table.specs.Tests.{◌and◌, if◌then◌else◌};
-ghost use Rattle.tree.specs.Tree.{column_at};
-ghost use Rattle.numbers.specs.Climbs.{Known};
+ghost use Rattle.numbers.specs.Climbs.{column_at, Known};
 
 use table::NAMESPACE_SLOTS;
-use tree::in_column;
+
+// What a column has at a slot; past the last slot 0, as in an empty one.
+fn in_column(column: &[u8; NAMESPACE_SLOTS], slot: u8) -> u8
+    ensures { result ≡ column_at column.now slot }
+{
+    let k = slot as usize;
+    if k >= NAMESPACE_SLOTS {
+        return 0;
+    }
+    column[k]
+}
 
 // Whether a climb from a, with so many steps left, is known to come to n: a has its mark, and the steps are as many as
 // a's level. (In a sound table they are. In any other the mark says nothing about so many steps.)

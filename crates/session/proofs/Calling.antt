@@ -1,22 +1,16 @@
 -- From call to call on one table: the loop of `run_calls`, and the chunk that it goes through.
 use Prim.Native.Nat.{ℕ, suc, ◌<◌, ◌≤◌, ◌+◌, ◌*◌}
-use mathlib.Core.Bool.{Bool, true, false, So}
+use mathlib.Core.Bool.{true, false}
 use mathlib.Core.List.{List, [], ◌∷◌, ◌++◌, append-nil, map}
 use mathlib.Core.Path.{◌≡◌, refl, sym, ap, ap₂, subst, ◌∙◌}
 use lib.ListN.{length, take, length-append}
-use mir.Val.{Val}
 use native.Mathlib.Omega.{arith}
-use denote.Laws.{Is}
-use Rattle.callers.proofs.Fits.{sound_table}
 use Rattle.entry.specs.Applied.{Applied}
 use Rattle.lines.proofs.Carrying.{carries_own}
 use Rattle.lines.proofs.Cuts.{ended_count}
 use Rattle.lines.specs.Carried.{carried, Carries, cut}
 use Rattle.lines.specs.Runs.{run_line, run_all}
 use Rattle.lines.specs.Splitting.{ended, left, last_line}
-use Rattle.rules.proofs.Promises.{keeps_sound}
-use Rattle.rules.specs.Claims.{KeepsSound}
-use Rattle.rules.specs.Sound.{sound}
 use Rattle.script.specs.Outputs.{answer_line}
 use Rattle.script.specs.Sizes.{answer_bytes}
 use Rattle.script.specs.Texts.{line_feed}
@@ -30,7 +24,6 @@ use Rattle.session.specs.declared.Place.{Place}
 use Rattle.session.specs.declared.Session.{Session}
 use Rattle.session.specs.declared.Stand.{Stand}
 use Rattle.table.proofs.Chains.{pick_yes}
-use Rattle.table.specs.contracts.Table as T
 use Rattle.table.specs.declared.Reply.{Reply}
 use Rattle.table.specs.declared.Table.{Table}
 
@@ -98,13 +91,6 @@ passed_next t₀ p₀ chunk before t p out r z q after w f e s =
       leaves = λ l v. subst (Leaves chunk q) (sym ((w.leaves l v).on_call f)) s.leaves;
       room = omega arith;
     }
-
--- Each call leaves a sound table sound (promise 2), so what is known of the table before it is known after it. t is of
--- the declared type.
-pub still_sound : (known : Bool) (t : Table) (vs : List Val) (p : Place) (r : Reply) (z : Table) → Is T.the_row t vs → Applied t p.slot p.call r z → (known ≡ true → So (sound t)) → known ≡ true → So (sound z)
-unfolding KeepsSound
-still_sound known t vs p r z is e k h =
-    subst (λ u. So (sound u)) (sym e.table_is) (keeps_sound t p.slot.0 p.call (sound_table t vs is (k h))).rules
 
 pub fewer_left : (chunk : List ℕ) (p : Place) (a before after : List ℕ) (q : Place) → p.found ≡ true → Sought a [] chunk p.at p.used before after q → left_at chunk q < left_at chunk p
 fewer_left chunk p a before after q f s =

@@ -1,20 +1,17 @@
 // A session: the table and the open line, carried on from each chunk of the input to the next.
-ghost use Rattle.std.specs.Prelude.{true, ◌≡◌, List, [], ℕ, suc, ◌≤◌, ◌+◌, ◌*◌, length, drop};
-ghost use Rattle.std.proofs.Math.Bool.{So};
+ghost use Rattle.std.specs.Prelude.{◌≡◌, List, [], ℕ, suc, ◌≤◌, ◌+◌, ◌*◌, length, drop};
 ghost use Rattle.lines.specs.Carried.{Carries, cut};
 ghost use Rattle.lines.specs.Runs.{run_all};
 ghost use Rattle.lines.specs.Splitting.{ended, last_line};
-ghost use Rattle.rules.specs.Sound.{sound};
 ghost use Rattle.script.specs.Outputs.{answer_line};
 ghost use Rattle.script.specs.Sizes.{answer_bytes};
 ghost use Rattle.table.specs.Fresh.{fresh as fresh_table};
 ghost use Rattle.session.specs.Places.{left_at, Sought, Called};
 ghost use Rattle.session.specs.Sessions.{Wrote, Feeds};
 
-use entry::apply_known;
+use entry::apply;
 use lines::{Line, empty, read, take_line};
 use script::{Parsed, answer_text, bad_text, put};
-use sound::is_sound;
 use table::{Call, ProcSlot, Reply, Table, fresh};
 
 #[derive(Drop)]
@@ -99,15 +96,14 @@ struct Stand {
     place: Place,
 }
 
-// Makes the calls of a chunk one by one, on one table that is lent for each. None of them checks a table that is known
-// to be sound: each leaves it so.
-fn run_calls(mut t: Table, known: bool, p: Place, chunk: &[u8], out: &mut [u8]) -> Stand
-    requires { (known ≡ true → So (sound t)) × (p.used + answer_bytes * left_at chunk.now p ≤ length out.old) }
+// Makes the calls of a chunk one by one, on one table that is lent for each.
+fn run_calls(mut t: Table, p: Place, chunk: &[u8], out: &mut [u8]) -> Stand
+    requires { p.used + answer_bytes * left_at chunk.now p ≤ length out.old }
     ensures { Called t p chunk.now out.old out.new result }
 {
     let mut q = p;
     while q.found {
-        let r = apply_known(&mut t, known, q.slot, q.call);
+        let r = apply(&mut t, q.slot, q.call);
         q = go_on(q, r, chunk, out);
     }
     Stand { table: t, place: q }
@@ -122,15 +118,16 @@ pub struct Fed {
     pub used: usize,
 }
 
-// What the next two do: each call checks the table, unless it is known to be sound.
-fn feed_known(s: Session, known: bool, chunk: &[u8], out: &mut [u8]) -> Fed
-    requires { (known ≡ true → So (sound s.table)) × (answer_bytes * length (ended [] chunk.now) ≤ length out.old) }
+// Runs the lines that end in a chunk, and writes what they give from the start of `out`. There is room for an answer to
+// each.
+pub fn feed(s: Session, chunk: &[u8], out: &mut [u8]) -> Fed
+    requires { answer_bytes * length (ended [] chunk.now) ≤ length out.old }
     ensures { (l : List ℕ) → Carries (cut s.line) l → Feeds s l chunk.now out.old out.new result }
 {
     let line = s.line;
     let t = s.table;
     let p = seek(line, 0, 0, chunk, out);
-    let done = run_calls(t, known, p, chunk, out);
+    let done = run_calls(t, p, chunk, out);
     let table = done.table;
     let place = done.place;
     let left = place.line;
@@ -141,24 +138,6 @@ fn feed_known(s: Session, known: bool, chunk: &[u8], out: &mut [u8]) -> Fed
         },
         used: place.used,
     }
-}
-
-// Runs the lines that end in a chunk, and writes what they give from the start of `out`. There is room for an answer to
-// each. The table is checked once, before the first call, and again only where that check failed.
-pub fn feed(s: Session, chunk: &[u8], out: &mut [u8]) -> Fed
-    requires { answer_bytes * length (ended [] chunk.now) ≤ length out.old }
-    ensures { (l : List ℕ) → Carries (cut s.line) l → Feeds s l chunk.now out.old out.new result }
-{
-    let t = s.table;
-    feed_known(s, is_sound(t), chunk, out)
-}
-
-// The same, with the table checked at each call.
-pub fn feed_checked(s: Session, chunk: &[u8], out: &mut [u8]) -> Fed
-    requires { answer_bytes * length (ended [] chunk.now) ≤ length out.old }
-    ensures { (l : List ℕ) → Carries (cut s.line) l → Feeds s l chunk.now out.old out.new result }
-{
-    feed_known(s, false, chunk, out)
 }
 
 // Runs the last line, if its line feed is missing and there is a byte on it. Gives how many bytes were written.

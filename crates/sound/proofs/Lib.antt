@@ -4,9 +4,5 @@ pub mod Ranges
 pub mod Marks
 pub mod Reaches
 pub mod Records
-pub mod Chained
-pub mod Entering
-pub mod Filling
-pub mod Testing
-pub mod Holding
+pub mod Keys
 pub mod Same

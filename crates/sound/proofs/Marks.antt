@@ -20,10 +20,6 @@ use Rattle.table.specs.declared.Table.{Table}
 use Rattle.sound.specs.Quick.{mark_namespace, namespace_row, held_by_processes, held_by_children}
 use Rattle.rules.proofs.Laws.OneHold.{holds_one}
 
--- two marks, one put after the other
-pub two_marks : (m a b : List Bool) (i j : ℕ) → a ≡ set m i true → b ≡ set a j true → b ≡ set (set m i true) j true
-two_marks m a b i j p q = q ∙ ap (λ x. set x j true) p
-
 -- the turn of the process at i, and of the namespace at i
 abbrev pub process_turn : View → ℕ → List Bool → List Bool
 process_turn v i m = if taken v i then set (set m (v.own i) true) (children v i) true else m

@@ -1,11 +1,11 @@
 -- The quick way says what soundness says.
-use Prim.Native.Nat.{ℕ, zero, suc, ◌+◌, ◌*◌, ◌-◌, ◌/◌, ◌%◌, ◌<◌, ◌≤◌}
+use Prim.Native.Nat.{ℕ, zero, suc, ◌+◌, ◌*◌, ◌-◌, ◌<◌, ◌≤◌}
 use native.Mathlib.Decide.{dec_lt, ℕ_discrete}
 use native.Mathlib.Omega.{arith}
 use mathlib.Core.Bool.{Bool, true, false, So, false≢true}
 use mathlib.Core.Logic.{◌⊎◌, inl, inr, ⊎_elim}
-use mathlib.Core.Path.{◌≡◌, refl, sym, ◌∙◌, ap, ap₂, subst}
-use borrow.Author.Tests.{eqb-true, leb-true, le-leb}
+use mathlib.Core.Path.{◌≡◌, refl, sym, ◌∙◌, ap, subst}
+use borrow.Author.Tests.{eq-eqb, ne_eqb, eqb-true, leb-true, le-leb, lt-ltb, le-ltb}
 use lib.Dec.{eqb, leb}
 use Rattle.table.proofs.Chains.{by_bool, pick_yes, pick_no}
 use Rattle.rules.proofs.Laws.Below as Below
@@ -24,9 +24,7 @@ use Rattle.table.specs.declared.Life.{Life}
 use Rattle.table.specs.declared.Life.TheVariants.{Unborn, Alive, Dead}
 use Rattle.table.specs.Traits.{traits_ok, bare_traits, ended_traits}
 use Rattle.sound.specs.Quick as Q
-use Rattle.sound.specs.KeySet.{entries}
-use Rattle.sound.specs.NumberKeys.{slot_values, number_key, number_keys}
-use Rattle.sound.specs.Quick.{quick, process_at, namespace_at, unborn_keys}
+use Rattle.sound.specs.Quick.{quick, process_at, namespace_at, top, pid_keys, unborn_keys}
 use Rattle.rules.proofs.Laws.OneHold.{zero_one, only_children}
 use Rattle.rules.proofs.Laws.Holds.{each_index}
 use Rattle.tree.specs.Tree.{is_blank_namespace}
@@ -41,21 +39,45 @@ pid_cases v i l h = go (leb l (v.level (v.own i))) refl h
     go true e h = inr (leb-true l _ e, leb-true _ _ (right _ _ h))
     go false e h = inl (eqb-true _ 0 h)
 
--- a key that is not 0 is that of a process at its own level or above
-key_is : (v : View) (i n : ℕ) → (number_key v i n ≡ 0 → ⊥) → Taken v i × (levels - n ≤ v.level (v.own i)) × (number_key v i n ≡ (n * slot_values + up_by v.up (n - (levels - v.level (v.own i))) (v.own i)) * pid_values + v.pid i (levels - n))
-unfolding number_key
-key_is v i n o =
-    by_bool (taken v i and leb (levels - n) (v.level (v.own i)))
-    (λ e. (left _ _ e, leb-true _ _ (right _ _ e), pick_yes _ _ _ e))
-    (λ e. absurd (o (pick_no _ _ _ e)))
+-- a step up from the last of some steps is one step more
+one_more : (up : ℕ → ℕ) (m n : ℕ) → up (up_by up m n) ≡ up_by up (suc m) n
+unfolding up_by
+one_more up zero n = refl
+one_more up (suc m) n = one_more up m (up n)
 
--- where the keys of a process stand
-key_at : (v : View) (i m : ℕ) → m < levels → number_keys v (suc (i * levels + m)) ≡ number_key v i (suc m)
-unfolding number_keys
-key_at v i m l =
-    let d : (i * levels + m) / levels ≡ i = omega arith in
-    let r : (i * levels + m) % levels ≡ m = omega arith in
-    ap₂ (λ j n. number_key v j (suc n)) d r
+-- what k turns make of a namespace
+top_by : (up level : ℕ → ℕ) (n : ℕ) → n < namespace_slots → level n ≤ deepest → (k : ℕ) → k ≤ levels → top up level k n ≡ up_by up (level n - (levels - k)) n
+unfolding top Q.itself Q.raised up_by
+top_by up level n b l zero h =
+    let z : level n - levels ≡ 0 = omega arith in
+    pick_yes _ n 0 (lt-ltb n namespace_slots b) ∙ sym (ap (λ d. up_by up d n) z)
+top_by up level n b l (suc k) h = go (dec_lt (deepest - k) (level n)) (top_by up level n b l k (omega arith))
+  where
+    go : Dec (deepest - k < level n) → top up level k n ≡ up_by up (level n - (levels - k)) n → top up level (suc k) n ≡ up_by up (level n - (levels - suc k)) n
+    go (yes q) e =
+        let z : suc (level n - (levels - k)) ≡ level n - (levels - suc k) = omega arith in
+        pick_yes _ (up (top up level k n)) (top up level k n) (lt-ltb _ _ q) ∙ ap up e
+        ∙ one_more up (level n - (levels - k)) n ∙ ap (λ d. up_by up d n) z
+    go (no o) e =
+        let m : level n ≤ deepest - k = omega arith in
+        let z : level n - (levels - k) ≡ level n - (levels - suc k) = omega arith in
+        pick_no _ (up (top up level k n)) (top up level k n) (le-ltb (deepest - k) (level n) m) ∙ e ∙ ap (λ d. up_by up d n) z
+
+-- the namespace at the level l
+top_is : (v : View) (n k l : ℕ) → n < namespace_slots → v.level n ≤ deepest → k < levels → deepest - k ≡ l → top v.up v.level (suc k) n ≡ above_at v n l
+unfolding above_at
+top_is v n k l b h c e =
+    let z : levels - suc k ≡ l = omega arith in
+    top_by v.up v.level n b h (suc k) (omega arith) ∙ ap (λ d. up_by v.up (v.level n - d) n) z
+
+-- a key that is not 0 is made of a number that is not
+key_is : (v : View) (k l i : ℕ) → deepest - k ≡ l → ((v.pid i l ≡ 0) × (pid_keys v k i ≡ 0)) ⊎ ((v.pid i l ≡ 0 → ⊥) × (pid_keys v k i ≡ top v.up v.level (suc k) (v.own i) * pid_values + v.pid i l))
+unfolding Q.pid_key
+key_is v k l i q = subst (λ l. ((v.pid i l ≡ 0) × (pid_keys v k i ≡ 0)) ⊎ ((v.pid i l ≡ 0 → ⊥) × (pid_keys v k i ≡ top v.up v.level (suc k) (v.own i) * pid_values + v.pid i l))) q (go (ℕ_discrete (v.pid i (deepest - k)) 0))
+  where
+    go : Dec (v.pid i (deepest - k) ≡ 0) → ((v.pid i (deepest - k) ≡ 0) × (pid_keys v k i ≡ 0)) ⊎ ((v.pid i (deepest - k) ≡ 0 → ⊥) × (pid_keys v k i ≡ top v.up v.level (suc k) (v.own i) * pid_values + v.pid i (deepest - k)))
+    go (yes z) = inl (z, pick_yes _ _ _ (eq-eqb _ 0 z))
+    go (no o) = inr (o, pick_no _ _ _ (ne_eqb _ 0 o))
 
 -- the unborn namespace that a process holds, or 0
 HoldsUnborn : View → ℕ → Type 0
@@ -143,6 +165,15 @@ module _ (v : View) (p : Facts v) (h : Held v) where
       (unborn_key_is v j))
       (unborn_key_is v i))
 
+  -- whose number at a level is not 0 is a process, and the level is its own or above
+  has_pid : (l i : ℕ) → l < levels → (v.pid i l ≡ 0 → ⊥) → Taken v i × (l ≤ v.level (v.own i)) × (v.pid i l ≤ greatest_pid)
+  unfolding zero_process
+  has_pid l i b o = go (taken v i) refl
+    where
+      go : (k : Bool) → taken v i ≡ k → Taken v i × (l ≤ v.level (v.own i)) × (v.pid i l ≤ greatest_pid)
+      go true t = ⊎_elim (λ z. absurd (o z)) (λ q. (t, q.0, q.1)) (pid_cases v i l (p.pid_range i t l b))
+      go false e = absurd (o (eqb-true _ 0 (all_elim _ _ (right _ _ (p.empty_process i (λ t. false≢true (sym e ∙ t)))) l b)))
+
   low_level_of : (n : ℕ) → Stands v n → v.level n ≤ deepest
   low_level_of n s = go (ℕ_discrete n 0)
     where
@@ -150,50 +181,36 @@ module _ (v : View) (p : Facts v) (h : Held v) where
       go (yes z) = omega (arith, ap v.level z, p.root_level)
       go (no o) = (p.tree n s o).1
 
-  -- the namespace of a key
-  above_is : (i n : ℕ) → Taken v i → 0 < n → n ≤ levels → levels - n ≤ v.level (v.own i) → up_by v.up (n - (levels - v.level (v.own i))) (v.own i) ≡ above_at v (v.own i) (levels - n)
-  unfolding above_at
-  above_is i n t a c b =
-      let h = low_level_of (v.own i) (p.members i t).0.0 in
-      let e : n - (levels - v.level (v.own i)) ≡ v.level (v.own i) - (levels - n) = omega arith in
-      ap (λ d. up_by v.up d (v.own i)) e
+  own_top : (i k l : ℕ) → Taken v i → k < levels → deepest - k ≡ l → top v.up v.level (suc k) (v.own i) ≡ above_at v (v.own i) l
+  own_top i k l t b q =
+      let s = (p.members i t).0.0 in
+      top_is v (v.own i) k l (p.in_namespace (v.own i) s) (low_level_of (v.own i) s) b q
 
-  same_key : (i j n m : ℕ) → 0 < n → n ≤ levels → 0 < m → m ≤ levels → (number_key v i n ≡ 0 → ⊥) → number_key v j m ≡ number_key v i n → (j ≡ i) × (m ≡ n)
+  same_key : (k l i j : ℕ) → k < levels → deepest - k ≡ l → (pid_keys v k i ≡ 0 → ⊥) → pid_keys v k j ≡ pid_keys v k i → j ≡ i
   unfolding pid_seen
-  same_key i j n m an bn am bm o e =
-      let (ti, li, ki) = key_is v i n o in
-      let (tj, lj, kj) = key_is v j m (λ z. o (sym e ∙ z)) in
-      let (si, ui, ei) = Below.above_is v p (v.own i) (levels - n) (p.members i ti).0.0 li in
-      let (sj, uj, ej) = Below.above_is v p (v.own j) (levels - m) (p.members j tj).0.0 lj in
-      let ni = above_is i n ti an bn li in
-      let nj = above_is j m tj am bm lj in
-      let ri = p.in_namespace _ si in
-      let rj = p.in_namespace _ sj in
-      let gi = in_range i (levels - n) ti (omega arith) li in
-      let gj = in_range j (levels - m) tj (omega arith) lj in
-      let q : m ≡ n = omega arith in
-      let w : above_at v (v.own j) (levels - m) ≡ above_at v (v.own i) (levels - n) = omega arith in
-      let pids : v.pid j (levels - m) ≡ v.pid i (levels - n) = omega arith in (
-        p.differ (above_at v (v.own i) (levels - n)) si j i
-            (is_seen v _ j tj (subst (λ a. So (below v (v.own j) a)) w uj))
-            (is_seen v _ i ti ui)
-            (ap (v.pid j) (ei ∙ ap (λ x. levels - x) (sym q)) ∙ pids ∙ sym (ap (v.pid i) ei)),
-        q,
-      )
-    where
-      in_range : (i l : ℕ) → Taken v i → l < levels → l ≤ v.level (v.own i) → v.pid i l ≤ greatest_pid
-      in_range i l t b h = ⊎_elim (λ z. omega arith) (λ q. q.1) (pid_cases v i l (p.pid_range i t l b))
+  same_key k l i j b q o e =
+      ⊎_elim (λ a. absurd (o a.1))
+      (λ (oi, ki). ⊎_elim (λ a. absurd (o (sym e ∙ a.1)))
+      (λ (oj, kj).
+      let c : l < levels = omega arith in
+      let (ti, li, bi) = has_pid l i c oi in
+      let (tj, lj, bj) = has_pid l j c oj in
+      let (si, ui, ei) = Below.above_is v p (v.own i) l (p.members i ti).0.0 li in
+      let (sj, uj, ej) = Below.above_is v p (v.own j) l (p.members j tj).0.0 lj in
+      let mi = own_top i k l ti b q in
+      let mj = own_top j k l tj b q in
+      let same : above_at v (v.own j) l ≡ above_at v (v.own i) l = omega arith in
+      let pids : v.pid j l ≡ v.pid i l = omega arith in
+      p.differ (above_at v (v.own i) l) si j i
+      (is_seen v _ j tj (subst (λ m. So (below v (v.own j) m)) same uj))
+      (is_seen v _ i ti ui)
+      (ap (v.pid j) ei ∙ pids ∙ sym (ap (v.pid i) ei)))
+      (key_is v k l j q))
+      (key_is v k l i q)
 
-  keys_fit : So (all entries (Q.differs_at (number_keys v)))
-  unfolding number_keys
-  keys_fit = simp tests (λ x b o y d e. go x o y d e)
-    where
-      go : (x : ℕ) → (number_keys v x ≡ 0 → ⊥) → (y : ℕ) → y < x → number_keys v y ≡ number_keys v x → ⊥
-      go zero o y d e = o refl
-      go (suc x) o zero d e = o (sym e)
-      go (suc x) o (suc y) d e =
-          let (a, b) = same_key (x / levels) (y / levels) (suc (x % levels)) (suc (y % levels)) (omega arith) (omega arith) (omega arith) (omega arith) o e in
-          omega arith
+  keys_fit : (k : ℕ) → k < levels → So (Q.differ (pid_keys v k))
+  unfolding Q.differ
+  keys_fit k b = simp tests (λ i c o j d e. omega (arith, same_key k (deepest - k) i j b refl o e))
 
   -- an empty slot has slot 0 for its parent
   all_reach : So (Q.reach_ok v.parent)
@@ -222,7 +239,7 @@ module _ (v : View) (p : Facts v) (h : Held v) where
           ),
           holders_fit,
         ),
-        keys_fit,
+        all_intro levels _ keys_fit,
       )
 
 -- ---- to soundness
@@ -253,41 +270,11 @@ abbrev Born : View → ℕ → Type 0
 Born v n =
     ((Taken v (init v n) × (So (v.ended (init v n)) → ⊥)) × (v.own (init v n) ≡ n)) × (pid_seen v n (init v n) ≡ 1)
 
-zero_low : (v : View) (n : ℕ) → So (zero_namespace v n) → v.level n ≤ deepest
-unfolding zero_namespace
-zero_low v n h = let z : So (eqb (v.level n) 0) = right _ _ (left _ _ (left _ _ h)) in omega (arith, eqb-true (v.level n) 0 z)
-
--- and of each namespace slot
-abbrev Namespaces : View → Type 0
-Namespaces v =
-    (n : ℕ) → n < namespace_slots
-    → ((v.last n ≤ greatest_pid) × ((Stands v n → So (held v n)) × (So (held v n) → Stands v n)))
-    × ((Stands v n → ((So (alive v n) → Born v n) × ((So (alive v n) → ⊥) → So (unborn v n) → v.last n ≡ 0)) × (Other n → Placed v n))
-    × ((Stands v n → ⊥) → So (Q.blank_namespace (namespace_at v n))))
-
-namespaces_say : (v : View) → So (Q.namespaces_ok v) → Namespaces v
-unfolding Q.namespaces_ok Q.namespace_ok Q.filled_ok Q.life_ok Q.init_ok Q.place_ok pid_seen
-namespaces_say v h n b = simp tests at (all_elim namespace_slots _ h n b)
-
--- where these tests hold no level is too deep
-pub levels_low : (v : View) → Past v → So (S.root_namespace v) → So (Q.namespaces_ok v) → (n : ℕ) → v.level n ≤ deepest
-unfolding S.root_namespace
-levels_low v r b h n = go (dec_lt n namespace_slots) (ℕ_discrete n 0) (namespace_taken v n) refl
-  where
-    root : (So (alive v 0) × (v.level 0 ≡ 0)) × (v.up 0 ≡ no_slot)
-    root = simp tests at b
-
-    go : Dec (n < namespace_slots) → Dec (n ≡ 0) → (k : Bool) → namespace_taken v n ≡ k → v.level n ≤ deepest
-    go (no o) d k e = zero_low v n (r.past_namespaces n (omega arith))
-    go (yes l) (yes z) k e = omega (arith, ap v.level z, root.0.1)
-    go (yes l) (no o) true e = (((namespaces_say v h n l).1.0 e).1 o).0.0.1
-    go (yes l) (no o) false e = zero_low v n (sym (blank_namespace_is v n) ∙ (namespaces_say v h n l).1.1 (λ t. false≢true (sym e ∙ t)))
-
 module _ (v : View) (r : Past v) (q : So (quick v)) where
   parts :
       (((((So (S.root_process v) × So (S.root_namespace v)) × So (Q.processes_ok v)) × So (Q.namespaces_ok v)) × So (Q.reach_ok v.parent))
       × So (Q.differ (unborn_keys v)))
-      × So (all entries (Q.differs_at (number_keys v)))
+      × So (all levels (λ k. Q.differ (pid_keys v k)))
   unfolding quick
   parts = simp and_iff at q
 
@@ -303,8 +290,13 @@ module _ (v : View) (r : Past v) (q : So (quick v)) where
   unfolding Q.processes_ok Q.process_ok Q.member_ok Q.parent_ok Q.state_ok Q.ended_ok Q.living_ok Q.pids_ok below pid_seen
   process_says i b = simp tests at (all_elim process_slots _ parts.0.0.0.0.1 i b)
 
-  namespace_says : Namespaces v
-  namespace_says = namespaces_say v parts.0.0.0.1
+  namespace_says :
+      (n : ℕ) → n < namespace_slots
+      → ((v.last n ≤ greatest_pid) × ((Stands v n → So (held v n)) × (So (held v n) → Stands v n)))
+      × ((Stands v n → ((So (alive v n) → Born v n) × ((So (alive v n) → ⊥) → So (unborn v n) → v.last n ≡ 0)) × (Other n → Placed v n))
+      × ((Stands v n → ⊥) → So (Q.blank_namespace (namespace_at v n))))
+  unfolding Q.namespaces_ok Q.namespace_ok Q.filled_ok Q.life_ok Q.init_ok Q.place_ok pid_seen
+  namespace_says n b = simp tests at (all_elim namespace_slots _ parts.0.0.0.1 n b)
 
   reach : (i : ℕ) → i < process_slots → So (reaches_root v.parent process_slots i)
   unfolding Q.reach_ok
@@ -314,8 +306,9 @@ module _ (v : View) (r : Past v) (q : So (quick v)) where
   unfolding Q.differ
   hold_keys = simp tests at parts.0.1
 
-  keys : (x : ℕ) → x < entries → (number_keys v x ≡ 0 → ⊥) → (y : ℕ) → y < x → number_keys v y ≡ number_keys v x → ⊥
-  keys = simp tests at parts.1
+  keys : (k : ℕ) → k < levels → (i : ℕ) → i < process_slots → (pid_keys v k i ≡ 0 → ⊥) → (j : ℕ) → j < i → pid_keys v k j ≡ pid_keys v k i → ⊥
+  unfolding Q.differ
+  keys k b = simp tests at (all_elim levels (λ k. Q.differ (pid_keys v k)) parts.1 k b)
 
   range : (i : ℕ) → Taken v i → i < process_slots
   unfolding taken zero_process
@@ -373,33 +366,36 @@ module _ (v : View) (r : Past v) (q : So (quick v)) where
       (climb_cases v.up k a n h)
 
   -- what a process seen from n has for its key at n's level
-  seen_key : (n i : ℕ) → Stands v n → Seen v n i → number_key v i (levels - v.level n) ≡ ((levels - v.level n) * slot_values + n) * pid_values + pid_seen v n i
-  unfolding below number_key pid_seen
-  seen_key n i s h =
+  seen_key : (n k i : ℕ) → Stands v n → k < levels → deepest - k ≡ v.level n → Seen v n i → (pid_keys v k i ≡ n * pid_values + pid_seen v n i) × (1 ≤ pid_seen v n i)
+  unfolding below above_at pid_seen
+  seen_key n k i s c e h =
       let (b, u) = climbs_to n (v.level (v.own i)) (v.own i) refl (seen_below v n i h) in
       let t = seen_taken v n i h in
-      let l = low_level n s in
-      let m = low_level (v.own i) (member_of i t).0.0.0.0.0 in
-      let z : levels - (levels - v.level n) ≡ v.level n = omega arith in
-      let d : levels - v.level n - (levels - v.level (v.own i)) ≡ v.level (v.own i) - v.level n = omega arith in
-      pick_yes _ _ _ (both _ _ t (le-leb (levels - (levels - v.level n)) (v.level (v.own i)) (omega arith)))
-      ∙ ap₂ (λ x y. ((levels - v.level n) * slot_values + x) * pid_values + v.pid i y) (ap (λ x. up_by v.up x (v.own i)) d ∙ u) z
+      let w = (member_of i t).0.0.0.0.0 in
+      let m : 1 ≤ v.pid i (v.level n) = has i t (v.level n) (low_level n s) b in
+      let high : v.level (v.own i) ≤ deepest = omega (arith, low_level (v.own i) w) in
+      let a = top_is v (v.own i) k (v.level n) (namespace_range (v.own i) w) high c e ∙ u in
+      ⊎_elim (λ x. omega (arith, x.0)) (λ x. (x.1 ∙ ap (λ x. x * pid_values + v.pid i (v.level n)) a, m)) (key_is v k (v.level n) i e)
+    where
+      has : (i : ℕ) → Taken v i → (l : ℕ) → l < levels → l ≤ v.level (v.own i) → 1 ≤ v.pid i l
+      has i t l b h = left_of ((member_of i t).0.1 l b) (le-leb l _ h)
+        where
+          left_of : pid_ok v i l → leb l (v.level (v.own i)) ≡ true → 1 ≤ v.pid i l
+          left_of k e = leb-true 1 _ (left _ _ (rw e at k))
 
   apart : (i j : ℕ) → (i < j → ⊥) → (j < i → ⊥) → i ≡ j
   apart i j a b = omega arith
 
-  -- of two processes with one number in n the later one has no key
-  no_later : (n : ℕ) → Stands v n → (i j : ℕ) → Seen v n i → Seen v n j → pid_seen v n i ≡ pid_seen v n j → i < j → ⊥
-  no_later n s i j a b e c =
-      let l = low_level n s in
-      let m : levels - v.level n ≡ suc (deepest - v.level n) = omega arith in
-      let at : (i : ℕ) → number_keys v (suc (i * levels + (deepest - v.level n))) ≡ number_key v i (levels - v.level n) = λ i. key_at v i (deepest - v.level n) (omega arith) ∙ ap (number_key v i) (sym m) in
-      let r = range j (seen_taken v n j b) in
-      keys (suc (j * levels + (deepest - v.level n))) (omega arith) (λ z. omega (arith, at j, seen_key n j s b)) (suc (i * levels + (deepest - v.level n))) (omega arith)
-      (at i ∙ seen_key n i s a ∙ ap (λ x. ((levels - v.level n) * slot_values + n) * pid_values + x) e ∙ sym (seen_key n j s b) ∙ sym (at j))
-
   differ : (n : ℕ) → Stands v n → (i j : ℕ) → Seen v n i → Seen v n j → pid_seen v n i ≡ pid_seen v n j → i ≡ j
-  differ n s i j a b e = apart i j (no_later n s i j a b e) (no_later n s j i b a (sym e))
+  differ n s i j a b e =
+      let l = low_level n s in
+      let k : deepest - v.level n < levels = omega arith in
+      let z : deepest - (deepest - v.level n) ≡ v.level n = omega arith in
+      let (ki, oi) = seen_key n (deepest - v.level n) i s k z a in
+      let (kj, oj) = seen_key n (deepest - v.level n) j s k z b in
+      apart i j
+      (λ c. keys (deepest - v.level n) k j (range j (seen_taken v n j b)) (λ z. omega arith) i c (ki ∙ ap (λ x. n * pid_values + x) e ∙ sym kj))
+      (λ c. keys (deepest - v.level n) k i (range i (seen_taken v n i a)) (λ z. omega arith) j c (kj ∙ ap (λ x. n * pid_values + x) (sym e) ∙ sym ki))
 
   -- ---- unborn namespaces
 

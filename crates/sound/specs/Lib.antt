@@ -1,4 +1,1 @@
-pub mod Chains
-pub mod KeySet
-pub mod NumberKeys
 pub mod Quick

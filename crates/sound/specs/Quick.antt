@@ -1,21 +1,20 @@
 -- The way in which the code decides whether a table is sound: each process once with the namespaces and the parent that
 -- it names, each namespace once with its parent and its init, and the numbers by one key for each process and level.
 -- proofs/Same.antt shows that it says what specs/Sound.antt of `rules` says.
-use Rattle.std.specs.Prelude.{ℕ, suc, Bool, true, not, List, eqb, leb, get_or, set}
-use Rattle.table.specs.Limits.{process_slots, namespace_slots, levels, deepest, greatest_pid, no_slot}
+use Rattle.std.specs.Prelude.{ℕ, zero, suc, ◌+◌, ◌*◌, ◌-◌, Bool, true, not, List, eqb, leb, ltb, get_or, set}
+use Rattle.table.specs.Limits.{process_slots, namespace_slots, levels, deepest, greatest_pid, pid_values, no_slot}
 use Rattle.table.specs.Slots.{no_namespace, pid_at, is_running, is_ended, is_unborn, is_alive, is_dead, init_of}
 use Rattle.rules.specs.Read.{View, taken, namespace_taken, climb, children}
 use Rattle.rules.specs.Sound.{root_process, root_namespace, reaches_root, kept_end, holds, held}
 use Rattle.table.specs.Tests.{◌and◌, ◌or◌, ◌implies◌, agree, if◌then◌else◌, all, any}
 use Rattle.table.specs.declared.Life.{Life}
 use Rattle.table.specs.declared.Namespace.{Namespace}
+use Rattle.table.specs.declared.ProcSlot.{ProcSlot}
 use Rattle.table.specs.declared.Process.{Process}
 use Rattle.table.specs.declared.State.{State}
 use Rattle.table.specs.declared.Traits.{Traits}
 use Rattle.table.specs.Traits.{blank_traits, bare_traits, traits_ok}
 use Rattle.tree.specs.Tree.{is_blank_namespace}
-use Rattle.sound.specs.KeySet.{entries}
-use Rattle.sound.specs.NumberKeys.{number_keys}
 
 -- ---- one slot: of a view, and of what the code has read
 
@@ -118,6 +117,9 @@ processes_ok v =
     all process_slots
     (λ i. process_ok v.up i (process_at v i) (namespace_at v (v.own i)) (namespace_at v (children v i)) (process_at v (v.parent i)))
 
+abbrev pub process_in : List ProcSlot → ℕ → ℕ
+process_in slots i = (get_or slots i (record { 0 = 0 })).0
+
 -- An empty slot has slot 0 for its parent, so it reaches slot 0 too. As many steps as there are slots are enough: a
 -- longer chain comes to a slot twice.
 unfoldable pub reach_ok : (ℕ → ℕ) → Bool
@@ -158,11 +160,6 @@ namespaces_ok v =
 
 -- ---- which namespaces something holds, as marks
 
--- those of one process, if it is there: its own, and the one for its children
-abbrev pub mark_process : List Bool → Process → List Bool
-mark_process m p = if not (eqb (pid_at p 0) 0) then set (set m p.own.0 true) p.children.0 true else m
-
--- and of a namespace but the root: its parent
 abbrev pub mark_namespace : List Bool → ℕ → NamespaceRow → List Bool
 mark_namespace m n s = if not (eqb n 0) and s.taken then set m s.up true else m
 
@@ -179,6 +176,9 @@ held_by_children s n =
 
 -- ---- keys, one for each process, of which no two may be equal but where they are 0
 
+abbrev pub key_in : List ℕ → ℕ → ℕ
+key_in keys i = get_or keys i 0
+
 abbrev pub differs_at : (ℕ → ℕ) → ℕ → Bool
 differs_at key i = eqb (key i) 0 or all i (λ j. not (eqb (key j) (key i)))
 
@@ -191,6 +191,26 @@ unborn_key p inner = if p.taken and inner.taken and is_unborn inner.life then p.
 
 abbrev pub unborn_keys : View → ℕ → ℕ
 unborn_keys v i = unborn_key (process_at v i) (namespace_at v (children v i))
+
+-- each namespace itself, and those below a level one up
+unfoldable pub itself : ℕ → ℕ
+itself n = if ltb n namespace_slots then n else 0
+
+unfoldable pub raised : (ℕ → ℕ) → (ℕ → ℕ) → ℕ → (ℕ → ℕ) → ℕ → ℕ
+raised up level l top n = if ltb l (level n) then up (top n) else top n
+
+-- The namespace at the level levels - k that is n or above it, where n is at most at the deepest level: at each turn
+-- those below the next level go one up.
+unfoldable pub top : (ℕ → ℕ) → (ℕ → ℕ) → ℕ → ℕ → ℕ
+top up level zero = itself
+top up level (suc k) = raised up level (deepest - k) (top up level k)
+
+-- the namespace at a level and the number there as one key
+unfoldable pub pid_key : (ℕ → ℕ) → ℕ → ProcessRow → ℕ
+pid_key top l p = if eqb (p.pid l) 0 then 0 else top p.own * pid_values + p.pid l
+
+abbrev pub pid_keys : View → ℕ → ℕ → ℕ
+pid_keys v k i = pid_key (top v.up v.level (suc k)) (deepest - k) (process_at v i)
 
 -- ---- the root
 
@@ -206,4 +226,4 @@ root_namespace_ok n = is_alive n.life and eqb n.level 0 and eqb n.up no_slot
 unfoldable pub quick : View → Bool
 quick v =
     root_process v and root_namespace v and processes_ok v and namespaces_ok v and reach_ok v.parent
-    and differ (unborn_keys v) and all entries (differs_at (number_keys v))
+    and differ (unborn_keys v) and all levels (λ k. differ (pid_keys v k))

@@ -1,54 +1,49 @@
-// Which namespaces something holds, as marks; and that an unborn one has one holder. The marks are lent: by value each
-// call in a loop would build the array anew.
-ghost use Rattle.std.specs.Prelude.{true, false, not, ◌≡◌, ◌<◌, eqb, length, get_or, set, replicate};
+// Which namespaces something holds, as marks; and who holds an unborn one, which has one holder.
+ghost use Rattle.std.specs.Prelude.{◌≡◌};
 ghost use Rattle.table.proofs.MarkLoops.{Marks};
 ghost use Rattle.table.specs.Limits.{namespace_slots};
-ghost use Rattle.table.specs.Tests.{◌or◌};
 ghost use Rattle.rules.specs.Read.{view};
-ghost use Rattle.sound.specs.Quick.{process_row, namespace_row, mark_namespace, held_by_processes, held_by_children, unborn_key, unborn_keys, differ, mark_process};
+ghost use Rattle.sound.specs.Quick.{process_row, namespace_row, mark_namespace, held_by_processes, held_by_children, key_in, unborn_key, unborn_keys};
 
 use table::{NAMESPACE_SLOTS, Namespace, NsSlot, PROCESS_SLOTS, Process, Table, empty_namespace};
-use tree::holds_namespace;
+use tree::{holds_namespace, mark, mark_process};
 
-// ---- marks
-
-// One mark more. Past the last slot there is none to put.
-fn put(marks: &mut [bool; NAMESPACE_SLOTS], n: u8)
-    requires { length marks.old ≡ namespace_slots }
-    ensures { (marks.new ≡ set marks.old n true) × (length marks.new ≡ namespace_slots) }
-{
-    let slot = n as usize;
-    if slot < NAMESPACE_SLOTS {
-        marks[slot] = true;
-    }
-}
-
-// A process holds its own namespace and the one for its children.
-fn mark_process(marks: &mut [bool; NAMESPACE_SLOTS], p: Process)
-    requires { length marks.old ≡ namespace_slots }
-    ensures { (marks.new ≡ mark_process marks.old p) × (length marks.new ≡ namespace_slots) }
-{
-    if p.is_taken() {
-        put(marks, p.own.0);
-        put(marks, p.children.0);
-    }
-}
+// ---- which namespaces something holds
 
 // A namespace but the root holds its parent.
-fn mark_namespace(marks: &mut [bool; NAMESPACE_SLOTS], n: NsSlot, s: Namespace)
-    requires { length marks.old ≡ namespace_slots }
-    ensures { (marks.new ≡ mark_namespace marks.old n.0 (namespace_row n.0 s)) × (length marks.new ≡ namespace_slots) }
+fn mark_namespace(
+    marks: [bool; NAMESPACE_SLOTS],
+    n: NsSlot,
+    s: Namespace,
+) -> [bool; NAMESPACE_SLOTS]
+    ensures { result ≡ mark_namespace marks n.0 (namespace_row n.0 s) }
 {
     if n.0 == 0 {
-        return;
+        return marks;
     }
-    if holds_namespace(n, s) {
-        put(marks, s.parent.0);
+    if !holds_namespace(n, s) {
+        return marks;
     }
+    let up = s.parent;
+    mark(marks, up)
 }
 
-// ---- what the namespaces hold
+// The root, and what the processes hold.
+pub(crate) fn held_by_processes(t: Table) -> [bool; NAMESPACE_SLOTS]
+    ensures { Marks namespace_slots result (held_by_processes (view t)) }
+{
+    let mut marks = [false; NAMESPACE_SLOTS];
+    marks[0] = true;
+    let mut i: usize = 0;
+    while i < PROCESS_SLOTS {
+        let p = t.processes[i];
+        marks = mark_process(marks, p);
+        i += 1;
+    }
+    marks
+}
 
+// What the namespaces hold.
 pub(crate) fn held_by_children(namespaces: [Namespace; NAMESPACE_SLOTS]) -> [bool; NAMESPACE_SLOTS]
     ensures { Marks namespace_slots result (held_by_children namespaces) }
 {
@@ -56,16 +51,17 @@ pub(crate) fn held_by_children(namespaces: [Namespace; NAMESPACE_SLOTS]) -> [boo
     let mut n: usize = 0;
     while n < NAMESPACE_SLOTS {
         let s = namespaces[n];
-        mark_namespace(&mut marks, NsSlot(n as u8), s);
+        let next = mark_namespace(marks, NsSlot(n as u8), s);
+        marks = next;
         n += 1;
     }
     marks
 }
 
-// ---- what the processes hold
+// ---- who holds an unborn one
 
 // The unborn namespace that a process holds, or 0.
-fn unborn_key(p: Process, inner: Namespace) -> u8
+fn unborn_key(p: Process, inner: Namespace) -> u32
     ensures { result ≡ unborn_key (process_row p) (namespace_row p.children.0 inner) }
 {
     let children = p.children;
@@ -78,28 +74,14 @@ fn unborn_key(p: Process, inner: Namespace) -> u8
     if !inner.is_unborn() {
         return 0;
     }
-    children.0
+    children.0 as u32
 }
 
-// Whether a key is 0 or comes for the first time. It has come then.
-fn is_first(came: &mut [bool; NAMESPACE_SLOTS], key: u8) -> bool
-    requires { key < namespace_slots }
-    ensures { (result ≡ eqb key 0 or not (get_or came.old key false)) × (came.new ≡ set came.old key true) }
+// The unborn namespaces that processes hold, each of which has one holder.
+pub(crate) fn unborn_keys(t: Table) -> [u32; PROCESS_SLOTS]
+    ensures { key_in result ≡ unborn_keys (view t) }
 {
-    let k = key as usize;
-    let before = came[k];
-    came[k] = true;
-    (key == 0) | !before
-}
-
-// Marks the root and what the processes hold, and tells whether no unborn namespace has two holders.
-pub(crate) fn holders(t: Table, held: &mut [bool; NAMESPACE_SLOTS]) -> bool
-    requires { held.old ≡ replicate namespace_slots false }
-    ensures { (result ≡ differ (unborn_keys (view t))) × Marks namespace_slots held.new (held_by_processes (view t)) }
-{
-    held[0] = true;
-    let mut came = [false; NAMESPACE_SLOTS];
-    let mut single = true;
+    let mut keys = [0u32; PROCESS_SLOTS];
     let mut i: usize = 0;
     while i < PROCESS_SLOTS {
         let p = t.processes[i];
@@ -109,9 +91,8 @@ pub(crate) fn holders(t: Table, held: &mut [bool; NAMESPACE_SLOTS]) -> bool
         } else {
             empty_namespace()
         };
-        mark_process(held, p);
-        single = single & is_first(&mut came, unborn_key(p, inner));
+        keys[i] = unborn_key(p, inner);
         i += 1;
     }
-    single
+    keys
 }

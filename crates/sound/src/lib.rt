@@ -1,5 +1,4 @@
 // The check of a whole table. Each pass over the table takes the table once; what it does at a slot takes records.
-mod entries;
 mod holders;
 mod namespaces;
 mod numbers;
@@ -12,12 +11,12 @@ ghost use Rattle.rules.specs.Sound.{root_process, root_namespace, sound};
 ghost use Rattle.table.specs.Tests.{◌and◌};
 ghost use Rattle.sound.specs.Quick.{process_row, namespace_row, root_process_ok, root_namespace_ok};
 
-use holders::holders;
+use holders::unborn_keys;
 use namespaces::namespaces_ok;
-use numbers::pids_differ;
+use numbers::{all_differ, pids_differ};
 use processes::processes_ok;
 use reach::{all_reach_root, parents};
-use table::{NAMESPACE_SLOTS, NO_SLOT, Namespace, Process, Table};
+use table::{NO_SLOT, Namespace, Process, Table};
 
 // ---- the root
 
@@ -82,15 +81,13 @@ pub fn is_sound(t: Table) -> bool
     if !processes_ok(t) {
         return false;
     }
-    let mut held = [false; NAMESPACE_SLOTS];
-    if !holders(t, &mut held) {
+    if !namespaces_ok(t) {
         return false;
     }
-    if !namespaces_ok(t, &held) {
+    if !all_reach_root(parents(t)) {
         return false;
     }
-    let parents = parents(t);
-    if !all_reach_root(&parents) {
+    if !all_differ(unborn_keys(t)) {
         return false;
     }
     pids_differ(t)

@@ -1,13 +1,11 @@
 // A namespace by itself and with its parent and its init.
 ghost use Rattle.std.specs.Prelude.{◌≡◌, suc, eqb};
-ghost use Rattle.table.proofs.MarkLoops.{Marks};
-ghost use Rattle.table.specs.Limits.{namespace_slots};
 ghost use Rattle.table.specs.Slots.{is_unborn, is_dead};
 ghost use Rattle.rules.specs.Read.{view};
 ghost use Rattle.table.specs.Tests.{◌implies◌, agree};
-ghost use Rattle.sound.specs.Quick.{process_row, namespace_row, init_ok, life_ok, place_ok, filled_ok, namespace_ok, namespaces_ok, held_by_processes};
+ghost use Rattle.sound.specs.Quick.{process_row, namespace_row, init_ok, life_ok, place_ok, filled_ok, namespace_ok, namespaces_ok};
 
-use super::holders::held_by_children;
+use super::holders::{held_by_children, held_by_processes};
 use table::{
     DEEPEST, GREATEST_PID, NAMESPACE_SLOTS, Namespace, NsSlot, PROCESS_SLOTS, Process, Table,
     empty_namespace, empty_process,
@@ -138,12 +136,12 @@ fn namespace_ok(n: NsSlot, held: bool, s: Namespace, above: Namespace, init: Pro
 
 // ---- all slots
 
-// Each namespace slot, with the records that its namespace names; marks has those of what the processes hold.
-pub(crate) fn namespaces_ok(t: Table, marks: &[bool; NAMESPACE_SLOTS]) -> bool
-    requires { Marks namespace_slots marks.now (held_by_processes (view t)) }
+// Each namespace slot, with the records that its namespace names.
+pub(crate) fn namespaces_ok(t: Table) -> bool
     ensures { result ≡ namespaces_ok (view t) }
 {
     let namespaces = t.namespaces;
+    let by_process = held_by_processes(t);
     let by_child = held_by_children(namespaces);
     let mut i: usize = 0;
     while i < NAMESPACE_SLOTS {
@@ -160,7 +158,7 @@ pub(crate) fn namespaces_ok(t: Table, marks: &[bool; NAMESPACE_SLOTS]) -> bool
         } else {
             empty_process()
         };
-        let held = marks[i] | by_child[i];
+        let held = by_process[i] | by_child[i];
         if !namespace_ok(NsSlot(i as u8), held, s, above, init) {
             return false;
         }

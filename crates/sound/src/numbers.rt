@@ -1,96 +1,141 @@
-// No two processes share a number in a namespace: the numbers of one process after the other go into a set of keys,
-// each with the namespace that it is in and the level. What this costs follows the numbers that there are.
-ghost use Rattle.std.specs.Prelude.{◌≡◌, ℕ, ◌<◌, ◌≤◌, ◌+◌};
-ghost use Rattle.table.specs.Limits.{deepest, levels as level_count};
+// No two processes share a number in a namespace: one key for each process and level, of which no two are equal.
+ghost use Rattle.std.specs.Prelude.{◌≡◌, ◌<◌, ltb};
+ghost use Rattle.table.specs.Limits.{levels as level_count, process_slots};
 ghost use Rattle.rules.specs.Read.{view};
-ghost use Rattle.table.specs.Tests.{all};
-ghost use Rattle.tree.specs.Tree.{column_at};
-ghost use Rattle.sound.specs.KeySet.{entries, Linked};
-ghost use Rattle.sound.specs.NumberKeys.{Row, Rows, Fills, Fulfils, number_keys};
-ghost use Rattle.sound.specs.Quick.{differs_at};
+ghost use Rattle.table.specs.Tests.{if◌then◌else◌, all};
+ghost use Rattle.tree.specs.Tree.{slot_in, level_in};
+ghost use Rattle.sound.specs.Quick.{process_row, process_at, key_in, differs_at, differ, raised, itself, pid_key, pid_keys};
 
-use super::entries::{BUCKETS, ENTRIES, enter, holds};
-use table::{LEVELS, NAMESPACE_SLOTS, PID_VALUES, PROCESS_SLOTS, Process, Table};
-use tree::{in_column, levels, parents};
+use table::{DEEPEST, NAMESPACE_SLOTS, NsSlot, PID_VALUES, PROCESS_SLOTS, Process, Table};
+use tree::{levels, parent_of, ups};
 
-// How many numbers a slot of a namespace can be.
-const SLOT_VALUES: u32 = 256;
+// ---- keys
 
-// Enters the numbers of a process, from its own level up to the root's, each with the namespace that it is in and the
-// level: the n-th level from the deepest at the n-th entry after `from`. It stops at the first that is there already.
-fn enter_row(
-    heads: &mut [u16; BUCKETS],
-    nexts: &mut [u16; ENTRIES],
-    keys: &mut [u32; ENTRIES],
-    up: &[u8; NAMESPACE_SLOTS],
-    p: Process,
-    level: u8,
-    from: usize,
-) -> bool
-    requires { (level ≤ deepest) × (from + level_count < entries) × Linked (from + 1) heads.old nexts.old keys.old }
-    ensures { Linked (from + level_count + 1) heads.new nexts.new keys.new × ((f : ℕ → ℕ) → Fills f (from + 1) keys.old → Row f (column_at up.now) p level from → Fulfils f (from + level_count + 1) keys.new result) }
+// Whether the key at i is 0 or no key below i is the same.
+fn differs(keys: &[u32; PROCESS_SLOTS], i: usize) -> bool
+    requires { i < process_slots }
+    ensures { result ≡ differs_at (key_in keys.now) i }
 {
-    let mut top = p.own.0;
-    let mut n = LEVELS - level as usize;
-    while n <= LEVELS {
-        let pid = p.pids[LEVELS - n];
-        let key = (n as u32 * SLOT_VALUES + top as u32) * PID_VALUES + pid.0 as u32;
-        if holds(heads, nexts, keys, key) {
+    let key = keys[i];
+    if key == 0 {
+        return true;
+    }
+    let mut j: usize = 0;
+    while j < i {
+        if keys[j] == key {
             return false;
         }
-        enter(heads, nexts, keys, from + n, key);
-        top = in_column(up, top);
-        n += 1;
+        j += 1;
     }
     true
 }
 
-// Enters the numbers of a process. An empty slot has none.
-fn enter_process(
-    heads: &mut [u16; BUCKETS],
-    nexts: &mut [u16; ENTRIES],
-    keys: &mut [u32; ENTRIES],
-    up: &[u8; NAMESPACE_SLOTS],
-    levels: &[u8; NAMESPACE_SLOTS],
-    p: Process,
-    from: usize,
-) -> bool
-    requires { (column_at levels.now p.own.0 ≤ deepest) × (from + level_count < entries) × Linked (from + 1) heads.old nexts.old keys.old }
-    ensures { Linked (from + level_count + 1) heads.new nexts.new keys.new × ((f : ℕ → ℕ) → Fills f (from + 1) keys.old → Rows f (column_at up.now) (column_at levels.now) p from → Fulfils f (from + level_count + 1) keys.new result) }
+// Whether no two keys but 0 are equal.
+pub(crate) fn all_differ(keys: [u32; PROCESS_SLOTS]) -> bool
+    ensures { result ≡ differ (key_in keys) }
 {
-    if !p.is_taken() {
-        return true;
-    }
-    let level = in_column(levels, p.own.0);
-    enter_row(heads, nexts, keys, up, p, level, from)
-}
-
-// No two processes have the same number in the same namespace.
-pub(crate) fn pids_differ(t: Table) -> bool
-    requires { (n : ℕ) → (view t).level n ≤ deepest }
-    ensures { result ≡ all entries (differs_at (number_keys (view t))) }
-{
-    let namespaces = t.namespaces;
-    let up = parents(namespaces);
-    let levels = levels(namespaces);
-    let mut heads = [0u16; BUCKETS];
-    let mut nexts = [0u16; ENTRIES];
-    let mut keys = [0u32; ENTRIES];
     let mut i: usize = 0;
     while i < PROCESS_SLOTS {
-        let p = t.processes[i];
-        if !enter_process(
-            &mut heads,
-            &mut nexts,
-            &mut keys,
-            &up,
-            &levels,
-            p,
-            i * LEVELS,
-        ) {
+        if !differs(&keys, i) {
             return false;
         }
         i += 1;
+    }
+    true
+}
+
+// ---- the namespace of a process at a level
+
+// Who is below a level goes one up.
+fn raise_one(up: [NsSlot; NAMESPACE_SLOTS], top: NsSlot, own: u8, level: u8) -> NsSlot
+    ensures { result.0 ≡ (if ltb level own then slot_in up top.0 else top.0) }
+{
+    if level < own {
+        return parent_of(up, top);
+    }
+    top
+}
+
+// The namespace above each at a level, from those one level down.
+fn raise(
+    up: [NsSlot; NAMESPACE_SLOTS],
+    levels: [u8; NAMESPACE_SLOTS],
+    tops: [NsSlot; NAMESPACE_SLOTS],
+    level: u8,
+) -> [NsSlot; NAMESPACE_SLOTS]
+    ensures { slot_in result ≡ raised (slot_in up) (level_in levels) level (slot_in tops) }
+{
+    let mut raised = tops;
+    let mut n: usize = 0;
+    while n < NAMESPACE_SLOTS {
+        let top = raised[n];
+        raised[n] = raise_one(up, top, levels[n], level);
+        n += 1;
+    }
+    raised
+}
+
+// Each namespace itself.
+fn themselves() -> [NsSlot; NAMESPACE_SLOTS]
+    ensures { slot_in result ≡ itself }
+{
+    let mut tops = [NsSlot(0); NAMESPACE_SLOTS];
+    let mut n: usize = 0;
+    while n < NAMESPACE_SLOTS {
+        tops[n] = NsSlot(n as u8);
+        n += 1;
+    }
+    tops
+}
+
+// ---- a number and its namespace as a key
+
+// The namespace of a process at a level and its number there as one key, or 0 where it has none.
+fn pid_key(tops: [NsSlot; NAMESPACE_SLOTS], level: u8, p: Process) -> u32
+    ensures { result ≡ pid_key (slot_in tops) level (process_row p) }
+{
+    let number = p.pid_at(level);
+    if number.0 == 0 {
+        return 0;
+    }
+    let own = p.own;
+    let top = parent_of(tops, own);
+    top.0 as u32 * PID_VALUES + number.0 as u32
+}
+
+// The keys of all processes at a level.
+fn pid_keys(t: Table, tops: [NsSlot; NAMESPACE_SLOTS], level: u8) -> [u32; PROCESS_SLOTS]
+    ensures { key_in result ≡ (λ i. pid_key (slot_in tops) level (process_at (view t) i)) }
+{
+    let mut keys = [0u32; PROCESS_SLOTS];
+    let mut i: usize = 0;
+    while i < PROCESS_SLOTS {
+        let p = t.processes[i];
+        keys[i] = pid_key(tops, level, p);
+        i += 1;
+    }
+    keys
+}
+
+// ---- all levels
+
+// No two processes have the same number in the same namespace.
+pub(crate) fn pids_differ(t: Table) -> bool
+    ensures { result ≡ all level_count (λ k. differ (pid_keys (view t) k)) }
+{
+    let namespaces = t.namespaces;
+    let up = ups(namespaces);
+    let levels = levels(namespaces);
+    let mut tops = themselves();
+    let mut k: u8 = 0;
+    while k <= DEEPEST {
+        let level = DEEPEST - k;
+        let next = raise(up, levels, tops, level);
+        tops = next;
+        if !all_differ(pid_keys(t, tops, level)) {
+            return false;
+        }
+        k += 1;
     }
     true
 }

@@ -2,19 +2,20 @@
 ghost use Rattle.std.specs.Prelude.{◌≡◌, eqb};
 ghost use Rattle.table.specs.Limits.{levels as level_count};
 ghost use Rattle.table.specs.Slots.{is_unborn, pid_at};
-ghost use Rattle.rules.specs.Read.{view, climb};
+ghost use Rattle.rules.specs.Read.{view};
 ghost use Rattle.rules.specs.Sound.{kept_end};
 ghost use Rattle.table.specs.Tests.{◌implies◌, all};
 ghost use Rattle.table.specs.declared.State.TheVariants.{Ended};
 ghost use Rattle.table.specs.Traits.{blank_traits, bare_traits, traits_ok};
-ghost use Rattle.tree.specs.Tree.{column_at};
+ghost use Rattle.tree.specs.Tree.{slot_in};
 ghost use Rattle.sound.specs.Quick.{process_row, namespace_row, ended_ok, living_ok, state_ok, pid_ok, pids_ok, member_ok, parent_ok, blank, process_ok, processes_ok};
 
 use table::{
-    End, GREATEST_PID, LEVELS, NAMESPACE_SLOTS, NO_SLOT, Namespace, PROCESS_SLOTS, Process,
-    SIGKILL, SIGNALS, SIGSTOP, STATUSES, State, Table, Traits, empty_namespace, empty_process,
+    End, GREATEST_PID, LEVELS, NAMESPACE_SLOTS, NO_SLOT, Namespace, NsSlot, PROCESS_SLOTS, Pid,
+    Process, SIGKILL, SIGNALS, SIGSTOP, STATUSES, State, Table, Traits, empty_namespace,
+    empty_process,
 };
-use tree::{holds_namespace, in_column};
+use tree::{below, holds_namespace, ups};
 
 // ---- a process's traits
 
@@ -51,22 +52,6 @@ fn traits_ok(x: Traits) -> bool
     (x.pending & x.handled) == x.pending
 }
 
-// ---- the tree
-
-// Whether the climb from a, which has this level, to its parent and so on comes to b, by a column that is lent.
-fn climbs(up: &[u8; NAMESPACE_SLOTS], a: u8, b: u8, level: u8) -> bool
-    ensures { result ≡ climb (column_at up.now) level a b }
-{
-    if a == b {
-        return true;
-    }
-    if level == 0 {
-        return false;
-    }
-    let parent = in_column(up, a);
-    climbs(up, parent, b, level - 1)
-}
-
 // ---- a process by itself
 
 // What an ended process has left.
@@ -91,8 +76,8 @@ fn holds_rightly(p: Process, inner: Namespace) -> bool
 
 // A living process's namespace is not dead, and the one for its children is its own or below. What the first two tests
 // ask is found before them: where the first refuses, the second was found for nothing. The order is the definition's.
-fn living_ok(up: &[u8; NAMESPACE_SLOTS], p: Process, home: Namespace, inner: Namespace) -> bool
-    ensures { result ≡ living_ok (column_at up.now) (process_row p) (namespace_row p.own.0 home) (namespace_row p.children.0 inner) }
+fn living_ok(up: [NsSlot; NAMESPACE_SLOTS], p: Process, home: Namespace, inner: Namespace) -> bool
+    ensures { result ≡ living_ok (slot_in up) (process_row p) (namespace_row p.own.0 home) (namespace_row p.children.0 inner) }
 {
     let own = p.own;
     let children = p.children;
@@ -104,15 +89,15 @@ fn living_ok(up: &[u8; NAMESPACE_SLOTS], p: Process, home: Namespace, inner: Nam
     if missing {
         return false;
     }
-    if !climbs(up, children.0, own.0, inner.level) {
+    if !below(up, children, own, inner.level) {
         return false;
     }
     holds_rightly(p, inner)
 }
 
 // An ended process keeps little; a living one is held to its namespaces.
-fn state_ok(up: &[u8; NAMESPACE_SLOTS], p: Process, home: Namespace, inner: Namespace) -> bool
-    ensures { result ≡ state_ok (column_at up.now) (process_row p) (namespace_row p.own.0 home) (namespace_row p.children.0 inner) }
+fn state_ok(up: [NsSlot; NAMESPACE_SLOTS], p: Process, home: Namespace, inner: Namespace) -> bool
+    ensures { result ≡ state_ok (slot_in up) (process_row p) (namespace_row p.own.0 home) (namespace_row p.children.0 inner) }
 {
     if p.has_ended() {
         return ended_ok(p);
@@ -147,38 +132,37 @@ fn end_ok(state: State) -> bool
 }
 
 // Whether a number may stand at a level: one up to the own level, and none beyond.
-fn pid_ok(pid: u16, l: u16, level: u16) -> bool
-    ensures { result ≡ pid_ok pid l level }
+fn pid_ok(pid: Pid, l: usize, level: u8) -> bool
+    ensures { result ≡ pid_ok pid.0 l level }
 {
-    if l > level {
-        return pid == 0;
+    if l > level as usize {
+        return pid.0 == 0;
     }
-    if pid == 0 {
+    if pid.0 == 0 {
         return false;
     }
-    pid <= GREATEST_PID
+    pid.0 <= GREATEST_PID
 }
 
-// Whether each number of a process may stand at its level, where its own namespace has this level. No test leaves the
-// loop, and all is as wide as a number, so that the compiler can look at several levels at once.
+// Whether each number of a process may stand at its level, where its own namespace has this level.
 fn pids_ok(p: Process, level: u8) -> bool
     ensures { result ≡ pids_ok (pid_at p) level }
 {
-    let own = level as u16;
-    let mut ok = true;
-    let mut l: u16 = 0;
-    while l < LEVELS as u16 {
-        let pid = p.pids[l as usize];
-        ok = ok & pid_ok(pid.0, l, own);
+    let mut l: usize = 0;
+    while l < LEVELS {
+        let pid = p.pids[l];
+        if !pid_ok(pid, l, level) {
+            return false;
+        }
         l += 1;
     }
-    ok
+    true
 }
 
 // All that a process is held to beside its parent: home is its own namespace, inner the one for its children. What the
 // first two tests ask is found before them, as in living_ok.
-fn member_ok(up: &[u8; NAMESPACE_SLOTS], p: Process, home: Namespace, inner: Namespace) -> bool
-    ensures { result ≡ member_ok (column_at up.now) (process_row p) (namespace_row p.own.0 home) (namespace_row p.children.0 inner) }
+fn member_ok(up: [NsSlot; NAMESPACE_SLOTS], p: Process, home: Namespace, inner: Namespace) -> bool
+    ensures { result ≡ member_ok (slot_in up) (process_row p) (namespace_row p.own.0 home) (namespace_row p.children.0 inner) }
 {
     let own = p.own;
     let state = p.state;
@@ -216,8 +200,8 @@ fn first_ok(p: Process, home: Namespace, parent: Process) -> bool
 }
 
 // A parent has not ended, and its own namespace is the child's or above it.
-fn parent_ok(up: &[u8; NAMESPACE_SLOTS], p: Process, home: Namespace, parent: Process) -> bool
-    ensures { result ≡ parent_ok (column_at up.now) (process_row p) (namespace_row p.own.0 home) (process_row parent) }
+fn parent_ok(up: [NsSlot; NAMESPACE_SLOTS], p: Process, home: Namespace, parent: Process) -> bool
+    ensures { result ≡ parent_ok (slot_in up) (process_row p) (namespace_row p.own.0 home) (process_row parent) }
 {
     let own = p.own;
     let above = parent.own;
@@ -227,7 +211,7 @@ fn parent_ok(up: &[u8; NAMESPACE_SLOTS], p: Process, home: Namespace, parent: Pr
     if parent.has_ended() {
         return false;
     }
-    if !climbs(up, own.0, above.0, home.level) {
+    if !below(up, own, above, home.level) {
         return false;
     }
     first_ok(p, home, parent)
@@ -274,14 +258,14 @@ fn is_blank(p: Process) -> bool
 
 // A process slot, with its process's namespace, that for its children, and its parent.
 fn process_ok(
-    up: &[u8; NAMESPACE_SLOTS],
+    up: [NsSlot; NAMESPACE_SLOTS],
     i: usize,
     p: Process,
     home: Namespace,
     inner: Namespace,
     parent: Process,
 ) -> bool
-    ensures { result ≡ process_ok (column_at up.now) i (process_row p) (namespace_row p.own.0 home) (namespace_row p.children.0 inner) (process_row parent) }
+    ensures { result ≡ process_ok (slot_in up) i (process_row p) (namespace_row p.own.0 home) (namespace_row p.children.0 inner) (process_row parent) }
 {
     if !p.is_taken() {
         return is_blank(p);
@@ -302,7 +286,7 @@ pub(crate) fn processes_ok(t: Table) -> bool
     ensures { result ≡ processes_ok (view t) }
 {
     let namespaces = t.namespaces;
-    let up = tree::parents(namespaces);
+    let up = ups(namespaces);
     let mut i: usize = 0;
     while i < PROCESS_SLOTS {
         let p = t.processes[i];
@@ -324,7 +308,7 @@ pub(crate) fn processes_ok(t: Table) -> bool
         } else {
             empty_process()
         };
-        if !process_ok(&up, i, p, home, inner, parent) {
+        if !process_ok(up, i, p, home, inner, parent) {
             return false;
         }
         i += 1;

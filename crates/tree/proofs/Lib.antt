@@ -1,5 +1,4 @@
 -- Laws that belong to no one function.
 pub mod Climbs
-pub mod Columns
-pub mod Places
+pub mod Marks
 pub mod Sights

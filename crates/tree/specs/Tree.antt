@@ -1,10 +1,9 @@
 -- The definitions of `rules` read a view, that is a table by its slots. The code takes a table's parents and levels out
 -- once, as small arrays, and one process at a time: these say the same of such arrays and of a process.
-use Rattle.std.specs.Prelude.{ℕ, Bool, not, List, eqb, ltb, get_or}
-use Rattle.table.specs.Limits.{namespace_slots}
+use Rattle.std.specs.Prelude.{ℕ, Bool, true, not, List, eqb, get_or, set}
 use Rattle.table.specs.Slots.{no_namespace, pid_at, is_unborn}
 use Rattle.rules.specs.Read.{climb}
-use Rattle.table.specs.Tests.{◌and◌, ◌or◌, if◌then◌else◌, lowest}
+use Rattle.table.specs.Tests.{◌and◌, ◌or◌, if◌then◌else◌}
 use Rattle.table.specs.declared.Namespace.{Namespace}
 use Rattle.table.specs.declared.NsSlot.{NsSlot}
 use Rattle.table.specs.declared.Process.{Process}
@@ -22,10 +21,6 @@ slot_in up n = (get_or up n (record { 0 = 0 })).0
 
 abbrev pub level_in : List ℕ → ℕ → ℕ
 level_in levels n = get_or levels n 0
-
--- what a column has at the slot of a namespace; past the last slot 0, as in an empty one
-unfoldable pub column_at : List ℕ → ℕ → ℕ
-column_at c n = if ltb n namespace_slots then get_or c n 0 else 0
 
 -- ---- one process, given the parents and the levels
 
@@ -45,10 +40,10 @@ named_from up level n l k p = seen_from up level n p and eqb (pid_at p l) k
 abbrev pub holds_namespace : ℕ → Namespace → Bool
 holds_namespace n s = eqb n 0 or not (eqb s.level 0)
 
--- the lowest slot that lies empty, or 48
-abbrev pub free_namespace : List Namespace → ℕ
-free_namespace s = lowest (λ n. not (holds_namespace n (get_or s n no_namespace))) namespace_slots 0
-
 -- nothing stands at a namespace slot with the record s: all zero, and unborn
 unfoldable pub is_blank_namespace : Namespace → Bool
 is_blank_namespace s = eqb s.parent.0 0 and eqb s.level 0 and eqb s.last.0 0 and is_unborn s.life
+
+-- marks of namespaces with those of one process, if it is there: its own, and the one for its children
+abbrev pub mark_process : List Bool → Process → List Bool
+mark_process m p = if not (eqb (pid_at p 0) 0) then set (set m p.own.0 true) p.children.0 true else m

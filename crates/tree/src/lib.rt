@@ -1,16 +1,12 @@
-// The tree of namespaces: what lies below what, who is seen from where and under which number, and the lowest free
-// slots. A pass over the table takes the table once; what it does at each slot takes one process, and the parents and
-// levels of the namespaces as small arrays, or as columns that are lent.
-ghost use Rattle.std.specs.Prelude.{◌≡◌, get_or};
+// The tree of namespaces: what lies below what, who is seen from where and under which number, the lowest free slots,
+// and marks of namespaces. A pass over the table takes the table once; what it does at each slot takes one process, and
+// the parents and levels of the namespaces as small arrays.
+ghost use Rattle.std.specs.Prelude.{true, ◌≡◌, set};
 ghost use Rattle.rules.specs.Read.{view, climb, find as find_in};
-ghost use Rattle.rules.specs.Pids.{free_slot};
-ghost use Rattle.table.specs.Slots.{no_namespace};
-ghost use Rattle.tree.specs.Tree.{ups_of, levels_of, slot_in, level_in, column_at, seen_from, pid_from, named_from, holds_namespace, free_namespace, is_blank_namespace};
+ghost use Rattle.rules.specs.Pids.{free_slot, free_namespace_slot};
+ghost use Rattle.tree.specs.Tree.{ups_of, levels_of, slot_in, level_in, seen_from, pid_from, named_from, holds_namespace, is_blank_namespace, mark_process};
 
-use table::{
-    NAMESPACE_SLOTS, Namespace, NsSlot, PROCESS_SLOTS, Pid, ProcSlot, Process, Table,
-    empty_namespace,
-};
+use table::{NAMESPACE_SLOTS, Namespace, NsSlot, PROCESS_SLOTS, Pid, ProcSlot, Process, Table};
 
 // ---- no slot
 
@@ -19,19 +15,6 @@ use table::{
 pub const NO_PROCESS: u8 = PROCESS_SLOTS as u8;
 
 pub const NO_NAMESPACE: u8 = NAMESPACE_SLOTS as u8;
-
-// ---- one namespace
-
-// The namespace at a slot; past the last slot an empty one.
-pub fn namespace_at(namespaces: [Namespace; NAMESPACE_SLOTS], slot: NsSlot) -> Namespace
-    ensures { result ≡ get_or namespaces slot.0 no_namespace }
-{
-    let i = slot.0 as usize;
-    if i >= NAMESPACE_SLOTS {
-        return empty_namespace();
-    }
-    namespaces[i]
-}
 
 // ---- the parents and the levels of all namespaces
 
@@ -74,17 +57,6 @@ pub fn levels(namespaces: [Namespace; NAMESPACE_SLOTS]) -> [u8; NAMESPACE_SLOTS]
         n += 1;
     }
     levels
-}
-
-// What a column has at a slot; past the last slot 0, as in an empty one.
-pub fn in_column(column: &[u8; NAMESPACE_SLOTS], slot: u8) -> u8
-    ensures { result ≡ column_at column.now slot }
-{
-    let k = slot as usize;
-    if k >= NAMESPACE_SLOTS {
-        return 0;
-    }
-    column[k]
 }
 
 // The parent of a namespace; past the last slot 0, as in an empty one.
@@ -241,16 +213,39 @@ pub fn is_blank_namespace(s: Namespace) -> bool
 }
 
 // The lowest free namespace slot, or NO_NAMESPACE.
-pub fn free_namespace_slot(namespaces: [Namespace; NAMESPACE_SLOTS]) -> NsSlot
-    ensures { result.0 ≡ free_namespace namespaces }
+pub fn free_namespace_slot(t: Table) -> NsSlot
+    ensures { result.0 ≡ free_namespace_slot (view t) }
 {
     let mut slot: usize = 0;
     while slot < NAMESPACE_SLOTS {
-        let n = namespaces[slot];
+        let n = t.namespaces[slot];
         if !holds_namespace(NsSlot(slot as u8), n) {
             return NsSlot(slot as u8);
         }
         slot += 1;
     }
     NsSlot(NO_NAMESPACE)
+}
+
+// ---- marks of namespaces
+
+// One mark more. Past the last slot there is none to put.
+pub fn mark(mut marks: [bool; NAMESPACE_SLOTS], n: NsSlot) -> [bool; NAMESPACE_SLOTS]
+    ensures { result ≡ set marks n.0 true }
+{
+    let slot = n.0 as usize;
+    if slot < NAMESPACE_SLOTS {
+        marks[slot] = true;
+    }
+    marks
+}
+
+// The marks with those of a process: ended or not, it holds its own namespace and that for its children.
+pub fn mark_process(marks: [bool; NAMESPACE_SLOTS], p: Process) -> [bool; NAMESPACE_SLOTS]
+    ensures { result ≡ mark_process marks p }
+{
+    if !p.is_taken() {
+        return marks;
+    }
+    mark(mark(marks, p.own), p.children)
 }

@@ -9,30 +9,6 @@ pub struct Group {
     pub bars: Vec<(String, f64)>,
 }
 
-/// Whose a bar is, by its name, and its colour.
-const COLOURS: [(&str, &str, &str); 4] = [
-    ("tuned", "#e08a2c", "tuned Rust"),
-    ("plain", "#9aa7b5", "other Rust"),
-    ("in Rust", "#9aa7b5", "other Rust"),
-    ("before", "#86b1cf", "proved, before"),
-];
-const OURS: (&str, &str) = ("#1f6fb0", "proved");
-
-fn colour(name: &str) -> &'static str {
-    COLOURS.iter().find(|(word, ..)| name.contains(word)).map_or(OURS.0, |(_, colour, _)| colour)
-}
-
-/// A whole number with a comma before each three digits, or one below 10 with a decimal.
-fn number(value: f64) -> String {
-    if value < 9.95 {
-        return format!("{value:.1}");
-    }
-    let digits = format!("{value:.0}");
-    let parts: Vec<&str> =
-        digits.as_bytes().rchunks(3).rev().map(|part| str::from_utf8(part).expect("digits")).collect();
-    parts.join(",")
-}
-
 impl Group {
     fn greatest(&self) -> f64 {
         self.bars.iter().map(|(_, value)| *value).fold(f64::MIN_POSITIVE, f64::max)
@@ -44,81 +20,51 @@ impl fmt::Display for Group {
         writeln!(f, "{}", self.title)?;
         for (name, value) in &self.bars {
             let bar = "#".repeat((40.0 * value / self.greatest()).round() as usize);
-            writeln!(f, "  {name:32} {:>9} {:8} {bar}", number(*value), self.unit)?;
+            writeln!(f, "  {name:32} {value:>9.0} {:8} {bar}", self.unit)?;
         }
         Ok(())
     }
 }
 
 const ROW: usize = 22;
-const MARGIN: usize = 14;
-/// Of a column: the width of all, where bars start, and the longest bar.
-const WIDTH: usize = 620;
-const NAMES: usize = 246;
-const LONGEST: f64 = 220.0;
+const NAMES: usize = 250;
+const LONGEST: f64 = 330.0;
+const WIDTH: usize = 720;
 
-/// All groups, two side by side.
+/// All groups, one below the other.
 pub fn svg(caption: &str, groups: &[Group]) -> String {
-    let columns = groups.len().min(2);
-    let rows = |pair: &[Group]| pair.iter().map(|group| group.bars.len()).max().unwrap_or(0) + 2;
-    let height = ROW * (groups.chunks(2).map(rows).sum::<usize>() + 3);
-    let width = WIDTH * columns + MARGIN;
+    let rows: usize = groups.iter().map(|g| g.bars.len() + 2).sum();
+    let height = ROW * (rows + 1) + 10;
     let mut text = format!(
-        "<svg xmlns=\"http://www.w3.org/2000/svg\" viewBox=\"0 0 {width} {height}\" width=\"{width}\" \
-         height=\"{height}\" font-family=\"sans-serif\" font-size=\"14\">\n\
-         <rect width=\"{width}\" height=\"{height}\" fill=\"#fff\"/>\n"
+        "<svg xmlns=\"http://www.w3.org/2000/svg\" width=\"{WIDTH}\" height=\"{height}\" \
+         font-family=\"sans-serif\" font-size=\"13\">\n\
+         <rect width=\"{WIDTH}\" height=\"{height}\" fill=\"#fff\"/>\n"
     );
-    text += &legend(ROW);
-    let mut y = 3 * ROW;
-    for pair in groups.chunks(2) {
-        for (column, group) in pair.iter().enumerate() {
-            text += &drawn(MARGIN + column * WIDTH, y, group);
+    let mut y = ROW;
+    for group in groups {
+        text += &format!("<text x=\"10\" y=\"{y}\" font-weight=\"bold\">{}</text>\n", group.title);
+        for (name, value) in &group.bars {
+            y += ROW;
+            text += &bar(y, name, *value, group);
         }
-        y += ROW * rows(pair);
+        y += 2 * ROW;
     }
-    text + &format!("<text x=\"{MARGIN}\" y=\"{}\" fill=\"#666\">{}</text>\n</svg>\n", height - MARGIN, plain(caption))
+    text + &format!("<text x=\"10\" y=\"{y}\" fill=\"#666\">{caption}</text>\n</svg>\n")
 }
 
-/// What the colours say.
-fn legend(y: usize) -> String {
-    let [tuned, other, _, before] = COLOURS.map(|(_, colour, whose)| (colour, whose));
-    let mark = |(place, (colour, whose)): (usize, (&str, &str))| {
-        let x = MARGIN + 130 * place;
-        format!(
-            "<rect x=\"{x}\" y=\"{}\" width=\"14\" height=\"14\" fill=\"{colour}\"/><text x=\"{}\" y=\"{y}\">{whose}</text>\n",
-            y - 12,
-            x + 20
-        )
-    };
-    [OURS, tuned, other, before].into_iter().enumerate().map(mark).collect()
-}
-
-fn drawn(x: usize, y: usize, group: &Group) -> String {
-    let mut text = format!("<text x=\"{x}\" y=\"{y}\" font-weight=\"bold\">{}</text>\n", plain(&group.title));
-    for (place, (name, value)) in group.bars.iter().enumerate() {
-        text += &bar(x, y + ROW * (place + 1), name, *value, group);
-    }
-    text
-}
-
-fn bar(x: usize, y: usize, name: &str, value: f64, group: &Group) -> String {
+fn bar(y: usize, name: &str, value: f64, group: &Group) -> String {
     let length = (LONGEST * value / group.greatest()).max(1.0);
-    let start = x + NAMES;
+    let colour = match name {
+        _ if name.contains("Rust") || name.contains("reference") => "#9aa7b5",
+        _ if name.ends_with("before") => "#86b1cf",
+        _ => "#2f6f9f",
+    };
     format!(
-        "<text x=\"{}\" y=\"{y}\" text-anchor=\"end\">{}</text>\
-         <rect x=\"{start}\" y=\"{}\" width=\"{length:.0}\" height=\"16\" fill=\"{}\"/>\
-         <text x=\"{:.0}\" y=\"{y}\">{} {}</text>\n",
-        start - 8,
-        plain(name),
-        y - 13,
-        colour(name),
-        start as f64 + length + 6.0,
-        number(value),
+        "<text x=\"20\" y=\"{y}\">{name}</text>\
+         <rect x=\"{NAMES}\" y=\"{}\" width=\"{length:.0}\" height=\"14\" fill=\"{colour}\"/>\
+         <text x=\"{:.0}\" y=\"{y}\">{value:.0} {}</text>\n",
+        y - 12,
+        NAMES as f64 + length + 6.0,
         group.unit
     )
-}
-
-/// Text in a drawing.
-fn plain(text: &str) -> String {
-    text.replace('&', "&amp;").replace('<', "&lt;")
 }

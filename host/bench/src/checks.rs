@@ -1,4 +1,4 @@
-//! The check of a table by itself: of the tables that a kept script's lines meet, and of a full one.
+//! The check of a table: its share of a line, and on a full table.
 //!
 //! The proved check is called through the library, which takes a copy of the host's bytes and reads the table from them
 //! first. How long that takes is measured on the same tables with the root's parent damaged, which the check sees at
@@ -7,9 +7,10 @@
 use crate::chart::Group;
 use crate::full::{full_table, kept};
 use crate::group;
+use crate::programs::Speeds;
 use crate::timing::{best, nanoseconds, SHORT_ROUNDS};
 use reference::table::Table;
-use reference::{sound, tuned};
+use reference::{quick, sound};
 use scripts::kept::{facts, Facts};
 use std::hint::black_box;
 
@@ -40,13 +41,16 @@ impl Tables {
 }
 
 /// Nanoseconds of a check, over the same tables.
-pub struct Times {
-    /// whose tables they are
-    tables: String,
+struct Times {
     proved: f64,
-    tuned: f64,
+    quick: f64,
     plain: f64,
-    /// of reading a table from the host's bytes
+}
+
+/// The checks of a full table, and how long reading it from the host's bytes takes.
+pub struct Full {
+    level: u8,
+    times: Times,
     reading: f64,
 }
 
@@ -57,8 +61,8 @@ pub fn damage(table: &lampfunnel::Table) -> lampfunnel::Table {
     lampfunnel::Table::from_raw(damaged)
 }
 
-/// Times of the checks, each table as often as the others.
-fn time(name: String, tables: &[Table]) -> Times {
+/// Times of the checks, each table as often as the others; and of reading.
+fn time(tables: &[Table]) -> (Times, f64) {
     let each = CHECKS / tables.len();
     let whole: Vec<lampfunnel::Table> = tables.iter().map(|t| lampfunnel::Table::from_raw(kept(t))).collect();
     let damaged: Vec<lampfunnel::Table> = whole.iter().map(damage).collect();
@@ -67,44 +71,51 @@ fn time(name: String, tables: &[Table]) -> Times {
         assert!(tables.iter().all(agrees));
     };
     let rust = |check: fn(&Table) -> bool| assert!(tables.iter().all(|t| (0..each).all(|_| check(black_box(t)))));
-    let [proved, reading, tuned, plain] = best(
+    let [proved, reading, quick, plain] = best(
         SHORT_ROUNDS,
-        [&mut || proved(&whole, true), &mut || proved(&damaged, false), &mut || rust(tuned::is_sound), &mut || {
+        [&mut || proved(&whole, true), &mut || proved(&damaged, false), &mut || rust(quick::is_sound), &mut || {
             rust(sound::is_sound)
         }],
     )
     .map(|time| nanoseconds(time, each * tables.len()));
-    Times { tables: name, proved: proved - reading, tuned, plain, reading }
+    (Times { proved: proved - reading, quick, plain }, reading)
 }
 
-impl Times {
-    /// Of the tables of a kept script.
-    pub fn of_script(script: &str, tables: &Tables) -> Times {
-        time(format!("the tables of a script, {script}"), &tables.kept)
+impl Tables {
+    pub fn shares(&self, speeds: &Speeds, script: &str) -> Group {
+        let (times, _) = time(&self.kept);
+        let share = |check: f64, time| 100.0 * check / Speeds::per_line(time);
+        let bars = [
+            ("recorder", share(times.proved, speeds.recorder)),
+            ("reference, same check", share(times.quick, speeds.quick)),
+            ("reference, plain check", share(times.plain, speeds.plain)),
+        ];
+        group(&format!("Share of the table check in a line, {script}"), "%", &bars)
     }
+}
 
-    /// Of the full table to a level.
-    pub fn of_full(level: u8) -> Times {
-        time(format!("a full table, levels 0 to {level}"), &[full_table(level)])
+impl Full {
+    pub fn to_level(level: u8) -> Full {
+        let (times, reading) = time(&[full_table(level)]);
+        Full { level, times, reading }
     }
 
     pub fn group(&self) -> Group {
         let bars = [
-            ("proved", self.proved),
-            ("tuned Rust", self.tuned),
-            ("plain Rust", self.plain),
+            ("is_sound, proved", self.times.proved),
+            ("the same algorithm in Rust", self.times.quick),
+            ("plain check in Rust", self.times.plain),
             ("(reading the host's bytes)", self.reading),
         ];
-        group(&format!("Check of {} (less is better)", self.tables), "ns", &bars)
+        group(&format!("Check of a full table, levels 0 to {} (less is better)", self.level), "ns", &bars)
     }
 
     pub fn ratio(&self) -> String {
         format!(
-            "ratio: the proved check of {} takes {:.2} times as long as the tuned one in Rust, {:.2} times as long as the \
-             plain one\n",
-            self.tables,
-            self.proved / self.tuned,
-            self.proved / self.plain
+            "ratio: the proved check of a full table, levels 0 to {}, takes {:.2} times as long as the same algorithm in \
+             Rust\n",
+            self.level,
+            self.times.proved / self.times.quick
         )
     }
 }

@@ -1,12 +1,11 @@
-//! The proved programs and those in Rust side by side, in one run.
+//! The recorder and the reference side by side, in one run.
 //!
 //! At the top of the repository `rt check recorder && rt staticlib lampfunnel`, and then in `host/`
 //!
 //!     cargo run --release --offline -p bench
 //!
-//! With the name of a file, `-- ../docs/benchmark.svg`, it draws the figures there too. With `-- lines`, and a file or
-//! none after it, it times the kept scripts alone; with `-- calls` single calls, with `-- search` the search for a
-//! number.
+//! With the name of a file, `-- ../docs/benchmark.svg`, it draws the figures there too. With `-- calls`, and a file or
+//! none after it, it times single calls alone; with `-- search`, and a file or none, the search for a number alone.
 //!
 //! The search is timed beside a function that searches as the library did before. To time that library itself beside
 //! the one of now, and a clone with it, build it from its commit, and name the folder that it is in as this is built:
@@ -34,10 +33,9 @@ use std::{env, fs, io};
 fn main() -> io::Result<()> {
     println!("machine: {}", machine());
     let mut words = env::args().skip(1).peekable();
-    let alone = words.next_if(|word| ["lines", "calls", "search"].contains(&word.as_str()));
+    let alone = words.next_if(|word| word == "calls" || word == "search");
     let mut figures = Figures::default();
     match alone.as_deref() {
-        Some("lines") => figures.time_scripts()?,
         Some("calls") => figures.time_calls(),
         Some(_) => figures.time_search(),
         None => figures.time_all()?,
@@ -65,33 +63,30 @@ impl Figures {
         self.ratios += ratio;
     }
 
-    /// Two groups stand side by side in the drawing, so what belongs together is added in pairs.
     fn time_all(&mut self) -> io::Result<()> {
         self.time_scripts()?;
         self.time_checks();
-        self.time_calls();
         self.time_search();
+        self.time_calls();
         Ok(())
     }
 
     fn time_scripts(&mut self) -> io::Result<()> {
-        let mut checks = Vec::new();
         for kept in &SCRIPTS {
             let script = kept.script();
             let tables = checks::Tables::of(&script);
             describe(kept, &tables.facts);
-            let speeds = programs::run(kept.name, &script)?;
-            self.add(speeds.lines_per_second(), &speeds.ratios());
-            checks.push(checks::Times::of_script(kept.name, &tables));
+            let speeds = programs::run(&script)?;
+            self.add(speeds.lines_per_second(kept.name), &speeds.ratios(kept.name));
+            self.add(tables.shares(&speeds, kept.name), "");
         }
-        checks.iter().for_each(|times| self.add(times.group(), &times.ratio()));
         Ok(())
     }
 
     fn time_checks(&mut self) {
         for level in [7, DEEPEST] {
-            let times = checks::Times::of_full(level);
-            self.add(times.group(), &times.ratio());
+            let full = checks::Full::to_level(level);
+            self.add(full.group(), &full.ratio());
         }
     }
 

@@ -3,7 +3,7 @@
 use std::time::Duration;
 
 /// So many rounds of runs of about a second, and of runs of a few hundredths of one.
-pub const LONG_ROUNDS: usize = 11;
+pub const LONG_ROUNDS: usize = 7;
 pub const SHORT_ROUNDS: usize = 40;
 
 /// C's `struct timeval`, and the start of its `struct rusage`.

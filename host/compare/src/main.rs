@@ -25,8 +25,6 @@ mod searches;
 mod shrinking;
 mod tables;
 mod tally;
-#[cfg(test)]
-mod tuned;
 mod vectors;
 mod walks;
 

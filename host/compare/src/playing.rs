@@ -17,14 +17,14 @@ const SHORT_AND_LONG: [&[u8]; 7] =
     [b"", b"\n", b"\n\n", b"0 getpid", b"0 getpid\n\n", &[b'0'; 100_000], &[b'\n'; 5000]];
 
 /// Scripts of a kind. Each is made from its seed and its place among them, from 1 on.
-pub struct Kind {
-    pub name: &'static str,
-    pub number: u64,
-    pub make: Box<dyn Fn(u64, u64) -> Vec<u8>>,
+struct Kind {
+    name: &'static str,
+    number: u64,
+    make: Box<dyn Fn(u64, u64) -> Vec<u8>>,
 }
 
 /// The kinds in the order of play.
-pub fn kinds() -> Vec<Kind> {
+fn kinds() -> Vec<Kind> {
     let mut kinds = Vec::new();
     let mut add = |name, number, make| kinds.push(Kind { name, number, make });
     for kind in &KINDS {

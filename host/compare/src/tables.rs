@@ -1,4 +1,4 @@
-//! Damaged tables: the proved check, the reference and its tuned check must agree on each; and so must the two searches
+//! Damaged tables: the proved check, the reference and its quick check must agree on each; and so must the two searches
 //! for the number that a namespace gives next. In tables with long runs of numbers each namespace is asked for it.
 
 use crate::damage::{kinds, Kind};
@@ -10,7 +10,7 @@ use crate::searches::{Searches, OF_TABLES};
 use reference::mirror::{bytes, table, Bytes};
 use reference::script::run;
 use reference::table::{Table, DEEPEST, NAMESPACES};
-use reference::{tuned, turns};
+use reference::{quick, turns};
 use scripts::generate::{script, KINDS};
 use scripts::random::Random;
 
@@ -27,7 +27,7 @@ struct Count {
     sound: usize,
 }
 
-/// What the library, the reference and its tuned check say of a table, and the numbers that some namespaces give next
+/// What the library, the reference and its quick check say of a table, and the numbers that some namespaces give next
 /// by the first two.
 struct Verdicts {
     sound: [bool; 3],
@@ -36,9 +36,9 @@ struct Verdicts {
 
 impl Verdicts {
     fn of(all: &Bytes, slots: &[u32]) -> Verdicts {
-        let tuned = table(all).is_some_and(|t| tuned::is_sound(&t));
+        let quick = table(all).is_some_and(|t| quick::is_sound(&t));
         let next = slots.iter().map(|&slot| [library::next_pid(all, slot), turns::next_pid(all, slot)]).collect();
-        Verdicts { sound: [library::is_sound(all), turns::is_sound(all), tuned], next }
+        Verdicts { sound: [library::is_sound(all), turns::is_sound(all), quick], next }
     }
 
     /// The verdict where all agree.
@@ -58,7 +58,7 @@ fn all_slots() -> Vec<u32> {
 }
 
 /// Sound tables of every kind that scripts make.
-pub fn bases(seed: u64) -> Vec<Table> {
+fn bases(seed: u64) -> Vec<Table> {
     let of_kind = |(k, kind)| {
         (0..24).map(move |place| {
             let mut t = Table::fresh();
@@ -187,8 +187,8 @@ fn shown(all: &Bytes, slot: u32) -> String {
     let records = [OF_PROCESSES, OF_NAMESPACES].into_iter().flat_map(|of| (0..of.number).map(move |k| (of, k)));
     let mut text: String = records.filter_map(|(of, k)| record_text(of, k, &all[of.record(k)])).collect();
     let verdicts = Verdicts::of(all, &[slot]);
-    let ([library, reference, tuned], [next, expected]) = (verdicts.sound, verdicts.next[0]);
-    text += &format!("  sound: {library} by the library, {reference} by the reference, {tuned} by its tuned check\n");
+    let ([library, reference, quick], [next, expected]) = (verdicts.sound, verdicts.next[0]);
+    text += &format!("  sound: {library} by the library, {reference} by the reference, {quick} by its quick check\n");
     text + &format!("  the next number of namespace {slot}: {next} by the library, {expected} by the reference")
 }
 

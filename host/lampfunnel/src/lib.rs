@@ -56,7 +56,7 @@ pub use kinds::{NamespaceSlot, Pid, Slot};
 pub use record::{End, Life, Namespace, Process, State};
 pub use refusal::Refusal;
 pub use reply::{Child, Reaped, Reply};
-pub use script::{room_for, run, run_checked, run_into, ShortBuffer, ANSWER_BYTES};
+pub use script::{room_for, run, run_into, ShortBuffer, ANSWER_BYTES};
 pub use table::Table;
 
 /// A table has so many process slots.

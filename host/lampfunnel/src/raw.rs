@@ -7,7 +7,7 @@ use core::mem::{offset_of, size_of};
 /// No slot, in a field that holds one.
 pub const NONE: u8 = 255;
 
-/// What `lampfunnel_run` and `lampfunnel_run_checked` answer where the buffer is too short.
+/// What `lampfunnel_run` answers where the buffer is too short.
 pub const SHORT: usize = usize::MAX;
 
 /// A process slot.
@@ -120,8 +120,6 @@ extern "C" {
     pub fn lampfunnel_call(table: *mut Table, caller: u32, request: Request) -> Reply;
     /// A whole script. Both arrays are valid for their lengths and do not overlap.
     pub fn lampfunnel_run(script: *const u8, script_len: usize, out: *mut u8, out_len: usize) -> usize;
-    /// The same answers; the table is checked at each call, and not once.
-    pub fn lampfunnel_run_checked(script: *const u8, script_len: usize, out: *mut u8, out_len: usize) -> usize;
 }
 
 // The sizes and places that the header has: another layout does not compile.

@@ -33,31 +33,14 @@ pub fn room_for(script: &[u8]) -> usize {
     ANSWER_BYTES * script.split_inclusive(|&b| b == b'\n').count()
 }
 
-/// The answers of a whole script, from the fresh table. The table is checked once, before the first call.
+/// The answers of a whole script, from the fresh table.
 ///
 /// ```
 /// assert_eq!(lampfunnel::run(b"0 clone\n1 exit -1\n0 wait\nhello"), b"2\n0\n2 gave 255\n?\n");
 /// ```
 pub fn run(script: &[u8]) -> Vec<u8> {
-    run_by(raw::lampfunnel_run, script)
-}
-
-/// The same answers. The table is checked at each call: for a program that wants each check made, and to see what they
-/// cost.
-///
-/// ```
-/// assert_eq!(lampfunnel::run_checked(b"0 clone\n1 getppid\n"), lampfunnel::run(b"0 clone\n1 getppid\n"));
-/// ```
-pub fn run_checked(script: &[u8]) -> Vec<u8> {
-    run_by(raw::lampfunnel_run_checked, script)
-}
-
-/// One of the two functions that run a script.
-type Runner = unsafe extern "C" fn(*const u8, usize, *mut u8, usize) -> usize;
-
-fn run_by(runner: Runner, script: &[u8]) -> Vec<u8> {
     let mut out = vec![0; room_for(script)];
-    let used = run_into_by(runner, script, &mut out).expect("there is room for every answer");
+    let used = run_into(script, &mut out).expect("there is room for every answer");
     out.truncate(used);
     out
 }
@@ -80,12 +63,8 @@ fn run_by(runner: Runner, script: &[u8]) -> Vec<u8> {
 /// assert_eq!(out, [b'.'; 31]);
 /// ```
 pub fn run_into(script: &[u8], out: &mut [u8]) -> Result<usize, ShortBuffer> {
-    run_into_by(raw::lampfunnel_run, script, out)
-}
-
-fn run_into_by(runner: Runner, script: &[u8], out: &mut [u8]) -> Result<usize, ShortBuffer> {
     // Both slices are valid for their lengths and do not overlap; the function keeps neither.
-    let used = unsafe { runner(script.as_ptr(), script.len(), out.as_mut_ptr(), out.len()) };
+    let used = unsafe { raw::lampfunnel_run(script.as_ptr(), script.len(), out.as_mut_ptr(), out.len()) };
     if used == raw::SHORT {
         return Err(ShortBuffer { needed: room_for(script) });
     }

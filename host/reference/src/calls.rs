@@ -27,22 +27,22 @@ pub enum Answer {
 /// A refusal's negative number.
 pub type Refusal = i32;
 
-pub(crate) const EINVAL: Refusal = -22;
-pub(crate) const ENOSYS: Refusal = -38;
-pub(crate) const ESRCH: Refusal = -3;
-pub(crate) const EBUSY: Refusal = -16;
-pub(crate) const ECHILD: Refusal = -10;
-pub(crate) const ENOSPC: Refusal = -28;
-pub(crate) const ENOMEM: Refusal = -12;
-pub(crate) const EAGAIN: Refusal = -11;
+const EINVAL: Refusal = -22;
+const ENOSYS: Refusal = -38;
+const ESRCH: Refusal = -3;
+const EBUSY: Refusal = -16;
+const ECHILD: Refusal = -10;
+const ENOSPC: Refusal = -28;
+const ENOMEM: Refusal = -12;
+const EAGAIN: Refusal = -11;
 pub const UNSOUND: Refusal = -1000;
-pub(crate) const NOT_RUNNING: Refusal = -1001;
+const NOT_RUNNING: Refusal = -1001;
 /// A host's request has a number that no call has.
 pub const NO_CALL: Refusal = -1002;
 
-pub(crate) const SIGKILL: u8 = 9;
-pub(crate) const SIGCONT: u8 = 18;
-pub(crate) const SIGSTOP: u8 = 19;
+const SIGKILL: u8 = 9;
+const SIGCONT: u8 = 18;
+const SIGSTOP: u8 = 19;
 
 enum Default {
     Nothing,

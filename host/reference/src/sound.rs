@@ -2,7 +2,7 @@
 
 use crate::table::{End, Life, Namespace, Process, State, Table, LEVELS, MAX_PID, NAMESPACES, NONE, PROCESSES};
 
-/// A check of a table: this one, or that of `tuned`.
+/// A check of a table: this one, or that of `quick`.
 pub type Check = fn(&Table) -> bool;
 
 /// Signals 9 and 19 cannot be handled, and there is no signal 0.

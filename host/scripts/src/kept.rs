@@ -3,9 +3,9 @@
 
 use crate::random::Random;
 use reference::calls::Call;
+use reference::quick::is_sound;
 use reference::script::parse;
 use reference::table::{Life, State, Table, DEEPEST, NAMESPACES, PROCESSES};
-use reference::tuned::is_sound;
 
 pub const LINES: usize = 100_000;
 pub const LEAST_PROCESSES: usize = 60;

@@ -2,24 +2,22 @@
 -- definition's. The number at each level is what the marks find, or what `next_pid` gives.
 use Prim.Native.Nat.{◌-◌}
 use mathlib.Core.Logic.{⊎_elim}
-use mathlib.Core.Path.{◌≡◌, ap, ◌∙◌}
+use mathlib.Core.Path.{ap, ◌∙◌}
 use borrow.Author.Rules.{rules}
-use Rattle.numbers.proofs.Columns.{Gathered, gathering, namespace_past, columns, marks_give_next}
+use Rattle.numbers.proofs.Columns.{Gathered, gathering, columns, marks_give_next}
 use Rattle.table.proofs.Slots.{length_mapped}
 use Rattle.table.specs.Limits.{process_slots}
-use Rattle.table.specs.Slots.{namespace}
 use Rattle.table.specs.declared.Pid.{Pid}
 use Rattle.births.proofs.Walk.{Walking, walks, walk_goes_on, walk_done}
 use Rattle.births.proofs.birth.Statement.{statement}
 use Rattle.births.proofs.birth.Tie as tie
 
 abbrev invariant-loop2 : tie.invariant-loop2
-invariant-loop2 slot caller n t before up levels namespaces pids at left k here owns₀ held₀ i₀ owns held i =
+invariant-loop2 slot caller n t before up levels namespaces pids at left here owns₀ held₀ i₀ owns held i =
     Gathered t here.level owns₀ owns held₀ held i
 
 abbrev decreases-loop2 : tie.decreases-loop2
-decreases-loop2 slot caller n t before up levels namespaces pids at left k here owns₀ held₀ i₀ owns held i =
-    process_slots - i
+decreases-loop2 slot caller n t before up levels namespaces pids at left here owns₀ held₀ i₀ owns held i = process_slots - i
 
 abbrev invariant-loop : tie.invariant-loop
 invariant-loop slot caller n t before up levels namespaces₀ pids₀ at₀ left₀ namespaces pids at left =
@@ -34,8 +32,8 @@ parents-requires c κs = search rules
 levels-requires : tie.Need-levels-requires invariant-loop2 decreases-loop2 invariant-loop decreases-loop
 levels-requires c κs = search rules
 
-namespace-at-requires : tie.Need-namespace-at-requires invariant-loop2 decreases-loop2 invariant-loop decreases-loop
-namespace-at-requires c κs = search rules
+record-of-requires : tie.Need-record-of-requires invariant-loop2 decreases-loop2 invariant-loop decreases-loop
+record-of-requires c κs = search rules
 
 cast-left : tie.Need-overflow-cast-left invariant-loop2 decreases-loop2 invariant-loop decreases-loop
 cast-left c = search rules
@@ -49,17 +47,8 @@ loop-holds c = search walks
 sub-left : tie.Need-overflow-sub-left invariant-loop2 decreases-loop2 invariant-loop decreases-loop
 sub-left c = search rules
 
-cast-k : tie.Need-overflow-cast-k invariant-loop2 decreases-loop2 invariant-loop decreases-loop
-cast-k c = search rules
-
-empty-namespace-requires : tie.Need-empty-namespace-requires invariant-loop2 decreases-loop2 invariant-loop decreases-loop
-empty-namespace-requires c κs = search rules
-
-mul-here : tie.Need-overflow-mul-here invariant-loop2 decreases-loop2 invariant-loop decreases-loop
-mul-here c = search rules
-
-array-copy-out-here : tie.Need-array-copy-out-here invariant-loop2 decreases-loop2 invariant-loop decreases-loop
-array-copy-out-here c = search rules
+record-of-requires-2 : tie.Need-record-of-requires-2 invariant-loop2 decreases-loop2 invariant-loop decreases-loop
+record-of-requires-2 c κs = search rules
 
 loop2-holds : tie.Need-loop2-init invariant-loop2 decreases-loop2 invariant-loop decreases-loop
 loop2-holds c = search gathering
@@ -112,21 +101,19 @@ loop-again c =
     let found = chosen.before.before in
     let tested = found.before.before.before.before.before in
     let filled = tested.before in
-    let place = filled.before in
-    let walk = place.before.before.before.before in
+    let here = filled.before in
+    let walk = here.before.before in
     let levels = walk.before.before.before in
     let entry = levels.before.before.before in
-    let t = entry.args.t1 in
-    let here : place.if1.here ≡ namespace t walk.loop.at.0 = ⊎_elim (λ w. w.2) (λ (a, e). namespace_past t _ _ _ (search (length_mapped, entry.well-formed.0.1.1.1.0.1)) a.left e place.before.empty_namespace.ensures) place.if1.branch in
-    walk_goes_on _ _ _ _ _ _ _ place.if1.here chosen.if2.pid _ _ walk.loop.invariant place.before.before.before.loop-test.true here
+    walk_goes_on _ _ _ _ _ _ _ here.record-of2.result chosen.if1.pid _ _ walk.loop.invariant here.before.loop-test.true here.record-of2.ensures
     (⊎_elim
     (λ w. ap (λ (x : Pid). x.0) w.2 ∙ w.1.ensures)
     (λ w.
     ap (λ (x : Pid). x.0) w.1
-    ∙ marks_give_next t _ place.if1.here _ _ _ _ _ _ found.pid-by-marks.ensures w.0.left
-    (columns _ _ _ levels.before.parents.result levels.levels.result _ filled.loop2.owns _ filled.loop2.held _ here filled.loop2.invariant tested.loop2-test.false (search (length_mapped, entry.well-formed.0.1.1.0.1)) (search rules)
+    ∙ marks_give_next entry.args.t1 _ here.record-of2.result _ _ _ _ _ _ found.pid-by-marks.ensures w.0.left
+    (columns _ _ _ levels.before.parents.result levels.levels.result _ filled.loop2.owns _ filled.loop2.held _ here.record-of2.ensures filled.loop2.invariant tested.loop2-test.false (search (length_mapped, entry.well-formed.0.1.1.0.1)) (search rules)
     (search rules) (search (rules, levels.before.parents.type-inv)) levels.before.parents.ensures (search (rules, levels.levels.type-inv)) levels.levels.ensures))
-    chosen.if2.branch)
+    chosen.if1.branch)
     c.before.before.with-pid.ensures c.before.joined_at.ensures
 
 process-requires : tie.Need-process-requires invariant-loop2 decreases-loop2 invariant-loop decreases-loop
@@ -158,15 +145,12 @@ birth-spec =
     decreases-loop
     parents-requires
     levels-requires
-    namespace-at-requires
+    record-of-requires
     cast-left
     add_left
     loop-holds
     sub-left
-    cast-k
-    empty-namespace-requires
-    mul-here
-    array-copy-out-here
+    record-of-requires-2
     loop2-holds
     mul-p
     element-copy-out-p

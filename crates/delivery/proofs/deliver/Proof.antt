@@ -1,49 +1,26 @@
 -- `deliver` reads the target, decides, and does the action: each arm is the definition's.
-use borrow.Author.Rules.{rules}
-use mathlib.Core.Logic.{⊎_elim}
 use mathlib.Core.Path.{◌≡◌}
 use lib.ListN.{length}
-use Rattle.table.proofs.Slots.{length_mapped}
 use Rattle.table.specs.Limits.{process_slots}
-use Rattle.tree.proofs.Places.{Found, found_within, found_past}
-use Rattle.delivery.proofs.Actions.{Target, target, init_read, does_nothing, does_resume, does_stop, does_finish, does_pend}
+use borrow.Author.Rules.{rules}
+use Rattle.table.proofs.Slots.{length_mapped}
+use Rattle.delivery.proofs.Actions.{Target, target, does_nothing, does_resume, does_stop, does_finish, does_pend}
 use Rattle.delivery.proofs.deliver.Statement.{statement}
 use Rattle.delivery.proofs.deliver.Tie as tie
 
--- the place where the target is read, and the start
-abbrev read : tie.After-action-on → tie.Joined1
-read k = k.before.before.before.before.before.before
-
-abbrev start : tie.After-action-on → tie.Start
-start k = (read k).before.before
-
 -- what is known once the action is: the target as it was read, and that the table has all its slots
-known : (k : tie.After-action-on) → Target (start k).args.t1 (start k).args.from.0 (start k).args.slot.0 (start k).args.s (read k).if1.p k.action_on.result
+known : (k : tie.After-action-on) → Target k.before.before.before.args.t k.before.before.before.args.from.0 k.before.before.before.args.slot.0 k.before.before.before.args.s k.before.before.process.result k.action_on.result
 known k =
-    let t = (start k).args.t1 in
-    let p : Found t (start k).args.slot.0 (read k).if1.p = ⊎_elim (λ w. found_within t _ (start k).well-formed.0 _ _ w.0.taken w.2) (λ (a, b, e). found_past t _ (start k).well-formed.0 _ _ _ a.left b.ensures e) (read k).if1.branch in
-    target _ _ _ _ _ _ _ p (init_read t _ _ _ _ p k.before.before.before.before.namespace_at.ensures k.before.before.before.init.ensures) k.action_on.ensures.0
+    target _ _ _ _ _ _ _ k.before.before.process.ensures k.before.is_init.ensures k.action_on.ensures.0
 
-long : (k : tie.After-action-on) → length (start k).args.t1.processes ≡ process_slots
-long k = search (length_mapped, (start k).well-formed.0)
+long : (k : tie.After-action-on) → length k.before.before.before.args.t.processes ≡ process_slots
+long k = search (length_mapped, k.before.before.before.good.0)
 
-cast-at : tie.Need-overflow-cast-at
-cast-at c = search rules
+process-requires : tie.Need-process-requires
+process-requires c κs = search rules
 
-mul-p : tie.Need-overflow-mul-p
-mul-p c = search rules
-
-element-copy-out-p : tie.Need-element-copy-out-p
-element-copy-out-p c = search rules
-
-empty-process-requires : tie.Need-empty-process-requires
-empty-process-requires c κs = search rules
-
-namespace-at-requires : tie.Need-namespace-at-requires
-namespace-at-requires c κs = search rules
-
-init-requires : tie.Need-init-requires
-init-requires c κs = search rules
+is-init-requires : tie.Need-is-init-requires
+is-init-requires c κs = search rules
 
 action-on-requires : tie.Need-action-on-requires
 action-on-requires c κs = search rules
@@ -115,12 +92,8 @@ pub deliver-spec : {M : Type 1} → statement M
 deliver-spec =
     tie.close
     (tie.spec
-    cast-at
-    mul-p
-    element-copy-out-p
-    empty-process-requires
-    namespace-at-requires
-    init-requires
+    process-requires
+    is-init-requires
     action-on-requires
     enum_told
     enum-told-2

@@ -1,25 +1,11 @@
 -- `unshare` goes by the verdict, and sets the namespace that it made.
-use borrow.Author.Rules.{rules}
 use Prim.Native.Nat.{◌<◌}
-use mathlib.Core.Logic.{⊎_elim}
+use borrow.Author.Rules.{rules}
 use Rattle.callers.proofs.Callers.{may_make_low}
-use Rattle.table.specs.Limits.{deepest}
-use Rattle.tree.proofs.Places.{Found, found_within, found_past, free_is}
 use Rattle.namespaces.proofs.Children.{unshare_refused, unshare_sets}
+use Rattle.table.specs.Limits.{deepest}
 use Rattle.namespaces.proofs.unshare.Statement.{statement}
 use Rattle.namespaces.proofs.unshare.Tie as tie
-
-cast-at : tie.Need-overflow-cast-at
-cast-at c = search rules
-
-mul-p : tie.Need-overflow-mul-p
-mul-p c = search rules
-
-element-copy-out-p : tie.Need-element-copy-out-p
-element-copy-out-p c = search rules
-
-empty-process-requires : tie.Need-empty-process-requires
-empty-process-requires c κs = search rules
 
 own-level-requires : tie.Need-own-level-requires
 own-level-requires c κs = search rules
@@ -37,14 +23,17 @@ refused-requires : tie.Need-refused-requires
 refused-requires c κs = search rules
 
 returns : tie.Need-returns
-returns c = search (unshare_refused, free_is)
+returns c = search unshare_refused
 
 enum_told : tie.Need-enum-told
 enum_told c = search rules
 
+process-requires : tie.Need-process-requires
+process-requires c κs = search rules
+
 add-new-namespace : tie.Need-overflow-add-new-namespace
 add-new-namespace c =
-    let m = c.before.before.before in
+    let m = c.before.before.before.before in
     let low : m.before.before.before.own_level.result < deepest = search (may_make_low, m.may-make.ensures) in
     search (rules, low)
 
@@ -59,22 +48,15 @@ answers-requires c κs = search rules
 
 returns-2 : tie.Need-returns-2
 returns-2 c =
-    let m = c.before.before.before.before.before.before in
-    let n = m.before.before in
-    let read = n.before.before.before in
-    let start = read.before.before in
-    let t = start.args.t1 in
-    let p : Found t start.args.caller.0 read.if1.p = ⊎_elim (λ w. found_within t _ start.well-formed.0 _ _ w.0.taken w.2) (λ (a, b, e). found_past t _ start.well-formed.0 _ _ _ a.left b.ensures e) read.if1.branch in
-    unshare_sets t start.args.caller.0 _ _ _ _ n.before.own_level.ensures (free_is t _ n.free_namespace_slot.ensures) m.may-make.ensures _ _ _ c.before.before.before.before.enum_told.given.1 p c.before.before.new-namespace.ensures c.before.set-children.ensures c.answers.ensures
+    let read = c.before.before.before.before in
+    let m = read.before.before.before in
+    let start = m.before.before.before.before in
+    unshare_sets start.args.t start.args.caller.0 _ _ _ _ m.before.before.before.own_level.ensures m.before.before.free_namespace_slot.ensures m.may-make.ensures _ _ _ read.before.enum_told.given.1 read.process.ensures c.before.before.new-namespace.ensures c.before.set-children.ensures c.answers.ensures
 
 pub unshare-spec : {M : Type 1} → statement M
 unshare-spec =
     tie.close
     (tie.spec
-    cast-at
-    mul-p
-    element-copy-out-p
-    empty-process-requires
     own-level-requires
     free-namespace-slot-requires
     may-make-requires
@@ -82,6 +64,7 @@ unshare-spec =
     refused-requires
     returns
     enum_told
+    process-requires
     add-new-namespace
     new-namespace-requires
     set-children-requires

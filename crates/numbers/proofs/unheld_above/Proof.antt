@@ -5,8 +5,7 @@ use borrow.Author.Rules.{rules}
 use Rattle.rules.specs.Read.{climb}
 use Rattle.table.specs.Limits.{process_slots}
 use Rattle.tree.specs.Tree.{level_in}
-use Rattle.tree.specs.Tree.{column_at}
-use Rattle.numbers.specs.Climbs.{Known}
+use Rattle.numbers.specs.Climbs.{column_at, Known}
 use Rattle.numbers.specs.Marks.{marks as count, unheld}
 use Rattle.numbers.proofs.Marking.{Marking, markings, marks_all, marks_past_greatest, marks_give}
 use Rattle.numbers.proofs.Window.{none_above}

@@ -1,19 +1,15 @@
 -- A row of six passes, which says what soundness says.
 use Prim.Native.Nat.{ℕ}
 use mathlib.Core.Bool.{Bool, false}
-use mathlib.Core.Path.{◌≡◌, sym, ap, subst, ◌∙◌}
+use mathlib.Core.Path.{◌≡◌, sym, ap, ◌∙◌}
 use lib.ListN.{length}
-use Rattle.table.proofs.Chains.{told_yes}
 use Rattle.table.proofs.Slots.{length_mapped}
 use Rattle.table.specs.Limits.{process_slots, namespace_slots}
 use Rattle.rules.specs.Read.{view}
-use Rattle.sound.specs.Chains.{Inside}
-use Rattle.sound.specs.Quick.{quick, reach_ok}
+use Rattle.sound.specs.Quick.{quick, reach_ok, differ}
 use Rattle.rules.proofs.Laws.Facts.{past_from}
-use Rattle.rules.proofs.Laws.Tests.{right}
-use Rattle.sound.proofs.Reaches.{parents_inside}
 use Rattle.sound.proofs.Rows.{Seen, seen, Comes, comes, by_row, row}
-use Rattle.sound.proofs.Same.{same, levels_low}
+use Rattle.sound.proofs.Same.{same}
 use borrow.Author.Rules.{rules}
 use Rattle.sound.proofs.is_sound.Statement.{statement}
 use Rattle.sound.proofs.is_sound.Tie as tie
@@ -22,7 +18,10 @@ use Rattle.sound.proofs.is_sound.Tie as tie
 by-reach : (r c : Bool) (p q : ℕ → ℕ) → r ≡ reach_ok p → p ≡ q → Seen r c → Comes (reach_ok q) c
 by-reach r c p q e k (seen s) = comes (ap reach_ok (sym k) ∙ sym e ∙ s)
 
-ruleset laws = (by-reach, row)
+by-differ : (r c : Bool) (p q : ℕ → ℕ) → r ≡ differ p → p ≡ q → Seen r c → Comes (differ q) c
+by-differ r c p q e k (seen s) = comes (ap differ (sym k) ∙ sym e ∙ s)
+
+ruleset laws = (by-reach, by-differ, row)
 
 root-ok-requires : tie.Need-root-ok-requires
 root-ok-requires c κs = search rules
@@ -48,27 +47,15 @@ returns-2 c =
     let e : false ≡ quick (view t) = by_row _ _ (search laws depth 20) in
     e ∙ same (view t) (past_from t p n)
 
-holders-requires : tie.Need-holders-requires
-holders-requires c κs = search rules
+namespaces-ok-requires : tie.Need-namespaces-ok-requires
+namespaces-ok-requires c κs = search rules
 
 returns-3 : tie.Need-returns-3
 unfolding quick
 returns-3 c =
-    let t = c.before.before.before.before.before.before.before.args.t in
-    let p : length t.processes ≡ process_slots = search (length_mapped, c.before.before.before.before.before.before.before.well-formed) in
-    let n : length t.namespaces ≡ namespace_slots = search (length_mapped, c.before.before.before.before.before.before.before.well-formed) in
-    let e : false ≡ quick (view t) = by_row _ _ (search laws depth 20) in
-    e ∙ same (view t) (past_from t p n)
-
-namespaces-ok-requires : tie.Need-namespaces-ok-requires
-namespaces-ok-requires c κs = search rules
-
-returns-4 : tie.Need-returns-4
-unfolding quick
-returns-4 c =
-    let t = c.before.before.before.before.before.before.before.before.before.before.args.t in
-    let p : length t.processes ≡ process_slots = search (length_mapped, c.before.before.before.before.before.before.before.before.before.before.well-formed) in
-    let n : length t.namespaces ≡ namespace_slots = search (length_mapped, c.before.before.before.before.before.before.before.before.before.before.well-formed) in
+    let t = c.before.before.before.before.before.before.args.t in
+    let p : length t.processes ≡ process_slots = search (length_mapped, c.before.before.before.before.before.before.well-formed) in
+    let n : length t.namespaces ≡ namespace_slots = search (length_mapped, c.before.before.before.before.before.before.well-formed) in
     let e : false ≡ quick (view t) = by_row _ _ (search laws depth 20) in
     e ∙ same (view t) (past_from t p n)
 
@@ -76,37 +63,41 @@ parents-requires : tie.Need-parents-requires
 parents-requires c κs = search rules
 
 all-reach-root-requires : tie.Need-all-reach-root-requires
-all-reach-root-requires c κs =
-    let t = c.before.before.before.before.before.before.before.before.before.before.before.before.args.t in
-    let p : length t.processes ≡ process_slots = search (length_mapped, c.before.before.before.before.before.before.before.before.before.before.before.before.well-formed) in
-    let n : length t.namespaces ≡ namespace_slots = search (length_mapped, c.before.before.before.before.before.before.before.before.before.before.before.before.well-formed) in
-    let ok = told_yes _ _ c.before.before.before.before.before.before.before.before.before.processes-ok.ensures c.before.before.before.before.before.before.before.before.if2.false in
-    subst Inside (sym c.before.parents.ensures) (parents_inside (view t) (past_from t p n) ok)
+all-reach-root-requires c κs = search rules
+
+returns-4 : tie.Need-returns-4
+unfolding quick
+returns-4 c =
+    let t = c.before.before.before.before.before.before.before.before.before.args.t in
+    let p : length t.processes ≡ process_slots = search (length_mapped, c.before.before.before.before.before.before.before.before.before.well-formed) in
+    let n : length t.namespaces ≡ namespace_slots = search (length_mapped, c.before.before.before.before.before.before.before.before.before.well-formed) in
+    let e : false ≡ quick (view t) = by_row _ _ (search laws depth 20) in
+    e ∙ same (view t) (past_from t p n)
+
+unborn-keys-requires : tie.Need-unborn-keys-requires
+unborn-keys-requires c κs = search rules
+
+all-differ-requires : tie.Need-all-differ-requires
+all-differ-requires c κs = search rules
 
 returns-5 : tie.Need-returns-5
 unfolding quick
 returns-5 c =
-    let t = c.before.before.before.before.before.before.before.before.before.before.before.before.before.before.args.t in
-    let p : length t.processes ≡ process_slots = search (length_mapped, c.before.before.before.before.before.before.before.before.before.before.before.before.before.before.well-formed) in
-    let n : length t.namespaces ≡ namespace_slots = search (length_mapped, c.before.before.before.before.before.before.before.before.before.before.before.before.before.before.well-formed) in
+    let t = c.before.before.before.before.before.before.before.before.before.before.before.before.args.t in
+    let p : length t.processes ≡ process_slots = search (length_mapped, c.before.before.before.before.before.before.before.before.before.before.before.before.well-formed) in
+    let n : length t.namespaces ≡ namespace_slots = search (length_mapped, c.before.before.before.before.before.before.before.before.before.before.before.before.well-formed) in
     let e : false ≡ quick (view t) = by_row _ _ (search laws depth 20) in
     e ∙ same (view t) (past_from t p n)
 
 pids-differ-requires : tie.Need-pids-differ-requires
-pids-differ-requires c κs =
-    let t = c.before.before.before.before.before.before.before.before.before.before.before.before.before.before.args.t in
-    let p : length t.processes ≡ process_slots = search (length_mapped, c.before.before.before.before.before.before.before.before.before.before.before.before.before.before.well-formed) in
-    let n : length t.namespaces ≡ namespace_slots = search (length_mapped, c.before.before.before.before.before.before.before.before.before.before.before.before.before.before.well-formed) in
-    let root = told_yes _ _ c.before.before.before.before.before.before.before.before.before.before.before.before.before.root_ok.ensures c.before.before.before.before.before.before.before.before.before.before.before.before.if1.false in
-    let ok = told_yes _ _ c.before.before.before.before.before.namespaces-ok.ensures c.before.before.before.before.if4.false in
-    levels_low (view t) (past_from t p n) (right _ _ root) ok
+pids-differ-requires c κs = search rules
 
 returns-6 : tie.Need-returns-6
 unfolding quick
 returns-6 c =
-    let t = c.before.before.before.before.before.before.before.before.before.before.before.before.before.before.before.args.t in
-    let p : length t.processes ≡ process_slots = search (length_mapped, c.before.before.before.before.before.before.before.before.before.before.before.before.before.before.before.well-formed) in
-    let n : length t.namespaces ≡ namespace_slots = search (length_mapped, c.before.before.before.before.before.before.before.before.before.before.before.before.before.before.before.well-formed) in
+    let t = c.before.before.before.before.before.before.before.before.before.before.before.before.before.args.t in
+    let p : length t.processes ≡ process_slots = search (length_mapped, c.before.before.before.before.before.before.before.before.before.before.before.before.before.well-formed) in
+    let n : length t.namespaces ≡ namespace_slots = search (length_mapped, c.before.before.before.before.before.before.before.before.before.before.before.before.before.well-formed) in
     let e : c.pids-differ.result ≡ quick (view t) = by_row _ _ (search laws depth 20) in
     e ∙ same (view t) (past_from t p n)
 
@@ -118,12 +109,13 @@ is-sound-spec =
     returns
     processes-ok-requires
     returns-2
-    holders-requires
-    returns-3
     namespaces-ok-requires
-    returns-4
+    returns-3
     parents-requires
     all-reach-root-requires
+    returns-4
+    unborn-keys-requires
+    all-differ-requires
     returns-5
     pids-differ-requires
     returns-6)

@@ -1,7 +1,7 @@
 //! Several tables at once, in one thread and in several; none disturbs another.
 
 use crate::scripts::{chain, play, play_line, BUSY};
-use lampfunnel::{run, run_checked, Slot, Table};
+use lampfunnel::{run, Slot, Table};
 use std::sync::Barrier;
 use std::thread;
 
@@ -40,29 +40,6 @@ fn again(script: &str, start: &Barrier) -> Vec<(String, Table)> {
 fn calls_answer_as_a_script_does() {
     for script in [EACH, BUSY, &chain()] {
         assert_eq!(play(script).0.as_bytes(), run(script.as_bytes()));
-    }
-}
-
-/// The ten lines of document 01, and their answers.
-const TEN: &str = "\
-0 clone new
-1 getpid
-1 getppid
-1 clone
-2 kill 1 9
-0 kill 2 9
-0 kill 3 0
-0 wait
-0 wait
-0 clone
-";
-const TEN_ANSWERS: &[u8] = b"2\n1\n0\n2\n0\n0\n-3\n2 signal 9\n-10\n4\n";
-
-#[test]
-fn a_check_at_each_call_changes_no_answer() {
-    assert_eq!(run_checked(TEN.as_bytes()), TEN_ANSWERS);
-    for script in [TEN, EACH, BUSY, &chain(), "no call", ""] {
-        assert_eq!(run_checked(script.as_bytes()), run(script.as_bytes()));
     }
 }
 

@@ -9,7 +9,7 @@ use Rattle.numbers.proofs.Knowing.{knowing}
 use Rattle.numbers.proofs.climbs.lies_below.Reads as lies-below
 use Rattle.numbers.proofs.climbs.lies_below.Kinds as lies-below-kinds
 use Rattle.numbers.proofs.climbs.+lies_below.Lts-lies_below as lies-below-lts
-use Rattle.tree.proofs.in_column.Reads as in-column-reads
+use Rattle.numbers.proofs.climbs.in_column.Reads as in-column-reads
 use Rattle.numbers.proofs.climbs.is_known.Reads as is-known-reads
 use Rattle.numbers.proofs.climbs.keep.Reads as keep-reads
 use Rattle.numbers.proofs.climbs.+lies_below.{statement}

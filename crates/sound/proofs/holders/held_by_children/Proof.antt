@@ -3,8 +3,8 @@ use Prim.Native.Nat.{◌-◌}
 use mathlib.Core.Bool.{false}
 use mathlib.Core.Path.{◌≡◌, sym, subst}
 use borrow.Author.Rules.{rules}
-use lib.ListN.{length, replicate}
-use Rattle.table.proofs.FoldLoops.{Turned, turns, fold_starts, fold_goes_on, fold_done}
+use lib.ListN.{replicate}
+use Rattle.table.proofs.FoldLoops.{Turned, turns, fold_loops}
 use Rattle.table.proofs.MarkLoops.{Marks}
 use Rattle.table.specs.Limits.{namespace_slots}
 use Rattle.sound.proofs.Marks.{namespace_turn, children_marked}
@@ -13,13 +13,13 @@ use Rattle.sound.proofs.holders.held_by_children.Statement.{statement}
 use Rattle.sound.proofs.holders.held_by_children.Tie as tie
 
 abbrev invariant-loop : tie.invariant-loop
-invariant-loop namespaces marks₀ n₀ marks n = Turned namespace_slots (namespace_turn namespaces) marks₀ marks n × (length marks ≡ namespace_slots)
+invariant-loop namespaces marks₀ n₀ marks n = Turned namespace_slots (namespace_turn namespaces) marks₀ marks n
 
 abbrev decreases-loop : tie.decreases-loop
 decreases-loop namespaces marks₀ n₀ marks n = namespace_slots - n
 
 loop-holds : tie.Need-loop-init invariant-loop decreases-loop
-loop-holds c = (fold_starts namespace_slots _ _, search rules)
+loop-holds c = search fold_loops
 
 mul-s : tie.Need-overflow-mul-s invariant-loop decreases-loop
 mul-s c = search rules
@@ -27,8 +27,8 @@ mul-s c = search rules
 array-copy-out-s : tie.Need-array-copy-out-s invariant-loop decreases-loop
 array-copy-out-s c = search rules
 
-cast-t13 : tie.Need-overflow-cast-t13 invariant-loop decreases-loop
-cast-t13 c = search rules
+cast-t12 : tie.Need-overflow-cast-t12 invariant-loop decreases-loop
+cast-t12 c = search rules
 
 mark-namespace-requires : tie.Need-mark-namespace-requires invariant-loop decreases-loop
 mark-namespace-requires c κs = search rules
@@ -40,11 +40,11 @@ loop-less : tie.Need-loop-smaller invariant-loop decreases-loop
 loop-less c = search rules
 
 loop-again : tie.Need-loop-preserved invariant-loop decreases-loop
-loop-again c = (fold_goes_on namespace_slots _ _ _ _ _ c.before.before.before.before.loop.invariant.0 (search rules) c.mark-namespace.ensures.0, search rules)
+loop-again c = search fold_loops
 
 returns : tie.Need-returns invariant-loop decreases-loop
 returns c =
-    let e : c.before.loop.marks ≡ turns namespace_slots (namespace_turn c.before.before.args.t1) (replicate namespace_slots false) = fold_done _ _ _ _ _ c.before.loop.invariant.0 (search rules) in
+    let e : c.before.loop.marks ≡ turns namespace_slots (namespace_turn c.before.before.args.t1) (replicate namespace_slots false) = search fold_loops in
     subst (λ m. Marks namespace_slots m (held_by_children c.before.before.args.t1)) (sym e) (children_marked c.before.before.args.t1)
 
 pub held-by-children-spec : {M : Type 1} → statement M
@@ -56,7 +56,7 @@ held-by-children-spec =
     loop-holds
     mul-s
     array-copy-out-s
-    cast-t13
+    cast-t12
     mark-namespace-requires
     add-n
     loop-less

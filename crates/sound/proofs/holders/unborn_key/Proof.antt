@@ -27,6 +27,9 @@ returns-3 : tie.Need-returns-3
 unfolding unborn_key
 returns-3 c = search (if_yes, if_no, and_true, and_false, and_false_later, atoms)
 
+cast-result : tie.Need-overflow-cast-result
+cast-result c = search rules
+
 returns-4 : tie.Need-returns-4
 unfolding unborn_key
 returns-4 c = search (if_yes, if_no, and_true, and_false, and_false_later, atoms)
@@ -41,4 +44,5 @@ unborn-key-spec =
     returns-2
     is-unborn-requires
     returns-3
+    cast-result
     returns-4)

@@ -17,10 +17,13 @@ use Rattle.sound.proofs.namespaces.namespaces_ok.Statement.{statement}
 use Rattle.sound.proofs.namespaces.namespaces_ok.Tie as tie
 
 abbrev invariant-loop : tie.invariant-loop
-invariant-loop marks t by-child i₀ i = Passed namespace_slots (λ k. namespace_ok k (held_in (view t) k) (namespace_at (view t) k) (namespace_at (view t) ((view t).up k)) (process_at (view t) (init_of ((view t).life k)))) i
+invariant-loop t by-process by-child i₀ i = Passed namespace_slots (λ k. namespace_ok k (held_in (view t) k) (namespace_at (view t) k) (namespace_at (view t) ((view t).up k)) (process_at (view t) (init_of ((view t).life k)))) i
 
 abbrev decreases-loop : tie.decreases-loop
-decreases-loop marks t by-child i₀ i = namespace_slots - i
+decreases-loop t by-process by-child i₀ i = namespace_slots - i
+
+held-by-processes-requires : tie.Need-held-by-processes-requires invariant-loop decreases-loop
+held-by-processes-requires c κs = search rules
 
 held-by-children-requires : tie.Need-held-by-children-requires invariant-loop decreases-loop
 held-by-children-requires c κs = search rules
@@ -61,14 +64,14 @@ element-copy-out-init c = search rules
 empty-process-requires : tie.Need-empty-process-requires invariant-loop decreases-loop
 empty-process-requires c κs = search rules
 
-element-copy-out-held : tie.Need-element-copy-out-held invariant-loop decreases-loop
-element-copy-out-held c = search rules
-
 array-read-held : tie.Need-array-read-held invariant-loop decreases-loop
 array-read-held c = search rules
 
-cast-t35 : tie.Need-overflow-cast-t35 invariant-loop decreases-loop
-cast-t35 c = search rules
+array-read-held-2 : tie.Need-array-read-held-2 invariant-loop decreases-loop
+array-read-held-2 c = search rules
+
+cast-t36 : tie.Need-overflow-cast-t36 invariant-loop decreases-loop
+cast-t36 c = search rules
 
 namespace-ok-requires : tie.Need-namespace-ok-requires invariant-loop decreases-loop
 namespace-ok-requires c κs = search rules
@@ -78,14 +81,14 @@ unfolding namespaces_ok ◌or◌
 returns c =
     let t = c.before.before.before.before.before.before.before.before.before.before.before.before.before.args.t1 in
     let good = c.before.before.before.before.before.before.before.before.before.before.before.before.before.well-formed in
-    let i = c.before.before.before.before.before.before.before.before.before.before.loop.i in
-    let l = c.before.before.before.before.before.before.before.before.before.loop-test.true in
+    let i = c.before.before.before.before.before.before.before.before.before.loop.i in
+    let l = c.before.before.before.before.before.before.before.before.loop-test.true in
     let s = namespace t i in
-    let above : c.before.before.before.before.before.before.if1.above ≡ namespace t s.parent.0 = ⊎_elim (λ w. w.2) (λ (a, b, e). search (namespace_past, good)) c.before.before.before.before.before.before.if1.branch in
-    let k = c.before.before.before.before.before.init.result.0 in
-    let read : process_row c.before.before.before.if2.init ≡ process_row (process t k) = ⊎_elim (λ w. ap process_row w.2) (λ (a, b, e). search (process_past, good)) c.before.before.before.if2.branch in
-    let init = read ∙ ap (λ k. process_row (process t k)) c.before.before.before.before.before.init.ensures in
-    let held = ap₂ (λ x y. x or y) (c.before.before.before.before.before.before.before.before.before.before.before.before.before.requires.says i l) (c.before.before.before.before.before.before.before.before.before.before.before.held-by-children.ensures.says i l) ∙ marks_all t i in
+    let above : c.before.before.before.before.before.if1.above ≡ namespace t s.parent.0 = ⊎_elim (λ w. w.2) (λ (a, b, e). search (namespace_past, good)) c.before.before.before.before.before.if1.branch in
+    let k = c.before.before.before.before.init.result.0 in
+    let read : process_row c.before.before.if2.init ≡ process_row (process t k) = ⊎_elim (λ w. ap process_row w.2) (λ (a, b, e). search (process_past, good)) c.before.before.if2.branch in
+    let init = read ∙ ap (λ k. process_row (process t k)) c.before.before.before.before.init.ensures in
+    let held = ap₂ (λ x y. x or y) (c.before.before.before.before.before.before.before.before.before.before.before.held-by-processes.ensures.says i l) (c.before.before.before.before.before.before.before.before.before.before.held-by-children.ensures.says i l) ∙ marks_all t i in
     let e = namespace_reads t i _ _ _ c.before.namespace-ok.result held above init c.before.namespace-ok.ensures in
     all_fails namespace_slots _ i c.before.namespace-ok.result l e c.if3.true
 
@@ -100,16 +103,16 @@ unfolding ◌or◌
 loop-again c =
     let t = c.before.before.before.before.before.before.before.before.before.before.before.before.before.args.t1 in
     let good = c.before.before.before.before.before.before.before.before.before.before.before.before.before.well-formed in
-    let i = c.before.before.before.before.before.before.before.before.before.before.loop.i in
-    let l = c.before.before.before.before.before.before.before.before.before.loop-test.true in
+    let i = c.before.before.before.before.before.before.before.before.before.loop.i in
+    let l = c.before.before.before.before.before.before.before.before.loop-test.true in
     let s = namespace t i in
-    let above : c.before.before.before.before.before.before.if1.above ≡ namespace t s.parent.0 = ⊎_elim (λ w. w.2) (λ (a, b, e). search (namespace_past, good)) c.before.before.before.before.before.before.if1.branch in
-    let k = c.before.before.before.before.before.init.result.0 in
-    let read : process_row c.before.before.before.if2.init ≡ process_row (process t k) = ⊎_elim (λ w. ap process_row w.2) (λ (a, b, e). search (process_past, good)) c.before.before.before.if2.branch in
-    let init = read ∙ ap (λ k. process_row (process t k)) c.before.before.before.before.before.init.ensures in
-    let held = ap₂ (λ x y. x or y) (c.before.before.before.before.before.before.before.before.before.before.before.before.before.requires.says i l) (c.before.before.before.before.before.before.before.before.before.before.before.held-by-children.ensures.says i l) ∙ marks_all t i in
+    let above : c.before.before.before.before.before.if1.above ≡ namespace t s.parent.0 = ⊎_elim (λ w. w.2) (λ (a, b, e). search (namespace_past, good)) c.before.before.before.before.before.if1.branch in
+    let k = c.before.before.before.before.init.result.0 in
+    let read : process_row c.before.before.if2.init ≡ process_row (process t k) = ⊎_elim (λ w. ap process_row w.2) (λ (a, b, e). search (process_past, good)) c.before.before.if2.branch in
+    let init = read ∙ ap (λ k. process_row (process t k)) c.before.before.before.before.init.ensures in
+    let held = ap₂ (λ x y. x or y) (c.before.before.before.before.before.before.before.before.before.before.before.held-by-processes.ensures.says i l) (c.before.before.before.before.before.before.before.before.before.before.held-by-children.ensures.says i l) ∙ marks_all t i in
     let e = namespace_reads t i _ _ _ c.before.namespace-ok.result held above init c.before.namespace-ok.ensures in
-    all_goes_on namespace_slots _ i c.before.namespace-ok.result c.before.before.before.before.before.before.before.before.before.before.loop.invariant l e c.if3.false
+    all_goes_on namespace_slots _ i c.before.namespace-ok.result c.before.before.before.before.before.before.before.before.before.loop.invariant l e c.if3.false
 
 returns-2 : tie.Need-returns-2 invariant-loop decreases-loop
 unfolding namespaces_ok
@@ -121,6 +124,7 @@ namespaces-ok-spec =
     (tie.spec
     invariant-loop
     decreases-loop
+    held-by-processes-requires
     held-by-children-requires
     loop-holds
     mul-s
@@ -134,9 +138,9 @@ namespaces-ok-spec =
     mul-init
     element-copy-out-init
     empty-process-requires
-    element-copy-out-held
     array-read-held
-    cast-t35
+    array-read-held-2
+    cast-t36
     namespace-ok-requires
     returns
     add-i

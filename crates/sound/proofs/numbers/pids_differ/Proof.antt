@@ -1,55 +1,69 @@
--- The numbers of one process after the other.
-use Prim.Native.Nat.{◌-◌}
+-- A loop over the levels from the deepest up, with the namespaces above at each.
 use borrow.Author.Rules.{rules}
-use native.Mathlib.Omega.{arith}
-use Rattle.table.specs.Limits.{process_slots}
+use Prim.Native.Nat.{◌-◌}
+use native.Mathlib.Numerals.{add-one}
+use mathlib.Core.Path.{◌≡◌}
+use Rattle.table.proofs.AllLoops.{Passed, all_starts, all_goes_on, all_fails, all_passes}
+use Rattle.table.specs.Limits.{levels as level_count}
 use Rattle.rules.specs.Read.{view}
-use Rattle.tree.proofs.Columns.{column_reads}
-use Rattle.sound.proofs.Filling.{Filling, filling_starts, filling_goes_on, filling_fails, filling_ends, levels_low}
+use Rattle.tree.specs.Tree.{slot_in}
+use Rattle.sound.specs.Quick.{differ, pid_keys, top}
+use Rattle.sound.proofs.Keys.{next_top, next_differs}
 use Rattle.sound.proofs.numbers.pids_differ.Statement.{statement}
 use Rattle.sound.proofs.numbers.pids_differ.Tie as tie
 
 abbrev invariant-loop : tie.invariant-loop
-invariant-loop t up levels heads₀ nexts₀ keys₀ i₀ heads nexts keys i = Filling t heads nexts keys i
+invariant-loop t up levels tops₀ k₀ tops k = (Passed level_count (λ l. differ (pid_keys (view t) l)) k) × (slot_in tops ≡ top (view t).up (view t).level k)
 
 abbrev decreases-loop : tie.decreases-loop
-decreases-loop t up levels heads₀ nexts₀ keys₀ i₀ heads nexts keys i = process_slots - i
+decreases-loop t up levels tops₀ k₀ tops k = level_count - k
 
-parents-requires : tie.Need-parents-requires invariant-loop decreases-loop
-parents-requires c κs = search rules
+ups-requires : tie.Need-ups-requires invariant-loop decreases-loop
+ups-requires c κs = search rules
 
 levels-requires : tie.Need-levels-requires invariant-loop decreases-loop
 levels-requires c κs = search rules
 
+themselves-requires : tie.Need-themselves-requires invariant-loop decreases-loop
+themselves-requires c κs = search rules
+
 loop-holds : tie.Need-loop-init invariant-loop decreases-loop
-loop-holds c = filling_starts _
+unfolding top
+loop-holds c = (all_starts level_count _, c.themselves.ensures)
 
-mul-p : tie.Need-overflow-mul-p invariant-loop decreases-loop
-mul-p c = search rules
+raise-requires : tie.Need-raise-requires invariant-loop decreases-loop
+raise-requires c κs = search rules
 
-element-copy-out-p : tie.Need-element-copy-out-p invariant-loop decreases-loop
-element-copy-out-p c = search rules
+pid-keys-requires : tie.Need-pid-keys-requires invariant-loop decreases-loop
+pid-keys-requires c κs = search rules
 
-mul-enter-process : tie.Need-overflow-mul-enter-process invariant-loop decreases-loop
-mul-enter-process c = search rules
-
-enter-process-requires : tie.Need-enter-process-requires invariant-loop decreases-loop
-enter-process-requires c κs = (levels_low (view c.before.before.before.before.before.before.before.before.before.before.before.args.t1) _ (column_reads _ _ (search rules) c.before.before.before.before.before.before.before.before.levels.ensures) c.before.before.before.before.before.before.before.before.before.before.before.requires _, omega (arith, c.before.before.before.before.before.before.loop-test.true), c.before.before.before.before.before.before.before.loop.invariant.linked)
+all-differ-requires : tie.Need-all-differ-requires invariant-loop decreases-loop
+all-differ-requires c κs = search rules
 
 returns : tie.Need-returns invariant-loop decreases-loop
-returns c = filling_fails _ _ _ (column_reads _ _ (search rules) c.before.before.before.before.before.before.before.before.before.before.before.parents.ensures) (column_reads _ _ (search rules) c.before.before.before.before.before.before.before.before.before.before.levels.ensures) _ _ _ _ _ _ _ _ c.before.before.before.before.before.before.before.before.before.loop.invariant c.before.before.before.before.before.before.before.before.loop-test.true c.before.enter-process.ensures c.if1.true
+returns c =
+    let v = view c.before.before.before.before.before.before.before.before.before.before.args.t in
+    let k = c.before.before.before.before.before.loop.k in
+    let next = next_top v k _ _ _ _ c.before.before.before.before.before.before.before.before.ups.ensures c.before.before.before.before.before.before.before.levels.ensures c.before.before.before.before.before.loop.invariant.1 c.before.before.before.raise.ensures in
+    let e = next_differs v k _ _ c.before.all-differ.result next c.before.before.pid-keys.ensures c.before.all-differ.ensures in
+    all_fails level_count _ k c.before.all-differ.result (search rules) e c.if1.true
 
-add-i : tie.Need-overflow-add-i invariant-loop decreases-loop
-add-i c = search rules
+add-k : tie.Need-overflow-add-k invariant-loop decreases-loop
+add-k c = search rules
 
 loop-less : tie.Need-loop-smaller invariant-loop decreases-loop
 loop-less c = search rules
 
 loop-again : tie.Need-loop-preserved invariant-loop decreases-loop
-loop-again c = filling_goes_on _ _ _ (column_reads _ _ (search rules) c.before.before.before.before.before.before.before.before.before.before.before.parents.ensures) (column_reads _ _ (search rules) c.before.before.before.before.before.before.before.before.before.before.levels.ensures) _ _ _ _ _ _ _ _ c.before.before.before.before.before.before.before.before.before.loop.invariant c.before.before.before.before.before.before.before.before.loop-test.true c.before.enter-process.ensures c.if1.false
+loop-again c =
+    let v = view c.before.before.before.before.before.before.before.before.before.before.args.t in
+    let k = c.before.before.before.before.before.loop.k in
+    let next = next_top v k _ _ _ _ c.before.before.before.before.before.before.before.before.ups.ensures c.before.before.before.before.before.before.before.levels.ensures c.before.before.before.before.before.loop.invariant.1 c.before.before.before.raise.ensures in
+    let e = next_differs v k _ _ c.before.all-differ.result next c.before.before.pid-keys.ensures c.before.all-differ.ensures in
+    (all_goes_on level_count _ k c.before.all-differ.result c.before.before.before.before.before.loop.invariant.0 (search rules) e c.if1.false, rw add-one next)
 
 returns-2 : tie.Need-returns-2 invariant-loop decreases-loop
-returns-2 c = filling_ends _ _ _ _ _ c.before.loop.invariant c.loop-test.false
+returns-2 c = all_passes level_count _ _ c.before.loop.invariant.0 (search rules)
 
 pub pids-differ-spec : {M : Type 1} → statement M
 pids-differ-spec =
@@ -57,15 +71,15 @@ pids-differ-spec =
     (tie.spec
     invariant-loop
     decreases-loop
-    parents-requires
+    ups-requires
     levels-requires
+    themselves-requires
     loop-holds
-    mul-p
-    element-copy-out-p
-    mul-enter-process
-    enter-process-requires
+    raise-requires
+    pid-keys-requires
+    all-differ-requires
     returns
-    add-i
+    add-k
     loop-less
     loop-again
     returns-2)

@@ -19,8 +19,8 @@ returns-2 : tie.Need-returns-2
 unfolding parent_ok
 returns-2 c = by_row _ _ (search row depth 20)
 
-climbs-requires : tie.Need-climbs-requires
-climbs-requires c κs = search rules
+below-requires : tie.Need-below-requires
+below-requires c κs = search rules
 
 returns-3 : tie.Need-returns-3
 unfolding parent_ok
@@ -41,7 +41,7 @@ parent-ok-spec =
     returns
     has-ended-requires
     returns-2
-    climbs-requires
+    below-requires
     returns-3
     first-ok-requires
     returns-4)

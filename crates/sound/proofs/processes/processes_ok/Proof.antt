@@ -8,8 +8,7 @@ use Prim.Native.Nat.{◌-◌}
 use Rattle.sound.proofs.Records.{namespace_past, process_past, process_reads}
 use Rattle.table.proofs.AllLoops.{Passed, all_starts, all_goes_on, all_fails, all_passes}
 use Rattle.table.specs.Limits.{process_slots}
-use Rattle.tree.proofs.Columns.{column_reads}
-use Rattle.tree.specs.Tree.{column_at}
+use Rattle.tree.specs.Tree.{slot_in}
 use Rattle.sound.specs.Quick.{process_row, process_at, namespace_at, process_ok, processes_ok}
 use Rattle.sound.proofs.processes.processes_ok.Statement.{statement}
 use Rattle.sound.proofs.processes.processes_ok.Tie as tie
@@ -20,8 +19,8 @@ invariant-loop t up i₀ i = Passed process_slots (λ k. process_ok (view t).up 
 abbrev decreases-loop : tie.decreases-loop
 decreases-loop t up i₀ i = process_slots - i
 
-parents-requires : tie.Need-parents-requires invariant-loop decreases-loop
-parents-requires c κs = search rules
+ups-requires : tie.Need-ups-requires invariant-loop decreases-loop
+ups-requires c κs = search rules
 
 loop-holds : tie.Need-loop-init invariant-loop decreases-loop
 loop-holds c = all_starts process_slots _
@@ -74,17 +73,15 @@ process-ok-requires c κs = search rules
 returns : tie.Need-returns invariant-loop decreases-loop
 unfolding processes_ok
 returns c =
-    let t = c.before.before.before.before.before.before.before.before.before.before.before.before.before.before.args.t1 in
-    let good = c.before.before.before.before.before.before.before.before.before.before.before.before.before.before.well-formed in
-    let i = c.before.before.before.before.before.before.before.before.before.before.before.loop.i in
+    let t = c.before.before.before.before.before.before.before.before.before.before.before.before.before.args.t1 in
+    let good = c.before.before.before.before.before.before.before.before.before.before.before.before.before.well-formed in
+    let i = c.before.before.before.before.before.before.before.before.before.before.loop.i in
     let p = process t i in
-    let home : c.before.before.before.before.before.before.before.if1.home ≡ namespace t p.own.0 = ⊎_elim (λ w. w.2) (λ (a, b, e). search (namespace_past, good)) c.before.before.before.before.before.before.before.if1.branch in
-    let inner : c.before.before.before.before.before.if2.inner ≡ namespace t p.children.0 = ⊎_elim (λ w. w.2) (λ (a, b, e). search (namespace_past, good)) c.before.before.before.before.before.if2.branch in
-    let parent : process_row c.before.before.before.if3.parent ≡ process_row (process t p.parent.0) = ⊎_elim (λ w. ap process_row w.2) (λ (a, b, e). search (process_past, good)) c.before.before.before.if3.branch in
-    let call = c.before.before.before.before.before.before.before.before.before.before.before.before.parents in
-    let up = column_reads call.result _ (search (rules, call)) call.ensures in
-    let e = process_reads t i (column_at call.result) _ _ _ c.before.process-ok.result up home inner parent c.before.process-ok.ensures in
-    all_fails process_slots _ i c.before.process-ok.result c.before.before.before.before.before.before.before.before.before.before.loop-test.true e c.if4.true
+    let home : c.before.before.before.before.before.before.if1.home ≡ namespace t p.own.0 = ⊎_elim (λ w. w.2) (λ (a, b, e). search (namespace_past, good)) c.before.before.before.before.before.before.if1.branch in
+    let inner : c.before.before.before.before.if2.inner ≡ namespace t p.children.0 = ⊎_elim (λ w. w.2) (λ (a, b, e). search (namespace_past, good)) c.before.before.before.before.if2.branch in
+    let parent : process_row c.before.before.if3.parent ≡ process_row (process t p.parent.0) = ⊎_elim (λ w. ap process_row w.2) (λ (a, b, e). search (process_past, good)) c.before.before.if3.branch in
+    let e = process_reads t i (slot_in c.before.before.before.before.before.before.before.before.before.before.before.ups.result) _ _ _ c.before.process-ok.result c.before.before.before.before.before.before.before.before.before.before.before.ups.ensures home inner parent c.before.process-ok.ensures in
+    all_fails process_slots _ i c.before.process-ok.result c.before.before.before.before.before.before.before.before.before.loop-test.true e c.if4.true
 
 add-i : tie.Need-overflow-add-i invariant-loop decreases-loop
 add-i c = search rules
@@ -94,17 +91,15 @@ loop-less c = search rules
 
 loop-again : tie.Need-loop-preserved invariant-loop decreases-loop
 loop-again c =
-    let t = c.before.before.before.before.before.before.before.before.before.before.before.before.before.before.args.t1 in
-    let good = c.before.before.before.before.before.before.before.before.before.before.before.before.before.before.well-formed in
-    let i = c.before.before.before.before.before.before.before.before.before.before.before.loop.i in
+    let t = c.before.before.before.before.before.before.before.before.before.before.before.before.before.args.t1 in
+    let good = c.before.before.before.before.before.before.before.before.before.before.before.before.before.well-formed in
+    let i = c.before.before.before.before.before.before.before.before.before.before.loop.i in
     let p = process t i in
-    let home : c.before.before.before.before.before.before.before.if1.home ≡ namespace t p.own.0 = ⊎_elim (λ w. w.2) (λ (a, b, e). search (namespace_past, good)) c.before.before.before.before.before.before.before.if1.branch in
-    let inner : c.before.before.before.before.before.if2.inner ≡ namespace t p.children.0 = ⊎_elim (λ w. w.2) (λ (a, b, e). search (namespace_past, good)) c.before.before.before.before.before.if2.branch in
-    let parent : process_row c.before.before.before.if3.parent ≡ process_row (process t p.parent.0) = ⊎_elim (λ w. ap process_row w.2) (λ (a, b, e). search (process_past, good)) c.before.before.before.if3.branch in
-    let call = c.before.before.before.before.before.before.before.before.before.before.before.before.parents in
-    let up = column_reads call.result _ (search (rules, call)) call.ensures in
-    let e = process_reads t i (column_at call.result) _ _ _ c.before.process-ok.result up home inner parent c.before.process-ok.ensures in
-    all_goes_on process_slots _ i c.before.process-ok.result c.before.before.before.before.before.before.before.before.before.before.before.loop.invariant c.before.before.before.before.before.before.before.before.before.before.loop-test.true e c.if4.false
+    let home : c.before.before.before.before.before.before.if1.home ≡ namespace t p.own.0 = ⊎_elim (λ w. w.2) (λ (a, b, e). search (namespace_past, good)) c.before.before.before.before.before.before.if1.branch in
+    let inner : c.before.before.before.before.if2.inner ≡ namespace t p.children.0 = ⊎_elim (λ w. w.2) (λ (a, b, e). search (namespace_past, good)) c.before.before.before.before.if2.branch in
+    let parent : process_row c.before.before.if3.parent ≡ process_row (process t p.parent.0) = ⊎_elim (λ w. ap process_row w.2) (λ (a, b, e). search (process_past, good)) c.before.before.if3.branch in
+    let e = process_reads t i (slot_in c.before.before.before.before.before.before.before.before.before.before.before.ups.result) _ _ _ c.before.process-ok.result c.before.before.before.before.before.before.before.before.before.before.before.ups.ensures home inner parent c.before.process-ok.ensures in
+    all_goes_on process_slots _ i c.before.process-ok.result c.before.before.before.before.before.before.before.before.before.before.loop.invariant c.before.before.before.before.before.before.before.before.before.loop-test.true e c.if4.false
 
 returns-2 : tie.Need-returns-2 invariant-loop decreases-loop
 unfolding processes_ok
@@ -116,7 +111,7 @@ processes-ok-spec =
     (tie.spec
     invariant-loop
     decreases-loop
-    parents-requires
+    ups-requires
     loop-holds
     mul-p
     element-copy-out-p
