@@ -24,7 +24,7 @@ same_answers : (t : Table) → SoundTable t → (ls : List Line) → answers ste
 unfolding KeepsSound
 same_answers t h [] = refl
 same_answers t h (l ∷ ls) =
-    ap (λ rest. shown (step t l.0 l.1).reply.answer ∷ rest) (same_answers _ (keeps_sound t l.0 l.1 h) ls)
+    ap (λ rest. shown (step t l.0 l.1).reply.answer ∷ rest) (same_answers (step t l.0 l.1).table (keeps_sound t l.0 l.1 h) ls)
     ∙ ap (λ (r : Outcome). shown r.reply.answer ∷ answers served r.table ls) (served_is t l.0 l.1 h)
 
 same_all : (es : List Edge) → So (sound_starts es) → all_answers step es ≡ all_answers served es
@@ -35,6 +35,6 @@ same_all (e ∷ es) h =
     ∙ ap (λ rest. answers served e.0 e.1 ∷ rest) (same_all es (right _ _ h))
 
 -- Every edge is answered as document 01 says. (Where an init signals itself, the whole table stays as it was:
--- `init-spared` says so for any sound table.)
+-- `init_spared` says so for any sound table.)
 pub edges_hold : all_answers step edges ≡ expected edges
 edges_hold = same_all edges edges_start ∙ edges_served

@@ -1,5 +1,7 @@
 // The process table: its types, the fresh table, and how a record is read and put. Document 01 as definitions begins
 // in specs/, and goes on in the specs/ of `rules` and `sameness`.
+#![tactic(auto)]
+
 ghost use Rattle.std.specs.Prelude.{◌≡◌, not, eqb, get_or};
 ghost use Rattle.table.specs.Fresh.{empty_process, empty_namespace, fresh as fresh_table};
 ghost use Rattle.table.specs.Traits.{no_traits, born_traits, ended_traits, with_signals};
@@ -45,29 +47,29 @@ pub const STATUSES: u16 = 256;
 
 // The slot of a process. NO_SLOT stands for none.
 #[repr(C)]
-#[derive(Drop)]
+#[derive(Clone, Copy)]
 pub struct ProcSlot(pub u8);
 
 // The slot of a namespace. NO_SLOT stands for none.
 #[repr(C)]
-#[derive(Drop)]
+#[derive(Clone, Copy)]
 pub struct NsSlot(pub u8);
 
 // A process number, as one namespace sees it. 0 stands for none.
 #[repr(C)]
-#[derive(Drop)]
+#[derive(Clone, Copy)]
 pub struct Pid(pub u16);
 
 // ---- the table
 
 // How a process ended: the number it gave at its end, or a signal.
-#[derive(Drop)]
+#[derive(Clone, Copy)]
 pub enum End {
     Exited(u8),
     Signaled(u8),
 }
 
-#[derive(Drop)]
+#[derive(Clone, Copy)]
 pub enum State {
     Running,
     Stopped,
@@ -75,7 +77,7 @@ pub enum State {
 }
 
 // What a process has and no rule of the tree reads: handled and pending signals, bit s for signal s.
-#[derive(Drop)]
+#[derive(Clone, Copy)]
 pub struct Traits {
     pub handled: u32,
     pub pending: u32,
@@ -83,7 +85,7 @@ pub struct Traits {
 
 // Own namespace, fixed at birth; children's namespace; parent; state; traits; and one number for each level from the
 // root's to its own.
-#[derive(Drop)]
+#[derive(Clone, Copy)]
 pub struct Process {
     pub own: NsSlot,
     pub children: NsSlot,
@@ -94,14 +96,14 @@ pub struct Process {
 }
 
 // The condition of a namespace: no process yet, alive with its init, or its init ended.
-#[derive(Drop)]
+#[derive(Clone, Copy)]
 pub enum Life {
     Unborn,
     Alive(ProcSlot),
     Dead,
 }
 
-#[derive(Drop)]
+#[derive(Clone, Copy)]
 pub struct Namespace {
     pub parent: NsSlot,
     pub level: u8,
@@ -109,7 +111,7 @@ pub struct Namespace {
     pub life: Life,
 }
 
-#[derive(Drop)]
+#[derive(Clone, Copy)]
 pub struct Table {
     pub processes: [Process; PROCESS_SLOTS],
     pub namespaces: [Namespace; NAMESPACE_SLOTS],
@@ -118,7 +120,7 @@ pub struct Table {
 // ---- calls and answers
 
 // What a signal does to its target: nothing, make it run, stop it, end it, or become pending.
-#[derive(Drop)]
+#[derive(Clone, Copy)]
 pub enum Action {
     Nothing,
     Resume,
@@ -128,7 +130,7 @@ pub enum Action {
 }
 
 // Arguments are whole 32-bit numbers; the calls themselves say which are good.
-#[derive(Drop)]
+#[derive(Clone, Copy)]
 pub enum Call {
     Clone,
     CloneNew,
@@ -144,7 +146,7 @@ pub enum Call {
 }
 
 // Why a call was refused, in the order in which the reasons are tried. `rules`' specs/Answers.antt gives their numbers.
-#[derive(Drop)]
+#[derive(Clone, Copy)]
 pub enum Refusal {
     Unsound,
     NotRunning,
@@ -159,7 +161,7 @@ pub enum Refusal {
 }
 
 // A refusal, a number, or a process that a wait removed: its number and how it ended.
-#[derive(Drop)]
+#[derive(Clone, Copy)]
 pub enum Answer {
     Refused(Refusal),
     Number(u16),
@@ -167,14 +169,14 @@ pub enum Answer {
 }
 
 // The answer, and beside it the slot of a child that was born, for the host alone.
-#[derive(Drop)]
+#[derive(Clone, Copy)]
 pub struct Reply {
     pub answer: Answer,
     pub child: ProcSlot,
 }
 
 // What a call gives: the reply, and the table then.
-#[derive(Drop)]
+#[derive(Clone, Copy)]
 pub struct Outcome {
     pub reply: Reply,
     pub table: Table,
@@ -194,6 +196,7 @@ pub fn no_traits() -> Traits
 
 impl Traits {
     // A child's, by its parent's.
+    #[tactic(auto, unfolding(crate::specs::Traits::born_traits))]
     pub fn born(self) -> Traits
         ensures { result ≡ born_traits self }
     {
@@ -202,6 +205,7 @@ impl Traits {
     }
 
     // What an end leaves of them.
+    #[tactic(auto, unfolding(crate::specs::Traits::ended_traits))]
     pub fn ended(self) -> Traits
         ensures { result ≡ ended_traits self }
     {
@@ -210,6 +214,7 @@ impl Traits {
     }
 
     // With these signals handled and pending.
+    #[tactic(auto, unfolding(crate::specs::Traits::with_signals))]
     pub fn with_signals(self, handled: u32, pending: u32) -> Traits
         ensures { result ≡ with_signals self handled pending }
     {
@@ -251,6 +256,7 @@ pub fn empty_namespace() -> Namespace
 }
 
 // The fresh table: the root init alone, running, children's namespace the root, last number 1.
+#[tactic(auto, unfolding(crate::specs::Fresh::fresh))]
 pub fn fresh() -> Table
     ensures { result ≡ fresh_table }
 {

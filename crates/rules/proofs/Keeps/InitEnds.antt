@@ -3,6 +3,7 @@ use Prim.Native.Nat.{ℕ, zero, suc, ◌<◌}
 use native.Mathlib.Omega.{arith}
 use mathlib.Core.Bool.{Bool, true, false, So, false≢true}
 use mathlib.Core.Logic.{◌⊎◌, inl, inr, ⊎_elim}
+use mathlib.Core.List.{[]}
 use mathlib.Core.Path.{◌≡◌, refl, sym, ◌∙◌, ap, subst}
 use borrow.Author.Tests.{eqb-true}
 use lib.Dec.{eqb}
@@ -149,7 +150,7 @@ module _ (v : View) (f : Facts v) (p : ℕ) (e : End) (lives : Lives v p) (its_i
   unfolding zero_process
   empty_w i o =
       ⊎_elim
-      (λ (g : So (gone v n i)). is_zero w i (record { own = rw g; holds = λ k l. rw g (blank_holds _ k l); parent = rw g; running = rw g refl; traits = rw g none_are_blank; pids = λ l k. rw g }))
+      (λ (g : So (gone v n i)). is_zero w i (record { own = rw g; holds = λ k l. rw g (blank_holds [] k l); parent = rw g; running = rw g refl; traits = rw g none_are_blank; pids = λ l k. rw g }))
       (λ (g : gone v n i ≡ false). let x : Taken v i → ⊥ = (λ t. o (is_taken i g t)) in let s : seen v n i ≡ false = isnt_so (λ s. x (seen_taken v n i s)) in rw (g, s) (f.empty_process i x))
       (yes_or_no (gone v n i))
 

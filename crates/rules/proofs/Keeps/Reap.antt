@@ -2,6 +2,7 @@
 use Prim.Native.Nat.{ℕ, zero, suc}
 use mathlib.Core.Bool.{false, So, false≢true, Bool}
 use mathlib.Core.Logic.{⊎_elim}
+use mathlib.Core.List.{[]}
 use mathlib.Core.Path.{◌≡◌, refl, sym, ◌∙◌, subst, ap}
 use borrow.Author.Tests.{eq-eqb, ne_eqb}
 use lib.Dec.{eqb}
@@ -80,7 +81,7 @@ module _ (v : View) (f : Facts v) (d : ℕ) (over : So (v.ended d)) where
   unfolding zero_process taken
   empty_w i o =
       ⊎_elim
-      (λ x. is_zero w i (record { own = rw (eq-eqb i d x); holds = λ k l. rw (eq-eqb i d x) (blank_holds _ k l); parent = rw (eq-eqb i d x); running = rw (eq-eqb i d x) refl; traits = rw (eq-eqb i d x) none_are_blank; pids = λ l k. rw (eq-eqb i d x) }))
+      (λ x. is_zero w i (record { own = rw (eq-eqb i d x); holds = λ k l. rw (eq-eqb i d x) (blank_holds [] k l); parent = rw (eq-eqb i d x); running = rw (eq-eqb i d x) refl; traits = rw (eq-eqb i d x) none_are_blank; pids = λ l k. rw (eq-eqb i d x) }))
       (λ y. rw y (f.empty_process i (λ t. o (rw y t)))) (same_or i d)
 
   above_w : (i : ℕ) → Taken w i → Other i → Below w (w.own i) (w.own (w.parent i))

@@ -4,6 +4,7 @@ use native.Mathlib.Decide.{dec_lt}
 use native.Mathlib.Omega.{arith}
 use mathlib.Core.Bool.{Bool, true, false, not, So}
 use mathlib.Core.Logic.{◌⊎◌, inl, inr, ⊎_elim, ◌↔◌}
+use mathlib.Core.List.{[]}
 use mathlib.Core.Path.{◌≡◌, refl, sym, ◌∙◌, ap, subst}
 use borrow.Author.Tests.{eq-eqb, eqb-true}
 use lib.Dec.{eqb, leb}
@@ -263,7 +264,7 @@ past_from t a b =
           is_zero (view t) i
           (record {
             own = ap (λ (p : Process). p.own.0) none;
-            holds = λ k l. ap (λ (p : Process). hold_at p k) none ∙ blank_holds _ k l;
+            holds = λ k l. ap (λ (p : Process). hold_at p k) none ∙ blank_holds [] k l;
             parent = ap (λ (p : Process). p.parent.0) none;
             running = subst (λ (p : Process). So (is_running p.state)) (sym none) refl;
             traits = subst (λ (p : Process). So (blank_traits p.traits)) (sym none) none_are_blank;
