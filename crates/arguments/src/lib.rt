@@ -1,4 +1,6 @@
 // Arguments of calls: whole 32-bit numbers are crossed to unsigned ones here, and nowhere else.
+#![tactic(auto)]
+
 ghost use Rattle.std.specs.Prelude.{not, ◌≡◌, ◌%◌, eqb, ltb};
 ghost use Rattle.rules.specs.Calls.{within, natural, status, names_group};
 ghost use Rattle.table.specs.Limits.{signals, sigkill, sigstop};

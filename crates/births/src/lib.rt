@@ -1,5 +1,7 @@
 // A birth, of clone: the child's record, its number at each level, and what it changes in its namespace and in those
 // above. And a new namespace, of clone and unshare. Each takes the slot that its caller has found free.
+#![tactic(auto)]
+
 ghost use Rattle.std.specs.Prelude.{◌≡◌, get_or, set};
 ghost use Rattle.table.specs.Slots.{no_namespace};
 ghost use Rattle.births.specs.Births.{birth_at, namespace_at, child_with, joined_by};

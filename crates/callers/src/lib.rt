@@ -1,5 +1,7 @@
 // The caller: its namespace's level, whether its children are born into another one, whom a number names in its own,
 // and the calls that only ask: getpid and getppid.
+#![tactic(auto)]
+
 use arguments::{names_one, natural_of};
 use outcomes::{Verdict, answers, refuse_if};
 use table::{DEEPEST, Outcome, PID_VALUES, Pid, ProcSlot, Refusal, Table};

@@ -1,4 +1,6 @@
 // clone, plain and new: a child is born, if it is not refused, in document 01's order.
+#![tactic(auto)]
+
 ghost use Rattle.std.specs.Prelude.{◌≡◌};
 ghost use Rattle.outcomes.specs.Verdicts.{verdict};
 ghost use Rattle.rules.specs.Calls.{born as born_of, clone_refusals, clone as clone_of, clone_new as clone_new_of};

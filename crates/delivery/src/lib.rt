@@ -1,4 +1,6 @@
 // The delivery of a signal, to one process and to several, and whom a caller sees beside itself.
+#![tactic(auto)]
+
 ghost use Rattle.std.specs.Prelude.{◌≡◌, ℕ, ◌<◌, ◌+◌, min, ltb};
 ghost use Rattle.rules.proofs.Laws.ReadAt.{ReadAt};
 ghost use Rattle.rules.specs.Calls.{others as others_of};
@@ -156,7 +158,7 @@ pub fn deliver(t: Table, from: NsSlot, slot: ProcSlot, s: u8) -> Table
 // ---- whom a caller sees beside itself
 
 // Slots in an order: the first len of the array.
-#[derive(Drop)]
+#[derive(Clone, Copy)]
 pub struct Targets {
     pub slots: [ProcSlot; PROCESS_SLOTS],
     pub len: usize,

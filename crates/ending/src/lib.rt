@@ -1,5 +1,7 @@
 // The end of a process, and the freeing of namespaces that nobody holds. A table is large and is copied at each call:
 // what is done at each slot takes one record, and the table goes only where it changes.
+#![tactic(auto)]
+
 ghost use Rattle.std.specs.Prelude.{◌≡◌, ◌<◌, get_or};
 ghost use Rattle.rules.specs.Freeing.{freed};
 ghost use Rattle.table.specs.Limits.{process_slots};

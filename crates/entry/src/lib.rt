@@ -1,4 +1,6 @@
 // The thin entry: the table is lent, and what the by-value step makes of it is stored in its place.
+#![tactic(auto)]
+
 ghost use Rattle.entry.specs.Applied.{Applied};
 
 use table::{Call, ProcSlot, Reply, Table};

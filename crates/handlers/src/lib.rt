@@ -1,4 +1,6 @@
 // handle and poll: what a process does with its signals.
+#![tactic(auto)]
+
 ghost use Rattle.std.specs.Prelude.{◌≡◌, ◌<◌};
 ghost use Rattle.outcomes.specs.Verdicts.{verdict};
 ghost use Rattle.rules.specs.Calls.{handle_on, handle_off, handle_refusals, handle as handle_of, poll as poll_of};

@@ -1,4 +1,6 @@
 // kill: a signal to one, or to all others. The refusals stand in document 01's order.
+#![tactic(auto)]
+
 ghost use Rattle.std.specs.Prelude.{true, false, [], ◌∷◌, ◌≡◌, eqb, length, ℕ, ◌<◌};
 ghost use Rattle.arguments.specs.Arguments.{names_everyone};
 ghost use Rattle.delivery.specs.Targets.{Lists};

@@ -1,4 +1,6 @@
 // What a host links: a whole script, or one call at a time on a table that the host holds.
+#![tactic(auto)]
+
 ghost use Rattle.std.specs.Prelude.{◌≡◌, length};
 ghost use Rattle.lines.specs.Splitting.{lines};
 ghost use Rattle.lampfunnel.specs.Run.{told, filled};

@@ -1,6 +1,8 @@
 // An input that comes in chunks, cut into lines.
+#![tactic(auto)]
+
 ghost use Rattle.std.specs.Prelude.{◌≡◌, List, [], ◌∷◌, ◌++◌, ℕ, take};
-ghost use Rattle.lines.specs.Carried.{Carries, cut as cut_Line, Took};
+ghost use Rattle.lines.specs.Carried.{Carries, cut as cut_line, Took};
 ghost use Rattle.script.specs.Reading.{read_line};
 
 use script::{LINE_BYTES, Parsed, parse};
@@ -9,7 +11,7 @@ use script::{LINE_BYTES, Parsed, parse};
 const CARRIED: usize = LINE_BYTES + 1;
 
 // The first bytes of a line.
-#[derive(Drop)]
+#[derive(Clone, Copy)]
 pub struct Line {
     pub bytes: [u8; CARRIED],
     pub len: usize,
@@ -26,7 +28,7 @@ pub fn empty() -> Line
 
 // A length above CARRIED counts as CARRIED.
 fn cut(line: Line) -> Line
-    ensures { result ≡ cut_Line line }
+    ensures { result ≡ cut_line line }
 {
     if line.len <= CARRIED {
         return line;
@@ -51,7 +53,7 @@ fn add(line: Line, b: u8) -> Line
 }
 
 // What a part of a chunk gave: the line, whether it ended, and the place after it.
-#[derive(Drop)]
+#[derive(Clone, Copy)]
 pub struct Taken {
     pub line: Line,
     pub ended: bool,
@@ -60,7 +62,7 @@ pub struct Taken {
 
 // Takes bytes of a chunk in, from a place on, up to the end of the line that is open.
 pub fn take_line(line: Line, chunk: &[u8], from: usize) -> Taken
-    ensures { (l : List ℕ) → Carries (cut_Line line) l → Took l chunk.now from result }
+    ensures { (l : List ℕ) → Carries (cut_line line) l → Took l chunk.now from result }
 {
     let mut t = cut(line);
     let mut i = from;

@@ -1,4 +1,6 @@
 // The table as a host holds it: without enums, so that C can hold it too. It is read and written whole.
+#![tactic(auto)]
+
 ghost use Rattle.std.specs.Prelude.{◌≡◌, map, get_or};
 ghost use Rattle.mirror.specs.Mirror.{state_kind, state_end, life_kind, life_init, process_row, namespace_row, mirror_of, state_from, life_from, process_from, namespace_from, writes_state, writes_life, is_process_row, is_namespace_row, is_written, no_process_row, no_namespace_row, empty_table, table_from};
 ghost use Rattle.table.specs.Limits.{process_slots, namespace_slots};
@@ -12,7 +14,7 @@ use table::{
 // State: 0 running, 1 stopped, 2 ended with a number, 3 by a signal; and that number or signal. The order of the fields
 // leaves one byte between them, which is named, so that none is hidden.
 #[repr(C)]
-#[derive(Drop)]
+#[derive(Clone, Copy)]
 pub struct ProcessRow {
     pub own: NsSlot,
     pub children: NsSlot,
@@ -27,7 +29,7 @@ pub struct ProcessRow {
 
 // Life: 0 unborn, 1 alive, 2 dead; and the init of a living one.
 #[repr(C)]
-#[derive(Drop)]
+#[derive(Clone, Copy)]
 pub struct NamespaceRow {
     pub parent: NsSlot,
     pub level: u8,
@@ -37,7 +39,7 @@ pub struct NamespaceRow {
 }
 
 #[repr(C)]
-#[derive(Drop)]
+#[derive(Clone, Copy)]
 pub struct Mirror {
     pub processes: [ProcessRow; PROCESS_SLOTS],
     pub namespaces: [NamespaceRow; NAMESPACE_SLOTS],

@@ -1,4 +1,6 @@
 // unshare and setns: the namespace that the caller's children are born into.
+#![tactic(auto)]
+
 ghost use Rattle.std.specs.Prelude.{ℕ, ◌≡◌, ℤ};
 ghost use Rattle.outcomes.specs.Verdicts.{verdict};
 ghost use Rattle.rules.specs.Calls.{unshare as unshare_of, set_children, named as named_in, setns_refusals, setns as setns_of};

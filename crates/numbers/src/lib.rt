@@ -1,4 +1,6 @@
 // "A number": the search for the next process number of a namespace.
+#![tactic(auto)]
+
 mod climbs;
 
 ghost use Rattle.std.specs.Prelude.{false, not, ◌≡◌, suc, ◌-◌, get_or};

@@ -1,12 +1,14 @@
 // Whether a call is refused, and what it gives back: a refusal, or an answer and the table after it.
+#![tactic(auto)]
+
 ghost use Rattle.std.specs.Prelude.{◌≡◌};
-ghost use Rattle.rules.specs.Answers.{refused as IsRefusedAs, granted as granted_as, answers as answers_as};
+ghost use Rattle.rules.specs.Answers.{refused as refused_as, granted as granted_as, answers as answers_as};
 ghost use Rattle.table.specs.Tests.{if◌then◌else◌};
 
 use table::{Answer, NO_SLOT, Outcome, ProcSlot, Refusal, Reply, Table};
 
 // What the refusals of a call come to.
-#[derive(Drop)]
+#[derive(Clone, Copy)]
 pub enum Verdict {
     Granted,
     Refused(Refusal),
@@ -25,7 +27,7 @@ pub fn refuse_if(test: bool, why: Refusal, rest: Verdict) -> Verdict
 
 // A refusal leaves the whole table unchanged and tells the host no slot.
 pub fn refused(t: Table, why: Refusal) -> Outcome
-    ensures { result ≡ IsRefusedAs t why }
+    ensures { result ≡ refused_as t why }
 {
     Outcome {
         reply: Reply {

@@ -1,4 +1,6 @@
 // Runs a script of calls: a line of the input is a call, and a line of standard output its answer.
+#![tactic(auto)]
+
 mod faults;
 mod run;
 mod usage;

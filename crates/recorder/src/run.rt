@@ -8,7 +8,7 @@ use session::{Session, feed, finish, start};
 const CHUNK: usize = 2048;
 
 // A session after a chunk: whether reading goes on, and whether the input came to its end, so that an open line is whole.
-#[derive(Drop)]
+#[derive(Clone, Copy)]
 struct Progress {
     session: Session,
     more: bool,

@@ -1,4 +1,6 @@
 // A call as a host names it, and a reply as a host is told it: numbers alone.
+#![tactic(auto)]
+
 ghost use Rattle.std.specs.Prelude.{◌≡◌};
 ghost use Rattle.rules.specs.Answers.{number_of, refusal_number, is_refused};
 ghost use Rattle.requests.specs.Requests.{plain_call, asked_by, end_kind, end_value, told_of, no_call};
@@ -39,7 +41,7 @@ const NO_CALL: i32 = -1002;
 
 // A call by its number, and its arguments. What a call does not take is not looked at.
 #[repr(C)]
-#[derive(Drop)]
+#[derive(Clone, Copy)]
 pub struct Request {
     pub call: u32,
     pub a: i32,
@@ -47,7 +49,7 @@ pub struct Request {
     pub c: i32,
 }
 
-#[derive(Drop)]
+#[derive(Clone, Copy)]
 pub enum Asked {
     Nothing,
     Makes(Call),
@@ -55,7 +57,7 @@ pub enum Asked {
 
 // The answer's number, the slot of a child that was born, and how a process ended that a wait removed, as in its row.
 #[repr(C)]
-#[derive(Drop)]
+#[derive(Clone, Copy)]
 pub struct Told {
     pub answer: i32,
     pub child: ProcSlot,

@@ -1,4 +1,6 @@
 // The script: a line of text to a call, and an answer to a line of text.
+#![tactic(auto)]
+
 ghost use Rattle.std.specs.Prelude.{◌≡◌, ◌+◌, ◌*◌, ◌<◌, ◌≤◌, [], ◌∷◌, length};
 ghost use Rattle.rules.specs.Answers.{refusal_number};
 ghost use Rattle.script.specs.Sizes.{answer_bytes, most_digits};
@@ -27,28 +29,28 @@ const GREATEST_SLOT: u64 = 255;
 // ---- what is read
 
 // The value of decimal digits.
-#[derive(Drop)]
+#[derive(Clone, Copy)]
 pub enum Natural {
     Bad,
     Is(u64),
 }
 
 // An argument of a call.
-#[derive(Drop)]
+#[derive(Clone, Copy)]
 pub enum Number {
     Bad,
     Is(i32),
 }
 
 // What stands after the slot.
-#[derive(Drop)]
+#[derive(Clone, Copy)]
 pub enum Request {
     Bad,
     Is(Call),
 }
 
 // A line: the call of a slot, or any other line.
-#[derive(Drop)]
+#[derive(Clone, Copy)]
 pub enum Parsed {
     Bad,
     Good(ProcSlot, Call),
@@ -325,7 +327,7 @@ pub fn parse(line: &[u8]) -> Parsed
 // ---- what is written
 
 // A short text by value: the first len bytes.
-#[derive(Drop)]
+#[derive(Clone, Copy)]
 pub struct Text {
     pub bytes: [u8; ANSWER_BYTES],
     pub len: usize,

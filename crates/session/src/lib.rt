@@ -1,4 +1,6 @@
 // A session: the table and the open line, carried on from each chunk of the input to the next.
+#![tactic(auto)]
+
 ghost use Rattle.std.specs.Prelude.{◌≡◌, List, [], ℕ, suc, ◌≤◌, ◌+◌, ◌*◌, length, drop};
 ghost use Rattle.lines.specs.Carried.{Carries, cut};
 ghost use Rattle.lines.specs.Runs.{run_all};
@@ -14,7 +16,7 @@ use lines::{Line, empty, read, take_line};
 use script::{Parsed, answer_text, bad_text, put};
 use table::{Call, ProcSlot, Reply, Table, fresh};
 
-#[derive(Drop)]
+#[derive(Clone, Copy)]
 pub struct Session {
     pub table: Table,
     pub line: Line,
@@ -33,7 +35,7 @@ pub fn start() -> Session
 
 // Where the reading of a chunk stands: whether a call was found, and that call; the line that was read last, the place
 // after it, and how many bytes were written.
-#[derive(Drop)]
+#[derive(Clone, Copy)]
 struct Place {
     found: bool,
     slot: ProcSlot,
@@ -90,7 +92,7 @@ fn go_on(p: Place, reply: Reply, chunk: &[u8], out: &mut [u8]) -> Place
 }
 
 // The table and the place after the calls of a chunk.
-#[derive(Drop)]
+#[derive(Clone, Copy)]
 struct Stand {
     table: Table,
     place: Place,
@@ -112,7 +114,7 @@ fn run_calls(mut t: Table, p: Place, chunk: &[u8], out: &mut [u8]) -> Stand
 // ---- a chunk, and the end
 
 // What a chunk gave: the session then, and how many bytes were written.
-#[derive(Drop)]
+#[derive(Clone, Copy)]
 pub struct Fed {
     pub session: Session,
     pub used: usize,

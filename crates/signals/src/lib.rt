@@ -1,4 +1,6 @@
 // Signals by number: sets of them, and what an unhandled one does.
+#![tactic(auto)]
+
 ghost use Rattle.std.specs.Prelude.{◌≡◌, ltb};
 ghost use Rattle.rules.specs.Delivery.{default_action};
 ghost use Rattle.table.specs.Limits.{signals};

@@ -1,4 +1,6 @@
 // The check of a whole table. Each pass over the table takes the table once; what it does at a slot takes records.
+#![tactic(auto)]
+
 mod holders;
 mod namespaces;
 mod numbers;

@@ -1,6 +1,8 @@
 // The tree of namespaces: what lies below what, who is seen from where and under which number, the lowest free slots,
 // and marks of namespaces. A pass over the table takes the table once; what it does at each slot takes one process, and
 // the parents and levels of the namespaces as small arrays.
+#![tactic(auto)]
+
 ghost use Rattle.std.specs.Prelude.{true, ◌≡◌, set};
 ghost use Rattle.rules.specs.Read.{view, climb, find as find_in};
 ghost use Rattle.rules.specs.Pids.{free_slot, free_namespace_slot};

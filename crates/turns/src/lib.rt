@@ -1,4 +1,6 @@
 // One call on the table that a host holds.
+#![tactic(auto)]
+
 ghost use Rattle.std.specs.Prelude.{◌≡◌};
 ghost use Rattle.turns.specs.Turns.{slot_of, given_back, turn as turn_of};
 
@@ -8,7 +10,7 @@ use requests::{Asked, Request, Told, asked_by, is_refused, no_call, told_of};
 use table::{NO_SLOT, Outcome, PROCESS_SLOTS, ProcSlot};
 
 // What the host is told, and what it holds then.
-#[derive(Drop)]
+#[derive(Clone, Copy)]
 pub struct Done {
     pub told: Told,
     pub mirror: Mirror,

@@ -1,4 +1,6 @@
 // exit and wait: a process ends, and its parent takes it out of the table.
+#![tactic(auto)]
+
 ghost use Rattle.std.specs.Prelude.{not, ◌≡◌, eqb, ltb};
 ghost use Rattle.outcomes.specs.Verdicts.{verdict};
 ghost use Rattle.rules.specs.Answers.{granted as granted_as};
