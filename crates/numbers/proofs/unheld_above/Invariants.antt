@@ -1,0 +1,17 @@
+-- `unheld_above` marks which numbers above the last are taken, and gives the first without a mark.
+use Prim.Native.Nat.{◌-◌}
+use Rattle.rules.specs.Read.{climb}
+use Rattle.table.specs.Limits.{process_slots}
+use Rattle.tree.specs.Tree.{level_in}
+use Rattle.numbers.specs.Climbs.{column_at, Known}
+use Rattle.numbers.specs.Marks.{marks as count}
+use Rattle.numbers.proofs.Marking.{Marking}
+use Rattle.numbers.proofs.unheld_above.Given as goal
+
+abbrev pub invariant-loop-row : goal.invariant-loop-row
+invariant-loop-row l =
+    Marking count (level_in l.n) (λ j. climb (column_at l.up) (column_at l.levels (level_in l.pids j)) (level_in l.pids j) l.last) l.initial.known l.marks l.row
+    × Known (column_at l.up) (column_at l.levels) l.last l.known
+
+abbrev pub decreases-loop-row : goal.decreases-loop-row
+decreases-loop-row l = process_slots - l.row
