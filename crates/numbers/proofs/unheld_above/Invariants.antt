@@ -10,8 +10,8 @@ use Rattle.numbers.proofs.unheld_above.Given as goal
 
 abbrev pub invariant-loop-row : goal.invariant-loop-row
 invariant-loop-row l =
-    Marking count (level_in l.n) (λ j. climb (column_at l.up) (column_at l.levels (level_in l.pids j)) (level_in l.pids j) l.last) l.initial.known l.marks l.row
-    × Known (column_at l.up) (column_at l.levels) l.last l.known
+    Marking count (level_in l.pids) (λ j. climb (column_at l.up) (column_at l.levels (level_in l.owns j)) (level_in l.owns j) l.n) l.last l.marks l.row
+    × Known (column_at l.up) (column_at l.levels) l.n l.known
 
 abbrev pub decreases-loop-row : goal.decreases-loop-row
 decreases-loop-row l = process_slots - l.row
