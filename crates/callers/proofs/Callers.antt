@@ -43,12 +43,12 @@ put_changed t i p f e = go (dec_lt i long)
     itself q = q
 
     long : ℕ
-    long = length (map itself t.processes)
+    long = length t.processes
 
     go : Dec (i < long) → put t i (f p) ≡ put t i (f (process t i))
-    go (yes h) = ap (λ q. put t i (f q)) (process_within itself t long i p refl h e)
+    go (yes h) = ap (λ q. put t i (f q)) (process_within t long i p refl h e)
     go (no h) =
-        sym (put_past itself t long i (f p) refl (omega arith)) ∙ put_past itself t long i (f (process t i)) refl (omega arith)
+        sym (put_past t long i (f p) refl (omega arith)) ∙ put_past t long i (f (process t i)) refl (omega arith)
 
 -- p is the process read at the caller's slot c
 module _ (t : Table) (c : ℕ) (p : Process) (e : p ≡ get_or t.processes c empty_process) where

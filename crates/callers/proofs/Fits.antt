@@ -17,7 +17,6 @@ use Rattle.rules.proofs.Laws.Facts.{Facts, facts}
 use Rattle.rules.proofs.Laws.Tests.{both, all_intro}
 use Rattle.table.specs.contracts.Pid as K
 use Rattle.table.specs.contracts.Process as P
-use Rattle.table.proofs.Slots.{length_mapped}
 use Rattle.table.specs.contracts.Table as T
 use Rattle.table.specs.contracts.Traits as X
 use Rattle.table.specs.Limits.{process_slots, namespace_slots, levels, pid_values, signals}

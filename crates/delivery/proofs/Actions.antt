@@ -106,8 +106,8 @@ put_read t i p h e q = go (dec_lt i process_slots)
     long = length-map t.processes (λ (x : Process). x) ∙ e
 
     go : Dec (i < process_slots) → put t i (h p) ≡ put t i (h (process t i))
-    go (yes l) = ap (λ x. put t i (h x)) (process_within (λ (x : Process). x) t process_slots i p long l q)
-    go (no o) = sym (put_past (λ (x : Process). x) t process_slots i (h p) long (omega arith)) ∙ put_past (λ (x : Process). x) t process_slots i (h (process t i)) long (omega arith)
+    go (yes l) = ap (λ x. put t i (h x)) (process_within t process_slots i p long l q)
+    go (no o) = sym (put_past t process_slots i (h p) long (omega arith)) ∙ put_past t process_slots i (h (process t i)) long (omega arith)
 
 -- ---- what each action leaves
 

@@ -10,7 +10,6 @@ use native.Mathlib.Omega.{arith}
 use Rattle.rules.proofs.Keeps.Changes.{deliver_sane}
 use Rattle.rules.proofs.Keeps.Deliver.{Safe}
 use Rattle.rules.proofs.Laws.Facts.{Sane}
-use Rattle.table.proofs.Slots.{length_mapped}
 use Rattle.rules.specs.Delivery.{deliver_all}
 use Rattle.table.specs.Limits.{signals}
 use Rattle.table.specs.declared.ProcSlot.{ProcSlot}
@@ -37,12 +36,12 @@ delivers_start t from s len l =
       going = λ low k h. rw rest_all (record { sane = k; safe = h; left = refl });
     }
 
-module _ {Y : Type 0} (g : ProcSlot → Y) (n : ℕ) (t : Table) (from s len : ℕ) (l : List ProcSlot) (u : Table) (i : ℕ) (w : Delivering t from s len l u i) where
+module _ (n : ℕ) (t : Table) (from s len : ℕ) (l : List ProcSlot) (u : Table) (i : ℕ) (w : Delivering t from s len l u i) where
   -- count is the one given, and len that many slots at most; m is the table after the delivery to the slot at i
-  pub delivers_one : (count : ℕ) (m : Table) → i < len → len ≡ min count n → length (map g l) ≡ n → Delivers u from (get_or l i no_one).0 s m → Delivering t from s len l m (i + 1)
+  pub delivers_one : (count : ℕ) (m : Table) → i < len → len ≡ min count n → length l ≡ n → Delivers u from (get_or l i no_one).0 s m → Delivering t from s len l m (i + 1)
   unfolding deliver_all deliver_all_by
   delivers_one count m h k e d =
-      let next : rest len l i ≡ (get_or l i no_one).0 ∷ rest len l (suc i) = rest_cons len l i h (omega (arith, length_mapped g l n e)) in
+      let next : rest len l i ≡ (get_or l i no_one).0 ∷ rest len l (suc i) = rest_cons len l i h (omega (arith, e)) in
       rw add-one
       (record {
         within = omega arith;
@@ -60,13 +59,13 @@ module _ {Y : Type 0} (g : ProcSlot → Y) (n : ℕ) (t : Table) (from s len : �
             });
       })
 
-  pub delivers_all : (count : ℕ) → len ≤ i → len ≡ min count n → length (map g l) ≡ n → DeliversAll t from (numbers (take count l)) s u
+  pub delivers_all : (count : ℕ) → len ≤ i → len ≡ min count n → length l ≡ n → DeliversAll t from (numbers (take count l)) s u
   unfolding deliver_all deliver_all_by
   delivers_all count h k e =
       let f = w.within in
       let q : i ≡ len = omega arith in
-      let done : rest len l i ≡ [] = ap (rest len l) q ∙ rest_none len l (omega (arith, length_mapped g l n e)) in
-      subst (λ js. DeliversAll t from (numbers js) s u) (take_clamped l count n len (length_mapped g l n e) k)
+      let done : rest len l i ≡ [] = ap (rest len l) q ∙ rest_none len l (omega (arith, e)) in
+      subst (λ js. DeliversAll t from (numbers js) s u) (take_clamped l count n len e k)
       (record {
         always = subst (λ js. deliver_all_by u from js s ≡ deliver_all_by t from (numbers (take len l)) s) done w.always;
         as_defined = λ low a b. subst (λ js. deliver_all u from js s ≡ deliver_all t from (numbers (take len l)) s) done (w.going low a b).left;

@@ -11,7 +11,6 @@ use lib.Seq.{get_or-set_other}
 use native.Mathlib.Numerals.{add-one}
 use native.Mathlib.Omega.{arith}
 use Rattle.table.proofs.Chains.{pick_yes, pick_no}
-use Rattle.table.proofs.Slots.{length_mapped}
 use Rattle.table.specs.Tests.{◌or◌, if◌then◌else◌, insert}
 use Rattle.table.specs.declared.ProcSlot.{ProcSlot}
 use Rattle.delivery.proofs.Slots.{no_one, numbers_take, numbers_take_set, rest, rest_all, rest_cons, rest_none}
@@ -106,19 +105,19 @@ places_end f s len l₀ l held placed i w h k =
 
 -- ---- the same as the code has it: what the turn leaves is given by equations, and the array's length is that of a `map`
 
-module _ {Y : Type 0} (g : ProcSlot → Y) (n : ℕ) (f : ℕ → ℕ) (s len : ℕ) (l₀ l m : List ProcSlot) (held next : ProcSlot) (placed put : Bool) (i q : ℕ) (r : Bool) where
-  pub moves_on : Placing f s len l₀ l held placed i → i < len → q ≡ f s → r ≡ placed or ltb q (f (get_or l i no_one).0) → length (map g l₀) ≡ n → len < n
+module _ (n : ℕ) (f : ℕ → ℕ) (s len : ℕ) (l₀ l m : List ProcSlot) (held next : ProcSlot) (placed put : Bool) (i q : ℕ) (r : Bool) where
+  pub moves_on : Placing f s len l₀ l held placed i → i < len → q ≡ f s → r ≡ placed or ltb q (f (get_or l i no_one).0) → length l₀ ≡ n → len < n
       → r ≡ true → m ≡ set l i held → next ≡ get_or l i no_one → put ≡ true → Placing f s len l₀ m next put (i + 1)
   moves_on w h a b e k c x y z =
-      rw (x, y, z) (places_here f s len l₀ l held placed i w h (omega (arith, length_mapped g l₀ n e)) q r a b c)
+      rw (x, y, z) (places_here f s len l₀ l held placed i w h (omega (arith, e)) q r a b c)
 
-  pub stays_on : Placing f s len l₀ l held placed i → i < len → q ≡ f s → r ≡ placed or ltb q (f (get_or l i no_one).0) → length (map g l₀) ≡ n → len < n
+  pub stays_on : Placing f s len l₀ l held placed i → i < len → q ≡ f s → r ≡ placed or ltb q (f (get_or l i no_one).0) → length l₀ ≡ n → len < n
       → r ≡ false → m ≡ l → next ≡ held → put ≡ placed → Placing f s len l₀ m next put (i + 1)
   stays_on w h a b e k c x y z =
-      rw (x, y, z) (places_later f s len l₀ l held placed i w h (omega (arith, length_mapped g l₀ n e)) q r a b c)
+      rw (x, y, z) (places_later f s len l₀ l held placed i w h (omega (arith, e)) q r a b c)
 
-pub stores_last : {Y : Type 0} (g : ProcSlot → Y) (n : ℕ) (f : ℕ → ℕ) (s len : ℕ) (l₀ l : List ProcSlot) (held : ProcSlot) (placed : Bool) (i : ℕ) → Placing f s len l₀ l held placed i → len ≤ i → length (map g l₀) ≡ n → len < n
+pub stores_last : (n : ℕ) (f : ℕ → ℕ) (s len : ℕ) (l₀ l : List ProcSlot) (held : ProcSlot) (placed : Bool) (i : ℕ) → Placing f s len l₀ l held placed i → len ≤ i → length l₀ ≡ n → len < n
     → numbers (take (len + 1) (set l len held)) ≡ insert f s (numbers (take len l₀))
-stores_last g n f s len l₀ l held placed i w h e k = places_end f s len l₀ l held placed i w h (omega (arith, length_mapped g l₀ n e))
+stores_last n f s len l₀ l held placed i w h e k = places_end f s len l₀ l held placed i w h (omega (arith, e))
 
 pub ruleset insert_loops = (places_start, moves_on, stays_on, stores_last)

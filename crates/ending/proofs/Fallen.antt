@@ -185,7 +185,7 @@ module _ (t : Table) (count : length t.processes ≡ process_slots) (namespace_c
 
   process_there : get_or t.processes p empty_process ≡ process t p
   process_there =
-      field_within (λ (x : Process). x) t.processes empty_process no_process process_slots p (length-map t.processes (λ x. x) ∙ count) low
+      field_within t.processes empty_process no_process process_slots p count low
 
   pub init_end_is : So (is_init v p) → end_init t p e ≡ end t p e
   unfolding end_init end

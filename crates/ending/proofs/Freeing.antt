@@ -16,7 +16,6 @@ use Rattle.rules.proofs.Laws.Tests.{left, right, both, cases, or_left, or_right,
 use Rattle.rules.proofs.Laws.Facts.{Below}
 use Rattle.table.proofs.MapLoops.{Mapped, map_done, changed_same, changed_none}
 use Rattle.table.proofs.MarkLoops.{marks_if, marked_alone}
-use Rattle.table.proofs.Slots.{length_mapped}
 use Rattle.rules.specs.Freeing.{kept, freed}
 use Rattle.table.specs.Fresh.{empty_namespace}
 use Rattle.table.specs.Limits.{namespace_slots, process_slots}
@@ -97,18 +96,18 @@ module _ (t : Table) (count : length t.namespaces ≡ namespace_slots) where
 
 -- ---- the pass
 
-pub freed_all : {Z : Type 0} (g : Namespace → Z) (t u : Table) (up level : ℕ → ℕ) (marks : List Bool) (i : ℕ)
-    → length (map g t.namespaces) ≡ namespace_slots → up ≡ (view t).up → level ≡ (view t).level → marks ≡ marks_of t
+pub freed_all : (t u : Table) (up level : ℕ → ℕ) (marks : List Bool) (i : ℕ)
+    → length t.namespaces ≡ namespace_slots → up ≡ (view t).up → level ≡ (view t).level → marks ≡ marks_of t
     → Mapped namespace_slots (once_freed up level (mark_at marks)) no_namespace t.namespaces u.namespaces i → u.processes ≡ t.processes → namespace_slots ≤ i → u ≡ freed t
 unfolding freed once_freed
-freed_all g t u up level marks i count a b c m s h =
+freed_all t u up level marks i count a b c m s h =
     ap₂ (λ x y. record { processes = x; namespaces = y })
     (s ∙ sym (changed_none no_process process_slots t.processes))
     (map_done namespace_slots (once_freed up level (mark_at marks)) no_namespace t.namespaces u.namespaces i m h
     ∙ changed_same (once_freed up level (mark_at marks)) (λ n x. if kept (view t) n then x else empty_namespace) no_namespace namespace_slots t.namespaces
     (λ n k. ap (λ (y : Bool). if y then namespace t n else empty_namespace)
     (ap (λ (l : List Bool). kept_for up level (mark_at l) n) c ∙ ap₂ (λ (p q : ℕ → ℕ). kept_for p q (mark_at (marks_of t)) n) a b
-    ∙ kept_is t (length_mapped g t.namespaces namespace_slots count) n k)))
+    ∙ kept_is t count n k)))
 
 -- ---- a blank slot is as a freed one
 

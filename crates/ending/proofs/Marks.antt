@@ -8,7 +8,6 @@ use lib.Dec.{eqb}
 use lib.ListN.{length, replicate, get_or-eq_default}
 use Rattle.table.proofs.Chains.{and_false}
 use Rattle.table.proofs.MapLoops.{Mapped, map_done, changed_reads}
-use Rattle.table.proofs.Slots.{length_mapped}
 use Rattle.table.specs.Limits.{process_slots}
 use Rattle.table.specs.Slots.{no_process, pid_at}
 use Rattle.rules.specs.Read.{view, taken, seen, below, climb}
@@ -28,11 +27,11 @@ unseen_past t n i e h =
     ∙ and_false false (climb (view t).up ((view t).level 0) 0 n) refl
 
 -- an array filled with who is seen, read at any slot
-pub all_seen : {Y : Type 0} (g : Process → Y) (t : Table) (n : ℕ) (l : List Bool) → length (map g t.processes) ≡ process_slots
+pub all_seen : (t : Table) (n : ℕ) (l : List Bool) → length t.processes ≡ process_slots
     → l ≡ changed_to (λ k x. seen (view t) n k) false process_slots (replicate process_slots false) → mark_at l ≡ seen (view t) n
-all_seen g t n l e d =
+all_seen t n l e d =
     changed_reads (λ (b : Bool). b) (λ k x. seen (view t) n k) false process_slots (replicate process_slots false) l (seen (view t) n) d refl (λ i h. refl)
-    (λ i h. sym (unseen_past t n i (length_mapped g t.processes process_slots e) h))
+    (λ i h. sym (unseen_past t n i e h))
 
 -- ---- the table that a pass leaves
 

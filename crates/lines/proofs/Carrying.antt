@@ -42,11 +42,10 @@ full t b h l k =
     let n = length-append l (b ∷ []) in
     record { size = omega arith; holds = k.holds ∙ sym (take-append-le carried l (b ∷ []) (omega arith)) }
 
-pub added : {Y : Type 0} (g : ℕ → Y) (t : Line) (b : ℕ) → length (map g t.bytes) ≡ carried → t.len < carried → (l : List ℕ) → Carries t l → Carries (record { bytes = set t.bytes t.len b; len = t.len + 1 }) (l ++ b ∷ [])
-added g t b e h l k =
+pub added : (t : Line) (b : ℕ) → length t.bytes ≡ carried → t.len < carried → (l : List ℕ) → Carries t l → Carries (record { bytes = set t.bytes t.len b; len = t.len + 1 }) (l ++ b ∷ [])
+added t b e h l k =
     let s = k.size in
     let n = length-append l (b ∷ []) in
-    let m = length-map t.bytes g in
     let i : t.len < length t.bytes = omega arith in
     let x : take (t.len + 1) (set t.bytes t.len b) ≡ take t.len t.bytes ++ b ∷ [] = rw add-one (take-suc-set t.bytes t.len b i) in
     record {
@@ -156,15 +155,14 @@ cut_read l =
 
 -- ---- what any line carries
 
-short_own : {Y : Type 0} (g : ℕ → Y) (t : Line) → length (map g t.bytes) ≡ carried → length (take t.len t.bytes) ≡ min carried t.len
-short_own g t e =
-    let m = length-map t.bytes g in
+short_own : (t : Line) → length t.bytes ≡ carried → length (take t.len t.bytes) ≡ min carried t.len
+short_own t e =
     let n = length-take t.len t.bytes in
     omega arith
 
-pub carries_own : {Y : Type 0} (g : ℕ → Y) (t : Line) → length (map g t.bytes) ≡ carried → Carries (cut t) (take (cut t).len t.bytes)
-carries_own g t e =
-    let n = short_own g (cut t) e in
+pub carries_own : (t : Line) → length t.bytes ≡ carried → Carries (cut t) (take (cut t).len t.bytes)
+carries_own t e =
+    let n = short_own (cut t) e in
     record { size = omega arith; holds = sym (take_all carried (take (cut t).len t.bytes) (omega arith)) }
 
 -- ---- reading
@@ -172,16 +170,16 @@ carries_own g t e =
 pub carried_read : (t : Line) (r : Parsed) → r ≡ read_line (take t.len t.bytes) → (l : List ℕ) → Carries t l → r ≡ read_line l
 carried_read t r e l k = e ∙ ap read_line k.holds ∙ cut_read l
 
-pub full_read : {Y : Type 0} (g : ℕ → Y) (t : Line) → length (map g t.bytes) ≡ carried → line_bytes < t.len → Parsed.Bad ≡ read_line (take t.len t.bytes)
-full_read g t e h =
-    let n = short_own g t e in
+pub full_read : (t : Line) → length t.bytes ≡ carried → line_bytes < t.len → Parsed.Bad ≡ read_line (take t.len t.bytes)
+full_read t e h =
+    let n = short_own t e in
     sym (too_long (take t.len t.bytes) (omega arith))
 
 -- the part of the array that is read
-pub part_within : {Y : Type 0} (g : ℕ → Y) (t : Line) → length (map g t.bytes) ≡ carried → t.len ≤ line_bytes → t.len ≤ length t.bytes
-part_within g t e h = let m = length-map t.bytes g in omega arith
+pub part_within : (t : Line) → length t.bytes ≡ carried → t.len ≤ line_bytes → t.len ≤ length t.bytes
+part_within t e h = omega arith
 
-pub part_length : {Y : Type 0} (g : ℕ → Y) (t : Line) → length (map g t.bytes) ≡ carried → t.len ≤ line_bytes → t.len ≡ length (take t.len t.bytes)
-part_length g t e h = sym (length-take-le t.len t.bytes (part_within g t e h))
+pub part_length : (t : Line) → length t.bytes ≡ carried → t.len ≤ line_bytes → t.len ≡ length (take t.len t.bytes)
+part_length t e h = sym (length-take-le t.len t.bytes (part_within t e h))
 
 pub ruleset read_laws = (full_read, part_within, part_length)

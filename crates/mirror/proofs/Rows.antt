@@ -6,7 +6,6 @@ use mathlib.Core.Path.{◌≡◌, sym, ap, ap₂, ◌∙◌}
 use lib.ListN.{length}
 use borrow.Author.Tests.{not-true, not-false}
 use Rattle.table.proofs.Chains.{pick_yes, pick_no}
-use Rattle.table.proofs.Slots.{length_mapped}
 use Rattle.table.specs.Tests.{all}
 use Rattle.table.specs.declared.Namespace.{Namespace}
 use Rattle.table.specs.declared.Process.{Process}
@@ -15,8 +14,8 @@ use Rattle.mirror.specs.Mirror.{process_from, namespace_from, is_written, empty_
 use Rattle.mirror.specs.declared.Mirror.{Mirror}
 
 -- a test of each row of an array, whose length is known as the code gives it
-pub all_long : {X Y : Type 0} (g : X → Y) (l : List X) (n : ℕ) (f : ℕ → Bool) (r : Bool) → r ≡ all n f → length (map g l) ≡ n → r ≡ all (length l) f
-all_long g l n f r p e = p ∙ ap (λ k. all k f) (sym (length_mapped g l n e))
+pub all_long : {X : Type 0} (l : List X) (n : ℕ) (f : ℕ → Bool) (r : Bool) → r ≡ all n f → length l ≡ n → r ≡ all (length l) f
+all_long l n f r p e = p ∙ ap (λ k. all k f) (sym e)
 
 pub read_empty : (m : Mirror) (b : Bool) (t : Table) → b ≡ is_written m → not b ≡ true → t ≡ empty_table → t ≡ table_from m
 unfolding table_from

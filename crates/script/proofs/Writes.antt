@@ -45,9 +45,8 @@ whole t u l z a r =
 
 -- ---- one byte
 
-pub pushed_byte : {Y : Type 0} (g : ℕ → Y) (t : Text) (b : ℕ) → length (map g t.bytes) ≡ answer_bytes → t.len < answer_bytes → Appended t (b ∷ []) (record { bytes = set t.bytes t.len b; len = t.len + 1 })
-pushed_byte g t b e h =
-    let l = length-map t.bytes g in
+pub pushed_byte : (t : Text) (b : ℕ) → length t.bytes ≡ answer_bytes → t.len < answer_bytes → Appended t (b ∷ []) (record { bytes = set t.bytes t.len b; len = t.len + 1 })
+pushed_byte t b e h =
     let i : t.len < length t.bytes = omega arith in
     record { size = omega arith; holds = rw add-one (take-suc-set t.bytes t.len b i) }
 
@@ -231,9 +230,8 @@ pub record Copying (s d₀ d : List ℕ) (at n i o : ℕ) : Type 0 where
 pub copy_starts : (s d : List ℕ) (at n : ℕ) → Copying s d d at n 0 at
 copy_starts s d at n = record { within = omega arith; place = omega arith; same_length = refl; holds = paste-zero d at s }
 
-pub copy_next : {Y : Type 0} (g : ℕ → Y) (s d₀ d : List ℕ) (at n i o : ℕ) → length (map g s) ≡ answer_bytes → (n ≤ answer_bytes) × (at + n ≤ length d₀) → Copying s d₀ d at n i o → i < n → Copying s d₀ (set d o (get_or s i 0)) at n (i + 1) (o + 1)
-copy_next g s d₀ d at n i o e r k h =
-    let m = length-map s g in
+pub copy_next : (s d₀ d : List ℕ) (at n i o : ℕ) → length s ≡ answer_bytes → (n ≤ answer_bytes) × (at + n ≤ length d₀) → Copying s d₀ d at n i o → i < n → Copying s d₀ (set d o (get_or s i 0)) at n (i + 1) (o + 1)
+copy_next s d₀ d at n i o e r k h =
     let a = r.0 in
     let b = r.1 in
     let p = k.place in

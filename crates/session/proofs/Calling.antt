@@ -114,10 +114,10 @@ passed_all t₀ p₀ chunk before t p out w f =
 
 -- ---- a whole chunk
 
-pub chunk_room : {Y : Type 0} (y : ℕ → Y) (s : Session) (chunk before mid : List ℕ) (p : Place) → length (map y s.line.bytes) ≡ carried → answer_bytes * length (ended [] chunk) ≤ length before → ((l : List ℕ) → Carries (cut s.line) l → Sought [] l chunk 0 0 before mid p) → p.used + answer_bytes * left_at chunk p ≤ length mid
-chunk_room y s chunk before mid p e h q =
+pub chunk_room : (s : Session) (chunk before mid : List ℕ) (p : Place) → length s.line.bytes ≡ carried → answer_bytes * length (ended [] chunk) ≤ length before → ((l : List ℕ) → Carries (cut s.line) l → Sought [] l chunk 0 0 before mid p) → p.used + answer_bytes * left_at chunk p ≤ length mid
+chunk_room s chunk before mid p e h q =
     let own : List ℕ = take (cut s.line).len s.line.bytes in
-    let w = q own (carries_own y s.line e) in
+    let w = q own (carries_own s.line e) in
     let n = ended_count own [] chunk in
     let m = w.room in
     let k = puts_length w.text 0 p.used before mid w.wrote (omega arith) in

@@ -105,12 +105,12 @@ going_next l chunk from start before k used out p u next k' after g h r b w c q 
 
 -- ---- the loop
 
-pub seeking_starts : {Y : Type 0} (y : ℕ → Y) (line : Line) (k : Taken) (chunk : List ℕ) (from start : ℕ) (out : List ℕ) → length (map y line.bytes) ≡ carried → start + answer_bytes * length (ended [] (drop from chunk)) ≤ length out → ((l : List ℕ) → Carries (cut line) l → Took l chunk from k) → Seeking k chunk from start out k start out
-seeking_starts y line k chunk from start out e h q =
+pub seeking_starts : (line : Line) (k : Taken) (chunk : List ℕ) (from start : ℕ) (out : List ℕ) → length line.bytes ≡ carried → start + answer_bytes * length (ended [] (drop from chunk)) ≤ length out → ((l : List ℕ) → Carries (cut line) l → Took l chunk from k) → Seeking k chunk from start out k start out
+seeking_starts line k chunk from start out e h q =
     let own : List ℕ = take (cut line).len line.bytes in
     record {
       first = own;
-      took = q own (carries_own y line e);
+      took = q own (carries_own line e);
       going =
           λ l w.
           let n = ended_count l [] (drop from chunk) in

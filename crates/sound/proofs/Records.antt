@@ -26,12 +26,12 @@ empty_row =
     (fun_ext (λ l. ap (λ (p : Pid). p.0) (get_d_replicate no_pid levels l)))
 
 -- past the last slot the code takes an empty record, o
-module _ {Y : Type 0} (t : Table) (k : ℕ) where
-  pub namespace_past : (g : Namespace → Y) (o x : Namespace) → length (map g t.namespaces) ≡ namespace_slots → namespace_slots ≤ k → o ≡ empty_namespace → x ≡ o → x ≡ namespace t k
-  namespace_past g o x e h a b = b ∙ a ∙ field_past g t.namespaces no_namespace namespace_slots k e h
+module _ (t : Table) (k : ℕ) where
+  pub namespace_past : (o x : Namespace) → length t.namespaces ≡ namespace_slots → namespace_slots ≤ k → o ≡ empty_namespace → x ≡ o → x ≡ namespace t k
+  namespace_past o x e h a b = b ∙ a ∙ field_past t.namespaces no_namespace namespace_slots k e h
 
-  pub process_past : (g : Process → Y) (o x : Process) → length (map g t.processes) ≡ process_slots → process_slots ≤ k → o ≡ empty_process → x ≡ o → process_row x ≡ process_row (process t k)
-  process_past g o x e h a b = ap process_row (b ∙ a) ∙ empty_row ∙ ap process_row (field_past g t.processes no_process process_slots k e h)
+  pub process_past : (o x : Process) → length t.processes ≡ process_slots → process_slots ≤ k → o ≡ empty_process → x ≡ o → process_row x ≡ process_row (process t k)
+  process_past o x e h a b = ap process_row (b ∙ a) ∙ empty_row ∙ ap process_row (field_past t.processes no_process process_slots k e h)
 
 module _ (t : Table) where
   pub process_reads :

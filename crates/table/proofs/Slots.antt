@@ -1,5 +1,4 @@
--- Reading and putting past an array's end, and what a process read at a slot says of the view. In a function's facts
--- the length of an array that is a field stands as that of a `map`; of one that is a parameter it stands plain.
+-- Reading and putting past an array's end, and what a process read at a slot says of the view.
 use Prim.Native.Nat.{ℕ, zero, suc, ◌<◌, ◌≤◌}
 use mathlib.Core.List.{List, [], ◌∷◌, map}
 use mathlib.Core.Path.{◌≡◌, refl, sym, ap, ◌∙◌}
@@ -16,18 +15,14 @@ use Rattle.table.specs.declared.Table.{Table}
 
 -- ---- past the end
 
--- an array in a struct has its length as the code gives it
-pub length_mapped : {X Y : Type 0} (g : X → Y) (l : List X) (n : ℕ) → length (map g l) ≡ n → length l ≡ n
-length_mapped g l n e = sym (length-map l g) ∙ e
-
 pub array_past : {X : Type 0} (l : List X) (d : X) (n i : ℕ) → length l ≡ n → n ≤ i → d ≡ get_or l i d
 array_past l d n i e h = sym (get_or-eq_default l d (omega arith))
 
-pub field_past : {X Y : Type 0} (g : X → Y) (l : List X) (d : X) (n i : ℕ) → length (map g l) ≡ n → n ≤ i → d ≡ get_or l i d
-field_past g l d n i e h = array_past l d n i (length_mapped g l n e) h
+pub field_past : {X : Type 0} (l : List X) (d : X) (n i : ℕ) → length l ≡ n → n ≤ i → d ≡ get_or l i d
+field_past l d n i e h = array_past l d n i e h
 
-pub pid_past : {Y : Type 0} (g : Pid → Y) (l : List Pid) (n i : ℕ) → length (map g l) ≡ n → n ≤ i → 0 ≡ (get_or l i no_pid).0
-pid_past g l n i e h = ap (λ k. k.0) (field_past g l no_pid n i e h)
+pub pid_past : (l : List Pid) (n i : ℕ) → length l ≡ n → n ≤ i → 0 ≡ (get_or l i no_pid).0
+pid_past l n i e h = ap (λ k. k.0) (field_past l no_pid n i e h)
 
 -- within the array it does not matter what lies past its end
 within : {X : Type 0} (l : List X) (d e : X) (i : ℕ) → i < length l → get_or l i d ≡ get_or l i e
@@ -35,19 +30,19 @@ within [] d e i h = absurd (omega arith)
 within (x ∷ l) d e zero h = refl
 within (x ∷ l) d e (suc i) h = within l d e i (le_of_suc-le-suc h)
 
-pub field_within : {X Y : Type 0} (g : X → Y) (l : List X) (d e : X) (n i : ℕ) → length (map g l) ≡ n → i < n → get_or l i d ≡ get_or l i e
-field_within g l d e n i q h = within l d e i (omega (arith, length_mapped g l n q))
+pub field_within : {X : Type 0} (l : List X) (d e : X) (n i : ℕ) → length l ≡ n → i < n → get_or l i d ≡ get_or l i e
+field_within l d e n i q h = within l d e i (omega (arith, q))
 
-pub put_past : {Y : Type 0} (g : Process → Y) (t : Table) (n i : ℕ) (p : Process) → length (map g t.processes) ≡ n → n ≤ i → t ≡ put t i p
-put_past g t n i p e h =
+pub put_past : (t : Table) (n i : ℕ) (p : Process) → length t.processes ≡ n → n ≤ i → t ≡ put t i p
+put_past t n i p e h =
     ap (λ l. record { processes = l; namespaces = t.namespaces })
-    (sym (set_out t.processes i p (omega (arith, length_mapped g t.processes n e))))
+    (sym (set_out t.processes i p (omega (arith, e))))
 
-pub put_namespace_past : {Y : Type 0} (g : Namespace → Y) (t : Table) (n i : ℕ) (s : Namespace) → length (map g t.namespaces) ≡ n → n ≤ i → t ≡ put_namespace t i s
-put_namespace_past g t n i s e h =
+pub put_namespace_past : (t : Table) (n i : ℕ) (s : Namespace) → length t.namespaces ≡ n → n ≤ i → t ≡ put_namespace t i s
+put_namespace_past t n i s e h =
     ap (λ l. record { processes = t.processes; namespaces = l })
-    (sym (set_out t.namespaces i s (omega (arith, length_mapped g t.namespaces n e))))
+    (sym (set_out t.namespaces i s (omega (arith, e))))
 
 -- what `Table::process` gives below the last slot is the process of the definitions itself
-pub process_within : {Y : Type 0} (g : Process → Y) (t : Table) (n i : ℕ) (p : Process) → length (map g t.processes) ≡ n → i < n → p ≡ get_or t.processes i empty_process → p ≡ process t i
-process_within g t n i p e h q = q ∙ field_within g t.processes empty_process no_process n i e h
+pub process_within : (t : Table) (n i : ℕ) (p : Process) → length t.processes ≡ n → i < n → p ≡ get_or t.processes i empty_process → p ≡ process t i
+process_within t n i p e h q = q ∙ field_within t.processes empty_process no_process n i e h

@@ -13,7 +13,6 @@ use Rattle.rules.specs.Read.{view, taken}
 use Rattle.rules.specs.Sound.{sound}
 use Rattle.rules.specs.Step.{runs, step}
 use Rattle.table.proofs.Chains.{and_false, pick_yes, pick_no}
-use Rattle.table.proofs.Slots.{length_mapped}
 use Rattle.table.specs.Limits.{process_slots, no_slot}
 use Rattle.table.specs.Slots.{no_process, pid_at}
 use Rattle.table.specs.Tests.{◌and◌, if◌then◌else◌}
@@ -42,11 +41,11 @@ slot_past : (c : ℕ) → process_slots ≤ c → slot_of c ≡ no_slot
 unfolding slot_of
 slot_past c h = pick_no (ltb c process_slots) c no_slot (le-ltb c process_slots h)
 
-pub by_slot : {Y : Type 0} (g : Process → Y) (t : Table) (c s : ℕ) (call : Call) → length (map g t.processes) ≡ process_slots → s ≡ slot_of c → step t s call ≡ step t c call
-by_slot g t c s call e p = ap (λ k. step t k call) p ∙ at (dec_lt c process_slots)
+pub by_slot : (t : Table) (c s : ℕ) (call : Call) → length t.processes ≡ process_slots → s ≡ slot_of c → step t s call ≡ step t c call
+by_slot t c s call e p = ap (λ k. step t k call) p ∙ at (dec_lt c process_slots)
   where
     long : length t.processes ≡ process_slots
-    long = length_mapped g t.processes process_slots e
+    long = e
 
     at : Dec (c < process_slots) → step t (slot_of c) call ≡ step t c call
     at (yes b) = ap (λ k. step t k call) (slot_within c b)

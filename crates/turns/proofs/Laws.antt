@@ -37,7 +37,7 @@ pub turn_nothing : (m : Mirror) (c : ℕ) (r : Request) (a : Asked) (d : Told) �
 unfolding turn turned
 turn_nothing m c r a d p q e = rw e (ap (turned m c) (sym q ∙ p))
 
-pub turn_makes : {Y : Type 0} (g : Process → Y) (m : Mirror) (c : ℕ) (r : Request) (a : Asked) (k : Call) (t : Table) (s : ProcSlot) (o : Outcome) (x : Done) → a ≡ asked_by r → a ≡ Makes k → t ≡ table_from m → length (map g t.processes) ≡ process_slots → s.0 ≡ slot_of c → o ≡ step t s.0 k → x ≡ given_back m o → x ≡ turn m c r
+pub turn_makes : (m : Mirror) (c : ℕ) (r : Request) (a : Asked) (k : Call) (t : Table) (s : ProcSlot) (o : Outcome) (x : Done) → a ≡ asked_by r → a ≡ Makes k → t ≡ table_from m → length t.processes ≡ process_slots → s.0 ≡ slot_of c → o ≡ step t s.0 k → x ≡ given_back m o → x ≡ turn m c r
 unfolding turn turned
-turn_makes g m c r a k t s o x p q e l n f h =
-    h ∙ ap (given_back m) (f ∙ by_slot g t c s.0 k l n ∙ ap (λ (u : Table). step u c k) e) ∙ ap (turned m c) (sym q ∙ p)
+turn_makes m c r a k t s o x p q e l n f h =
+    h ∙ ap (given_back m) (f ∙ by_slot t c s.0 k l n ∙ ap (λ (u : Table). step u c k) e) ∙ ap (turned m c) (sym q ∙ p)

@@ -1,0 +1,14 @@
+-- `free_unheld` passes over the namespaces, by the laws of a loop that changes each element.
+use Prim.Native.Nat.{◌-◌}
+use Rattle.table.proofs.MapLoops.{map_loops}
+use Rattle.ending.proofs.Freeing.{freed_all}
+use Rattle.ending.proofs.free_unheld.Goals as goal
+
+pub loop-i-init : goal.loop-i-init
+loop-i-init c = search map_loops
+
+pub loop-i-preserved : goal.loop-i-preserved
+loop-i-preserved c = search map_loops
+
+pub returns : goal.returns
+returns c = search freed_all

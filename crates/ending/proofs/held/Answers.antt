@@ -1,0 +1,15 @@
+-- `held` marks what each process holds in turn, by the laws of a loop of turns.
+use Prim.Native.Nat.{◌-◌}
+use Rattle.table.proofs.FoldLoops.{fold_loops}
+use Rattle.ending.specs.Holding.{marks_of}
+use Rattle.ending.proofs.held.Goals as goal
+
+pub loop-i-init : goal.loop-i-init
+loop-i-init c = search fold_loops
+
+pub loop-i-preserved : goal.loop-i-preserved
+loop-i-preserved c = search fold_loops
+
+pub returns : goal.returns
+unfolding marks_of
+returns c = search fold_loops

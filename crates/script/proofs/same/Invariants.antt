@@ -1,0 +1,11 @@
+-- `same` compares two texts byte by byte.
+use Prim.Native.Nat.{◌-◌}
+use lib.ListN.{length}
+use Rattle.script.proofs.Scans.{Alike}
+use Rattle.script.proofs.same.Given as goal
+
+abbrev pub invariant-loop-i : goal.invariant-loop-i
+invariant-loop-i l = Alike l.a l.b l.i
+
+abbrev pub decreases-loop-i : goal.decreases-loop-i
+decreases-loop-i l = length l.a - l.i

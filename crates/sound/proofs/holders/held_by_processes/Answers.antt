@@ -1,0 +1,24 @@
+-- The marks of each process, after the root.
+use Prim.Native.Nat.{◌-◌}
+use mathlib.Core.Bool.{true, false}
+use mathlib.Core.Path.{◌≡◌, sym, subst}
+use lib.ListN.{set, replicate}
+use Rattle.table.proofs.FoldLoops.{turns, fold_loops}
+use Rattle.table.proofs.MarkLoops.{Marks}
+use Rattle.table.specs.Limits.{process_slots, namespace_slots}
+use Rattle.rules.specs.Read.{view, taken}
+use Rattle.sound.proofs.Marks.{process_turn, processes_marked}
+use Rattle.sound.specs.Quick.{held_by_processes}
+use Rattle.sound.proofs.holders.held_by_processes.Goals as goal
+
+pub loop-i-init : goal.loop-i-init
+loop-i-init c = search fold_loops
+
+pub loop-i-preserved : goal.loop-i-preserved
+unfolding taken
+loop-i-preserved c = search fold_loops
+
+pub returns : goal.returns
+returns c =
+    let e : c.loop-i.marks ≡ turns process_slots (process_turn (view c.args.t)) (set (replicate namespace_slots false) 0 true) = search fold_loops in
+    subst (λ m. Marks namespace_slots m (held_by_processes (view c.args.t))) (sym e) (processes_marked (view c.args.t))
