@@ -387,6 +387,7 @@ fn push_end(text: Text, how: End) -> Text
 }
 
 // How far below 0 the number of a refusal is.
+#[tactic(auto, unfolding(crate::specs::Texts::number, rules::specs::Answers::refusal_number))]
 fn refusal_size(e: Refusal) -> u32
     ensures { number_text (refusal_number e) ≡ minus_sign ∷ decimal result }
 {

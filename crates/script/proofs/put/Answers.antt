@@ -23,7 +23,7 @@ pub loop-i-smaller : goal.loop-i-smaller
 loop-i-smaller c = omega arith
 
 pub loop-i-preserved : goal.loop-i-preserved
-loop-i-preserved c = search copy_loop
+loop-i-preserved c = search (copy_loop, c.well_formed)
 
 pub returns : goal.returns
 returns c = search copy_loop
