@@ -102,12 +102,9 @@ finish_lives v from i s e =
 put_read : (t : Table) (i : ℕ) (p : Process) (h : Process → Process) → length t.processes ≡ process_slots → p ≡ get_or t.processes i empty_process → put t i (h p) ≡ put t i (h (process t i))
 put_read t i p h e q = go (dec_lt i process_slots)
   where
-    long : length (map (λ (x : Process). x) t.processes) ≡ process_slots
-    long = length-map t.processes (λ (x : Process). x) ∙ e
-
     go : Dec (i < process_slots) → put t i (h p) ≡ put t i (h (process t i))
-    go (yes l) = ap (λ x. put t i (h x)) (process_within t process_slots i p long l q)
-    go (no o) = sym (put_past t process_slots i (h p) long (omega arith)) ∙ put_past t process_slots i (h (process t i)) long (omega arith)
+    go (yes l) = ap (λ x. put t i (h x)) (process_within t process_slots i p e l q)
+    go (no o) = sym (put_past t process_slots i (h p) e (omega arith)) ∙ put_past t process_slots i (h (process t i)) e (omega arith)
 
 -- ---- what each action leaves
 
