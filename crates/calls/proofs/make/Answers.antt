@@ -2,6 +2,7 @@
 use Rattle.table.specs.declared.Call.TheVariants.{Clone, CloneNew, Unshare, Wait, Getpid, Getppid, Poll}
 use Rattle.rules.specs.Step.{make}
 use Rattle.calls.proofs.Steps.{made, made_setns, made_kill, made_exit, made_handle}
+use borrow.Author.Rules.{rules}
 use Rattle.calls.proofs.make.Goals as goal
 
 pub returns-in-Clone : goal.returns-in-Clone
@@ -17,13 +18,13 @@ unfolding make
 returns-in-Unshare c = λ s q. made c.args.t c.args.caller.0 c.args.call _ Unshare c.in-Unshare.is c.unshare.ensures
 
 pub returns-in-Setns : goal.returns-in-Setns
-returns-in-Setns c = λ s q. made_setns c.args.t c.args.caller.0 c.args.call _ _ (record { sfits = c.known_told-1.given.0.1 }) c.in-Setns.is c.setns.ensures
+returns-in-Setns c = λ s q. made_setns c.args.t c.args.caller.0 c.args.call _ _ (search rules) c.in-Setns.is c.setns.ensures
 
 pub returns-in-Kill : goal.returns-in-Kill
-returns-in-Kill c = λ s q. made_kill c.args.t c.args.caller.0 c.args.call _ _ (record { sfits = c.known_told-in-Kill-1.given.1.0.1 }) _ (record { sfits = c.known_told-in-Kill-1.given.0.1 }) c.in-Kill.is (c.kill.ensures.as-defined s)
+returns-in-Kill c = λ s q. made_kill c.args.t c.args.caller.0 c.args.call _ _ (search rules) _ (search rules) c.in-Kill.is (c.kill.ensures.as_defined s)
 
 pub returns-in-Exit : goal.returns-in-Exit
-returns-in-Exit c = λ s q. made_exit c.args.t c.args.caller.0 c.args.call _ _ (record { sfits = c.known_told-in-Exit-1.given.0.1 }) c.in-Exit.is (c.exit.ensures.as-defined s q)
+returns-in-Exit c = λ s q. made_exit c.args.t c.args.caller.0 c.args.call _ _ (search rules) c.in-Exit.is (c.exit.ensures.as_defined s q)
 
 pub returns-in-Wait : goal.returns-in-Wait
 unfolding make
@@ -38,7 +39,7 @@ unfolding make
 returns-in-Getppid c = λ s q. made c.args.t c.args.caller.0 c.args.call _ Getppid c.in-Getppid.is c.getppid.ensures
 
 pub returns-in-Handle : goal.returns-in-Handle
-returns-in-Handle c = λ s q. made_handle c.args.t c.args.caller.0 c.args.call _ _ (record { sfits = c.known_told-in-Handle-1.given.0.1 }) _ c.in-Handle.is c.handle.ensures
+returns-in-Handle c = λ s q. made_handle c.args.t c.args.caller.0 c.args.call _ _ (search rules) _ c.in-Handle.is c.handle.ensures
 
 pub returns-in-Poll : goal.returns-in-Poll
 unfolding make
