@@ -2,6 +2,5 @@
 pub mod Writing
 pub mod Seeking
 pub mod Calling
-pub mod Lending
 pub mod Using
 pub mod Whole

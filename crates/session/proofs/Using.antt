@@ -36,7 +36,7 @@ own s = take (cut s.line).len s.line.bytes
 own_carried : (s : Session) → Good s → Carries (cut s.line) (own s)
 own_carried s g =
     let is = (LL.owed S.the_type S'.the_laws s _ g).1.0 in
-    carries_own _ s.line (LL.owed L.the_type L'.the_laws s.line _ is).0.1.0.1
+    carries_own s.line (LL.owed L.the_type L'.the_laws s.line _ is).0.1.0.1
 
 wrote_within : (text before after : List ℕ) (used : ℕ) → Wrote text before after used → used ≤ length after
 wrote_within text before after used w =

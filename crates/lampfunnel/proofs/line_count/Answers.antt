@@ -1,0 +1,17 @@
+-- `line_count` counts the lines that begin.
+use Prim.Native.Nat.{◌-◌}
+use Rattle.lampfunnel.proofs.Counting.{counted_starts, counted_on, counted_new, counted_all}
+use Rattle.lampfunnel.proofs.line_count.Goals as goal
+use Rattle.lampfunnel.proofs.line_count.Goals.{else-not-inside, then-not-inside}
+
+pub loop-i-init : goal.loop-i-init
+loop-i-init c = counted_starts _
+
+pub loop-i-preserved : goal.loop-i-preserved
+loop-i-preserved c =
+    let at-loop = c.loop-i in
+    let within = c.loop-i-test.true in
+    elim c.if-not-inside.branch [ then-not-inside w ↦ counted_new _ _ _ _ _ at-loop.invariant within w.0.taken w.1 | else-not-inside w ↦ counted_on _ _ _ _ _ at-loop.invariant within w.0.left w.1 ]
+
+pub returns : goal.returns
+returns c = search (counted_all)
