@@ -1,6 +1,7 @@
 -- `line_count` counts the lines that begin.
 use Prim.Native.Nat.{◌-◌}
 use Rattle.lampfunnel.proofs.Counting.{counted_starts, counted_on, counted_new, counted_all}
+use borrow.Author.Rules.{rules}
 use Rattle.lampfunnel.proofs.line_count.Goals as goal
 use Rattle.lampfunnel.proofs.line_count.Goals.{else-not-inside, then-not-inside}
 
@@ -9,9 +10,9 @@ loop-i-init c = counted_starts _
 
 pub loop-i-preserved : goal.loop-i-preserved
 loop-i-preserved c =
-    let at-loop = c.loop-i in
+    let inv = c.loop-i.invariant in
     let within = c.loop-i-test.true in
-    elim c.if-not-inside.branch [ then-not-inside w ↦ counted_new _ _ _ _ _ at-loop.invariant within w.0.taken w.1 | else-not-inside w ↦ counted_on _ _ _ _ _ at-loop.invariant within w.0.left w.1 ]
+    elim c.if-not-inside.branch [ then-not-inside w ↦ counted_new _ _ _ _ _ inv within (search rules) w.count-is | else-not-inside w ↦ counted_on _ _ _ _ _ inv within (search rules) w.count-is ]
 
 pub returns : goal.returns
 returns c = search (counted_all)
