@@ -1,4 +1,4 @@
--- The walk from a namespace up by parents, one level at a time: at each it takes a number. `numbers_on` and `joins-on`
+-- The walk from a namespace up by parents, one level at a time: at each it takes a number. `numbers_on` and `joins_on`
 -- are what the walk makes of the child's numbers and of the namespaces, with k levels left from `at` on.
 use Prim.Native.Nat.{ℕ, zero, suc, ◌<◌, ◌≤◌, ◌+◌, ◌-◌}
 use mathlib.Core.Bool.{Bool, true, false}

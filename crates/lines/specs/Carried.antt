@@ -15,7 +15,7 @@ pub record Carries (t : Line) (l : List ℕ) : Type 0 where
   pub holds : take t.len t.bytes ≡ take carried l
 
 -- A line as it is taken in: a length above `carried` counts as `carried`. So cut, every line carries something
--- (`Carries-own` of proofs/Carrying.antt).
+-- (`carries_own` of proofs/Carrying.antt).
 abbrev pub cut : Line → Line
 cut t = record { bytes = t.bytes; len = min carried t.len }
 

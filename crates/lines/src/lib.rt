@@ -85,7 +85,7 @@ pub fn take_line(line: Line, chunk: &[u8], from: usize) -> Taken
     }
 }
 
-// Reads a line that is carried: as if it stood there whole, as `carried-read` of proofs/Carrying.antt shows.
+// Reads a line that is carried: as if it stood there whole, as `carried_read` of proofs/Carrying.antt shows.
 pub fn read(line: Line) -> Parsed
     ensures { result ≡ read_line (take line.len line.bytes) }
 {

@@ -1,5 +1,5 @@
--- For a loop that fills an array with what f makes of each element of another. `search fill-loops` closes its first two
--- needs, and `fill-ends` the last.
+-- For a loop that fills an array with what f makes of each element of another. `search fill_loops` closes its first two
+-- needs, and `fill_ends` the last.
 use Prim.Native.Nat.{ℕ, ◌<◌, ◌≤◌, ◌+◌}
 use mathlib.Core.List.{List, map}
 use mathlib.Core.Path.{◌≡◌, sym, ◌∙◌}

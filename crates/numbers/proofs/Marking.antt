@@ -1,6 +1,6 @@
 -- For the loop over the rows of the columns that marks which of the m numbers above `last` are taken: the invariant is
 -- `Marking m x s last ms i`. x is the number of a row, and s says whether it is seen. `search markings` closes the
--- loop's needs; `marks-all` to `marks-give` are for what is given after it.
+-- loop's needs; `marks_all` to `marks_give` are for what is given after it.
 use Prim.Native.Nat.{ℕ, zero, suc, ◌<◌, ◌≤◌, ◌+◌}
 use mathlib.Core.Bool.{Bool, true, false, not}
 use mathlib.Core.List.{List}

@@ -141,7 +141,7 @@ unfoldable pub children_namespaces : View → Bool
 children_namespaces v =
     each_process v (λ i. living v i implies namespace_taken v (children v i) and below v (children v i) (v.own i))
 
--- Handled signals are within 1 to 31 without 9 and 19; pending ones are among the handled. (`traits-ok` of `table`'s
+-- Handled signals are within 1 to 31 without 9 and 19; pending ones are among the handled. (`traits_ok` of `table`'s
 -- specs/Traits.antt)
 unfoldable pub process_traits : View → Bool
 process_traits v = each_process v (λ i. traits_ok (v.traits i))

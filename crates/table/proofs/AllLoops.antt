@@ -1,5 +1,5 @@
 -- For a loop that tests every i below n and leaves with `false` at the first that fails. The invariant is
--- `Passed n f i`: i is at most n, and f holds of each number below i. `search all-loops` closes the loop's four needs.
+-- `Passed n f i`: i is at most n, and f holds of each number below i. `search all_loops` closes the loop's four needs.
 use Prim.Native.Nat.{ℕ, zero, suc, ◌<◌, ◌≤◌, ◌+◌}
 use mathlib.Core.Bool.{Bool, true, false, not, true≢false}
 use mathlib.Core.Logic.{⊎_elim}

@@ -1,5 +1,5 @@
 -- For a loop that looks for an i below n at which f holds, and leaves at the first. The invariant is `Unmet n f i`: i
--- is at most n, and f holds of no number below i. `search any-loops` closes the loop's four needs.
+-- is at most n, and f holds of no number below i. `search any_loops` closes the loop's four needs.
 use Prim.Native.Nat.{ℕ, zero, suc, ◌<◌, ◌≤◌, ◌+◌}
 use mathlib.Core.Bool.{Bool, true, false}
 use mathlib.Core.Logic.{⊎_elim}

@@ -1,5 +1,5 @@
 -- For a loop that leaves with the first i below n at which f holds, and with n where there is none. The invariant is
--- `Ahead n f i`: i is at most n, and the lowest number is the lowest from i on. `search first-loops` closes the loop's
+-- `Ahead n f i`: i is at most n, and the lowest number is the lowest from i on. `search first_loops` closes the loop's
 -- four needs.
 use Prim.Native.Nat.{ℕ, suc, ◌<◌, ◌≤◌, ◌+◌, ◌-◌}
 use mathlib.Core.Bool.{Bool, true, false}

@@ -1,5 +1,5 @@
 -- For a loop whose turn at i makes `step i u` of the value u: the most general law of a loop over slots. The invariant
--- is `Turned n step u₀ u i`: i is at most n, and u is what the turns below i make of u₀. `search fold-loops` closes the
+-- is `Turned n step u₀ u i`: i is at most n, and u is what the turns below i make of u₀. `search fold_loops` closes the
 -- loop's three needs.
 use Prim.Native.Nat.{ℕ, zero, suc, ◌<◌, ◌≤◌, ◌+◌}
 use mathlib.Core.Bool.{Bool, true, false}

@@ -1,5 +1,5 @@
 -- For a loop that replaces each of the first n elements of an array by what f makes of its place and of it. The
--- invariant is `Mapped n f d l₀ l i`: i is at most n, and l is l₀ with its first i elements changed. `search map-loops`
+-- invariant is `Mapped n f d l₀ l i`: i is at most n, and l is l₀ with its first i elements changed. `search map_loops`
 -- closes the loop's three needs. d is what lies past the array's end.
 use Prim.Native.Nat.{ℕ, zero, suc, ◌<◌, ◌≤◌, ◌+◌}
 use mathlib.Core.List.{List}

@@ -10,7 +10,7 @@ use Rattle.table.specs.declared.Table.{Table}
 
 -- Empty slots are all zero (running, unborn). The code stores these in a slot that it frees, so the process has as many
 -- numbers, 33, as every record of a table. Past the table's last slot nothing is stored: what is read there is
--- `no-process` of Slots.antt, which has none, and reads the same.
+-- `no_process` of Slots.antt, which has none, and reads the same.
 abbrev pub empty_process : Process
 empty_process = blank_process (replicate levels no_pid)
 

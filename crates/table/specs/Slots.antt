@@ -19,12 +19,12 @@ no_pid = to_pid 0
 
 -- Nothing is stored there. Rattle's logic reads an array past its end as zeros, and a list within as empty, so this
 -- record has no numbers at all: with the same default here, what the code reads is what the definitions read. What the
--- code stores in a freed slot is another record, `empty-process` of Fresh.antt, with a number 0 for each level. The two
+-- code stores in a freed slot is another record, `empty_process` of Fresh.antt, with a number 0 for each level. The two
 -- read alike, since each number of either reads as 0 (`rules`' proofs/Laws/ReadAt.antt).
 abbrev pub no_process : Process
 no_process = blank_process []
 
--- (A namespace has no list, so this one and `empty-namespace` of Fresh.antt are the same.)
+-- (A namespace has no list, so this one and `empty_namespace` of Fresh.antt are the same.)
 abbrev pub no_namespace : Namespace
 no_namespace = blank_namespace
 
