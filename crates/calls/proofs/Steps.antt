@@ -24,7 +24,7 @@ use Rattle.table.specs.declared.Process.{Process}
 use Rattle.table.specs.declared.Refusal.TheVariants.{Unsound, NotRunning}
 use Rattle.table.specs.declared.Table.{Table}
 
--- b is what `is_sound` gives
+-- b tells whether the table is sound
 module _ (t : Table) (c : ℕ) (call : Call) (r : Outcome) (b : Bool) (e : b ≡ sound t) where
   pub step_unsound : not b ≡ true → r ≡ refused t Unsound → r ≡ step t c call
   unfolding step

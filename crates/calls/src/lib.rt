@@ -2,10 +2,10 @@
 #![tactic(auto)]
 
 ghost use Rattle.std.proofs.Math.Bool.{So};
-ghost use Rattle.std.specs.Prelude.{◌≡◌};
+ghost use Rattle.std.specs.Prelude.{true, ◌≡◌};
 ghost use Rattle.rules.specs.Read.{view};
 ghost use Rattle.rules.specs.Sound.{sound};
-ghost use Rattle.rules.specs.Step.{runs, make as make_of, step as step_of_lem};
+ghost use Rattle.rules.specs.Step.{runs, make as make_of, step as step_of};
 
 use callers::{getpid, getppid};
 use clones::{clone, clone_new};
@@ -36,11 +36,13 @@ fn make(t: Table, caller: ProcSlot, call: Call) -> Outcome
     }
 }
 
-// One call on any table, by any caller.
-pub fn step(t: Table, caller: ProcSlot, call: Call) -> Outcome
-    ensures { result ≡ step_of_lem t caller.0 call }
+// One call on any table, by any caller. A table that is known to be sound is not checked. (Of one that is called so and
+// is not, nothing is said.)
+pub fn step_known(t: Table, known: bool, caller: ProcSlot, call: Call) -> Outcome
+    ensures { (known ≡ true → So (sound t)) → result ≡ step_of t caller.0 call }
 {
-    if !is_sound(t) {
+    let sound = if known { true } else { is_sound(t) };
+    if !sound {
         return refused(t, Refusal::Unsound);
     }
     let p = t.process(caller);
@@ -53,4 +55,11 @@ pub fn step(t: Table, caller: ProcSlot, call: Call) -> Outcome
         return refused(t, Refusal::NotRunning);
     }
     make(t, caller, call)
+}
+
+// The same, with nothing known of the table: it is checked.
+pub fn step(t: Table, caller: ProcSlot, call: Call) -> Outcome
+    ensures { result ≡ step_of t caller.0 call }
+{
+    step_known(t, false, caller, call)
 }

@@ -2,7 +2,7 @@
 -- `Delivering t from s len l u i`: what is left to do to u, from i on, makes of it what all of them make of t. `Going`
 -- says so of the definitions, which need the facts of a sound table at each delivery.
 use Prim.Native.Nat.{ℕ, suc, ◌<◌, ◌≤◌, ◌+◌, min}
-use mathlib.Core.List.{List, [], ◌∷◌, map}
+use mathlib.Core.List.{List, [], ◌∷◌}
 use mathlib.Core.Path.{◌≡◌, refl, sym, ap, subst, ◌∙◌}
 use lib.ListN.{length, get_or, take}
 use native.Mathlib.Numerals.{add-one}

@@ -22,8 +22,8 @@ use Rattle.rules.proofs.Laws.Tree.{below_refl}
 use Rattle.table.proofs.MapLoops.{changed_length, changed_at}
 use Rattle.table.specs.Limits.{deepest, namespace_slots, process_slots}
 use Rattle.table.specs.Slots.{process, namespace, pid_at, no_process, no_namespace, is_ended, is_unborn, is_alive, is_dead, init_of, put}
-use Rattle.rules.specs.Read.{View, view, alive, dead, unborn, init, taken, namespace_taken}
-use Rattle.table.specs.Tests.{◌and◌, ◌or◌, if◌then◌else◌}
+use Rattle.rules.specs.Read.{View, view, alive, unborn, init, taken, namespace_taken}
+use Rattle.table.specs.Tests.{◌and◌, if◌then◌else◌}
 use Rattle.table.specs.declared.Life.{Life}
 use Rattle.table.specs.declared.Life.TheVariants.{Unborn, Alive, Dead}
 use Rattle.table.specs.declared.Namespace.{Namespace}

@@ -2,7 +2,7 @@
 -- is the init of a namespace right below takes that one down by the same rule, the levels left falling; then those
 -- whose parent is inside are removed. proofs/Fallen.antt has the law that this is the change that the definitions make
 -- at one go.
-use Rattle.std.specs.Prelude.{ℕ, zero, suc, Bool, true, false, not, List, ◌≡◌, eqb, get_or}
+use Rattle.std.specs.Prelude.{ℕ, zero, suc, Bool, not, List, ◌≡◌, eqb, get_or}
 use Rattle.std.proofs.Math.Bool.{So}
 use Rattle.table.proofs.FoldLoops.{turns}
 use Rattle.rules.proofs.Laws.Facts.{Facts}

@@ -1,11 +1,11 @@
 -- The line that is carried, byte by byte and through a chunk.
 use Prim.Native.Nat.{ℕ, ◌<◌, ◌≤◌, ◌+◌, min, max}
 use mathlib.Core.Bool.{true, false, true≢false, false≢true}
-use mathlib.Core.List.{List, [], ◌∷◌, ◌++◌, map}
+use mathlib.Core.List.{List, [], ◌∷◌, ◌++◌}
 use mathlib.Core.Path.{◌≡◌, refl, sym, ap, subst, ◌∙◌}
 use borrow.Author.Tests.{eq-eqb, ne_eqb, ltb-true, ltb-false}
 use lib.Dec.{ltb}
-use lib.ListN.{length, get_or, take, drop, set, length-append, length-map, length-take, drop_of_length-le}
+use lib.ListN.{length, get_or, take, drop, set, length-append, length-take, drop_of_length-le}
 use lib.Seq.{take_all, take-suc-set, take-append-le, length-take-le, drop-cons}
 use native.Mathlib.Numerals.{add-one}
 use native.Mathlib.Omega.{arith}

@@ -1,7 +1,7 @@
 -- Bytes that a writer makes and bytes that none makes, one after the other, computed.
 use Prim.Native.Nat.{ℕ}
-use mathlib.Core.Bool.{Bool, true, false}
-use mathlib.Core.List.{List, [], ◌∷◌}
+use mathlib.Core.Bool.{true, false}
+use mathlib.Core.List.{[], ◌∷◌}
 use mathlib.Core.Path.{◌≡◌, refl}
 use Rattle.table.specs.Slots.{no_pid}
 use Rattle.table.specs.Tests.{◌and◌}

@@ -1,6 +1,6 @@
 -- Reading what was written gives the table back; writing what was read gives a mirror back that a writer made.
-use Prim.Native.Nat.{ℕ, zero, suc, ◌<◌}
-use mathlib.Core.Bool.{Bool, true, false, true≢false, false≢true}
+use Prim.Native.Nat.{ℕ, zero, suc}
+use mathlib.Core.Bool.{Bool, true, false, false≢true}
 use mathlib.Core.List.{List, [], ◌∷◌, map}
 use mathlib.Core.Path.{◌≡◌, refl, sym, ap, ap₂, subst, ◌∙◌}
 use lib.Dec.{eqb}
@@ -19,7 +19,6 @@ use Rattle.table.specs.declared.Namespace.{Namespace}
 use Rattle.table.specs.declared.Process.{Process}
 use Rattle.table.specs.declared.State.{State}
 use Rattle.table.specs.declared.State.TheVariants.{Running, Stopped, Ended}
-use Rattle.table.specs.declared.Table.{Table}
 use Rattle.mirror.specs.Claims.{MirrorsAreRead, MirrorsAreWritten, WrittenIsKept, OthersReadAsEmpty}
 use Rattle.mirror.specs.Mirror.{state_kind, state_end, life_kind, life_init, process_row, namespace_row, mirror_of, state_from, life_from, process_from, namespace_from, is_process_row, is_namespace_row, no_process_row, no_namespace_row, is_written, empty_table, table_from}
 use Rattle.mirror.specs.declared.Mirror.{Mirror}

@@ -1,6 +1,6 @@
 -- A table without enums, as a host holds it: the mirror of a table. A state is a kind and a number beside it, and so is
 -- the condition of a namespace.
-use Rattle.std.specs.Prelude.{ℕ, Bool, true, false, List, [], map, eqb, length, get_or, replicate}
+use Rattle.std.specs.Prelude.{ℕ, Bool, [], map, eqb, length, get_or, replicate}
 use Rattle.table.specs.Fresh.{empty_process, empty_namespace}
 use Rattle.table.specs.Limits.{process_slots, namespace_slots}
 use Rattle.table.specs.Slots.{no_pid}

@@ -5,9 +5,9 @@ use native.Mathlib.Omega.{arith}
 use mathlib.Core.Bool.{Bool, true, false, not}
 use mathlib.Core.Path.{◌≡◌, sym, ◌∙◌}
 use borrow.Author.Tests.{eq-eqb, ne_eqb, lt-ltb, le-ltb, not-true, not-false}
-use lib.Dec.{eqb, ltb}
+use lib.Dec.{eqb}
 use Rattle.table.proofs.Chains.{by_bool, pick_yes, pick_no, and_true, and_false, and_false_later}
-use Rattle.table.specs.Tests.{◌and◌, if◌then◌else◌}
+use Rattle.table.specs.Tests.{◌and◌}
 use Rattle.numbers.specs.Marks.{place_from}
 
 module _ (m last x : ℕ) (s : Bool) where

@@ -2,7 +2,7 @@
 -- of each kind. By computation.
 use Prim.Native.Nat.{ℕ}
 use mathlib.Core.Bool.{true, false}
-use mathlib.Core.List.{List, [], ◌∷◌, map}
+use mathlib.Core.List.{[], ◌∷◌, map}
 use mathlib.Core.Path.{◌≡◌, refl}
 use lib.IntN.{pos}
 use Rattle.rules.specs.Answers.{minus, number_of, refusal_number}
@@ -13,7 +13,6 @@ use Rattle.table.specs.declared.End.TheVariants.{Exited, Signaled}
 use Rattle.table.specs.declared.Refusal.TheVariants.{Esrch}
 use Rattle.table.specs.declared.Reply.{Reply}
 use Rattle.requests.specs.Requests.{plain_call, asked_by, told_of}
-use Rattle.requests.specs.declared.Asked.{Asked}
 use Rattle.requests.specs.declared.Asked.TheVariants.{Nothing, Makes}
 use Rattle.requests.specs.declared.Request.{Request}
 use Rattle.requests.specs.declared.Told.{Told}

@@ -1,8 +1,7 @@
 -- Signed numbers on their way in and out. What the code holds is `to_z w (of_z w z)`, which is z where z fits.
-use Prim.Native.Nat.{ℕ, ◌<◌}
-use mathlib.Core.Bool.{Bool, true, false}
-use mathlib.Core.Path.{◌≡◌, refl, sym, ap, ap₂, subst, ◌∙◌}
-use lib.Dec.{eqb}
+use Prim.Native.Nat.{ℕ}
+use mathlib.Core.Bool.{true}
+use mathlib.Core.Path.{◌≡◌, refl, sym, ap, ap₂, ◌∙◌}
 use lib.IntN.{ℤ, pos}
 use mir.Syntax.{w16, w32}
 use mir.Val.{Fits, SFits, to_z, of_z}
@@ -20,7 +19,7 @@ use Rattle.table.specs.declared.Reply.{Reply}
 use Rattle.requests.specs.Requests.{end_kind, end_value, told_of}
 use Rattle.requests.specs.declared.Told.{Told}
 use Rattle.requests.specs.declared.Asked.{Asked}
-use Rattle.requests.specs.declared.Asked.TheVariants.{Nothing, Makes}
+use Rattle.requests.specs.declared.Asked.TheVariants.{Makes}
 
 -- ---- arguments
 

@@ -11,7 +11,7 @@ use Rattle.rules.proofs.Keeps.End.{end_view, end_sane}
 use Rattle.rules.proofs.Keeps.Freed.{freed_view}
 use Rattle.rules.proofs.Keeps.InitEnds.{gone, subtree_gone}
 use Rattle.rules.proofs.Laws.Below.{shallow_below, up_level, below_trans}
-use Rattle.rules.proofs.Laws.Facts.{Facts, facts, Sane, sane, seen_below, lives_taken}
+use Rattle.rules.proofs.Laws.Facts.{Facts, Sane, sane, seen_below, lives_taken}
 use Rattle.rules.proofs.Laws.Slots.{own_taken, init_own, living_own_alive}
 use Rattle.rules.proofs.Laws.Steps.{remainder, runs_lives}
 use Rattle.rules.proofs.Laws.Tests.{no_so, isnt_so, choose, right, both, cases, any_intro, isnt}

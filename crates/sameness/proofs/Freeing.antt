@@ -16,7 +16,7 @@ use Rattle.sameness.proofs.Cases.{by_test}
 use Rattle.sameness.proofs.Remain.{Remain, lit, row_remain, seen_remain, pid_in_remain, name_remain, everyone}
 use Rattle.sameness.proofs.Still.{Still, same_still, stands_still}
 use Rattle.sameness.proofs.Same.{Same, sheets_of_same, listed_seen}
-use Rattle.sameness.specs.Events.{at, follow, gone, sheet_of}
+use Rattle.sameness.specs.Events.{at, follow, sheet_of}
 use Rattle.rules.specs.Freeing.{freed, kept}
 use Rattle.rules.specs.Read.{View, all_seen, is_init, namespace_taken, seen, taken, view, alive, init}
 use Rattle.sameness.specs.Sheet.{Sheet, row, sheet}

@@ -1,5 +1,5 @@
 -- The end of S: its processes are refused, and it stays in its slot while nobody touches it.
-use Prim.Native.Nat.{ℕ, zero, suc, ◌<◌, ◌≤◌, ◌-◌, ◌+◌}
+use Prim.Native.Nat.{ℕ, ◌<◌, ◌≤◌, ◌-◌, ◌+◌}
 use native.Mathlib.Decide.{dec_lt}
 use native.Mathlib.Omega.{arith}
 use mathlib.Core.Bool.{Bool, true, false, not, So}
@@ -12,11 +12,11 @@ use lib.Dec.{eqb}
 use lib.IntN.{ℤ, pos, negsuc}
 use lib.ListN.{get_or}
 use Rattle.rules.proofs.Keeps.Finds.{meant_seen}
-use Rattle.rules.proofs.Laws.Below.{below_level, below_trans, level_deepest, shallow_below, up_not_below}
+use Rattle.rules.proofs.Laws.Below.{below_level, below_trans, shallow_below, up_not_below}
 use Rattle.rules.proofs.Laws.Facts.{Below, Facts, Other, Seen, Stands, Taken, facts, is_seen, seen_below, seen_taken}
 use Rattle.rules.proofs.Laws.Find.{find_cases, finds}
 use Rattle.rules.proofs.Laws.Judged.{none_refused}
-use Rattle.rules.proofs.Laws.Slots.{alive_above, alive_otherwise, alive_taken, below_same, init_own, init_pid, init_taken, own_dead_ended, own_not_unborn, own_taken, pid_pos, pid_zero}
+use Rattle.rules.proofs.Laws.Slots.{alive_above, alive_otherwise, below_same, init_own, init_pid, init_taken, own_dead_ended, own_not_unborn, own_taken, pid_pos, pid_zero}
 use Rattle.rules.proofs.Laws.Steps.{made_or_refused, step_refused}
 use Rattle.rules.proofs.Laws.Tests.{isnt_so, left, no_so, right, yes_or_no}
 use Rattle.rules.proofs.Laws.Tree.{below_refl}
@@ -26,19 +26,19 @@ use Rattle.sameness.proofs.Promise3.{outside_leaves}
 use Rattle.sameness.proofs.Names.{getD_values}
 use Rattle.sameness.proofs.Readers.{find_none}
 use Rattle.sameness.proofs.Same.{level_lt, row_pid, same_of_sheets}
-use Rattle.rules.specs.Answers.{answers, end_of, granted, number_of, refused, refusal_number, shown}
+use Rattle.rules.specs.Answers.{answers, end_of, granted, number_of, refused, refusal_number}
 use Rattle.rules.specs.Calls.{getpid, getppid}
 use Rattle.rules.specs.Claims.{KeepsSound, NamespacesKept, NumbersKept, RefusalLeaves, SignalExact, after, ends_init}
-use Rattle.rules.specs.Read.{View, alive, child_of, dead, find, init, is_init, namespace_taken, pid_seen, seen, taken, unborn, view}
+use Rattle.rules.specs.Read.{View, child_of, dead, find, init, is_init, namespace_taken, pid_seen, seen, taken, view}
 use Rattle.rules.specs.Sound.{SoundTable, zero_namespace}
 use Rattle.rules.specs.Step.{make, runs, step}
 use Rattle.sameness.specs.Claims.{EndedRefuses, NeverFreed, OutsideLeaves, place_after}
-use Rattle.sameness.specs.Events.{Event, Place, answer_of, at, follow, gone, happens, inside, next_place, next_table, outside, sheet_of, slot_of, table_after}
+use Rattle.sameness.specs.Events.{Event, answer_of, at, follow, gone, happens, inside, next_table, outside, sheet_of, slot_of, table_after}
 use Rattle.sameness.specs.Sheet.{Row, Sheet, row, sheet}
 use Rattle.sameness.specs.Touches.{allowed, untouched}
 use Rattle.table.specs.Limits.{levels, process_slots}
 use Rattle.table.specs.Slots.{is_alive, is_dead, is_ended, is_running, is_unborn, no_pid, pid_at, process}
-use Rattle.table.specs.Tests.{◌and◌, ◌or◌, if◌then◌else◌}
+use Rattle.table.specs.Tests.{◌or◌, if◌then◌else◌}
 use Rattle.table.specs.declared.Call.TheVariants.{Clone, CloneNew, Unshare, Setns, Kill, Exit, Wait, Getpid, Getppid, Handle, Poll}
 use Rattle.table.specs.declared.Call.{Call}
 use Rattle.table.specs.declared.End.{End}

@@ -1,11 +1,11 @@
 -- wait: by twin callers, and by an outsider.
-use Prim.Native.Nat.{ℕ, zero, suc, ◌<◌, ◌≤◌}
+use Prim.Native.Nat.{ℕ, ◌<◌}
 use native.Mathlib.Omega.{arith}
-use mathlib.Core.Bool.{Bool, true, false, not, So, false≢true}
+use mathlib.Core.Bool.{Bool, false, not, So, false≢true}
 use mathlib.Core.Logic.{◌⊎◌, inl, inr, ⊎_elim}
 use mathlib.Core.Path.{◌≡◌, refl, sym, ◌∙◌, ap, subst, subst₂}
-use borrow.Author.Tests.{eqb-true, eqb-false, ne_eqb, ltb-true, ltb-false, eq-eqb}
-use lib.Dec.{eqb, ltb}
+use borrow.Author.Tests.{eqb-true, ne_eqb, eq-eqb}
+use lib.Dec.{eqb}
 use lib.ListN.{get_or-eq_default}
 use Rattle.rules.proofs.Keeps.Changed.{process_count}
 use Rattle.rules.proofs.Keeps.Freed.{freed_view}
@@ -15,9 +15,8 @@ use Rattle.rules.proofs.Laws.Facts.{Facts, facts, sane}
 use Rattle.rules.proofs.Laws.Find.{Least, least_cases}
 use Rattle.rules.proofs.Laws.Judged.{alike, all_alike}
 use Rattle.rules.proofs.Laws.Slots.{init_living, parent_living, child_seen}
-use Rattle.rules.proofs.Laws.Tests.{no_so, zero_or, right, isnt, and_false, true_and, true_or, false_or_true, false_or_false, true_and_false, isnt_not, left, both, any_elim, any_intro, isnt_so, bool_ext}
+use Rattle.rules.proofs.Laws.Tests.{no_so, zero_or, right, isnt, isnt_not, left, both, any_elim, any_intro, isnt_so, bool_ext}
 use Rattle.rules.proofs.Laws.Tree.{below_refl}
-use Rattle.sameness.proofs.Cases.{by_equal}
 use Rattle.sameness.proofs.Anchor.{init_or_none}
 use Rattle.sameness.proofs.Calls.{Kept, Ready, as_it_was, both_tell, owns_twins, TestsAlike, GivesSame, GivesLeaves}
 use Rattle.sameness.proofs.Light.{shown}
@@ -29,7 +28,7 @@ use Rattle.sameness.proofs.Still.{Still, same_still}
 use Rattle.sameness.proofs.Twins.{Pair, Twin, twin_rows, flip_pair, flip_twin, twin_there, pid_twins, taken_v, taken_u}
 use Rattle.rules.specs.Answers.{granted, answers}
 use Rattle.rules.specs.Calls.{first_ended, pid_to, reap}
-use Rattle.sameness.specs.Events.{at, gone, is_inside}
+use Rattle.sameness.specs.Events.{at, is_inside}
 use Rattle.rules.specs.Freeing.{freed}
 use Rattle.table.specs.Fresh.{empty_process}
 use Rattle.table.specs.Limits.{process_slots}
@@ -37,7 +36,7 @@ use Rattle.table.specs.Slots.{is_ended, no_process, put}
 use Rattle.rules.specs.Read.{init, living, pid_in, taken, View, child_of, seen, view, namespace_taken, children}
 use Rattle.sameness.specs.Sheet.{Row, name, row, sheet}
 use Rattle.rules.specs.Sound.{SoundTable}
-use Rattle.table.specs.Tests.{◌and◌, ◌or◌, if◌then◌else◌, least, any}
+use Rattle.table.specs.Tests.{◌and◌, if◌then◌else◌, any}
 use Rattle.sameness.specs.Touches.{removes_from, touched}
 use Rattle.sameness.proofs.Names.{named_rows, children_named}
 use Rattle.table.specs.declared.Answer.TheVariants.{Reaped}

@@ -1,8 +1,8 @@
 -- Writing a text piece by piece: laws for each function that appends, in the form of what is known at its needs.
 use Prim.Native.Nat.{ℕ, ◌<◌, ◌≤◌, ◌+◌, ◌/◌, ◌%◌, ◌^◌}
-use mathlib.Core.List.{List, [], ◌∷◌, ◌++◌, map, append-nil, append_assoc}
+use mathlib.Core.List.{List, [], ◌∷◌, ◌++◌, append-nil, append_assoc}
 use mathlib.Core.Path.{◌≡◌, refl, sym, ap, ap₂, subst, ◌∙◌}
-use lib.ListN.{length, get_or, take, drop, set, length-append, length-map, length-set}
+use lib.ListN.{length, get_or, take, drop, set, length-append, length-set}
 use lib.Seq.{paste, paste-zero, paste-suc, take-suc, take_all, take-suc-set, length-take-le}
 use mir.Syntax.{w32}
 use mir.Val.{Fits}

@@ -3,7 +3,7 @@ use Prim.Native.Nat.{ℕ, zero, suc, ◌/◌, ◌%◌, ◌^◌, ◌<◌, min}
 use native.Mathlib.Decide.{ℕ_discrete}
 use native.Mathlib.Nat.{min-eq_left, min-zero, zero-min, min-le_left}
 use native.Mathlib.Omega.{arith}
-use mathlib.Core.Bool.{true, false, not, So, false≢true}
+use mathlib.Core.Bool.{false, not, So, false≢true}
 use mathlib.Core.Path.{◌≡◌, refl, sym, ap, ◌∙◌}
 use borrow.Author.Tests.{eq-eqb, ne_eqb, eqb-true}
 use lib.Bits.{bit_and, and_step, and_zero_l}

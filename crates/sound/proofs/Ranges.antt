@@ -1,9 +1,9 @@
 -- A kept end by its cases, and a number at a level by its tests.
 use Prim.Native.Nat.{ℕ, zero, suc, ◌<◌, ◌≤◌}
 use native.Mathlib.Omega.{arith}
-use mathlib.Core.Bool.{Bool, true, false}
+use mathlib.Core.Bool.{false}
 use mathlib.Core.Path.{◌≡◌, refl, sym, ap, ◌∙◌}
-use borrow.Author.Tests.{eq-eqb, ne_eqb, le-leb, lt-leb}
+use borrow.Author.Tests.{le-leb, lt-leb}
 use lib.Dec.{eqb, leb, ltb}
 use Rattle.table.proofs.Chains.{if_yes, if_no, and_goes, and_false}
 use Rattle.table.specs.Limits.{greatest_pid, statuses, signals}

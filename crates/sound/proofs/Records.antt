@@ -1,7 +1,6 @@
 -- What the code reads of a table at a slot, past the last slot too, against the rows of a view.
 use Prim.Native.Nat.{ℕ, ◌≤◌}
 use mathlib.Core.Bool.{Bool, false}
-use mathlib.Core.List.{map}
 use mathlib.Core.Path.{◌≡◌, ap, fun_ext, ◌∙◌}
 use lib.ListN.{length}
 use Rattle.rules.proofs.Keeps.Changed.{get_d_replicate}

@@ -22,7 +22,7 @@ use Rattle.rules.specs.Sound as S
 use Rattle.table.specs.Tests.{◌and◌, if◌then◌else◌, all}
 use Rattle.table.specs.declared.Life.{Life}
 use Rattle.table.specs.declared.Life.TheVariants.{Unborn, Alive, Dead}
-use Rattle.table.specs.Traits.{traits_ok, bare_traits, ended_traits}
+use Rattle.table.specs.Traits.{traits_ok, bare_traits}
 use Rattle.sound.specs.Quick as Q
 use Rattle.sound.specs.Quick.{quick, process_at, namespace_at, top, pid_keys, unborn_keys}
 use Rattle.rules.proofs.Laws.OneHold.{zero_one, only_children}

@@ -1,8 +1,8 @@
 -- What is read of one process and of the arrays of parents and levels, against the view of the table.
 use Prim.Native.Nat.{ℕ}
-use mathlib.Core.Bool.{Bool, not}
+use mathlib.Core.Bool.{Bool}
 use mathlib.Core.List.{List}
-use mathlib.Core.Path.{◌≡◌, refl, sym, ap, ap₂, ◌∙◌}
+use mathlib.Core.Path.{◌≡◌, refl, ap, ap₂, ◌∙◌}
 use lib.Dec.{eqb}
 use Rattle.rules.proofs.Laws.ReadAt.{ReadAt}
 use Rattle.table.specs.Slots.{process, pid_at}

@@ -29,9 +29,7 @@ use Rattle.rules.specs.Freeing.{freed}
 use Rattle.table.specs.Fresh.{empty_process}
 use Rattle.table.specs.Limits.{process_slots}
 use Rattle.table.specs.Slots.{process, pid_at, is_ended, put}
-use Rattle.rules.specs.Read.{view, pid_seen, taken, living, child_of}
-use Rattle.rules.specs.Sound.{sound}
-use Rattle.rules.specs.Step.{runs}
+use Rattle.rules.specs.Read.{view, pid_seen, taken, child_of}
 use Rattle.table.specs.Tests.{◌and◌, ◌or◌, if◌then◌else◌, any, least}
 use Rattle.table.specs.declared.Answer.TheVariants.{Reaped}
 use Rattle.table.specs.declared.End.{End}

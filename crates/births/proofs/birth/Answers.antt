@@ -1,6 +1,5 @@
 -- `birth` is the walk up from the child's namespace: what it makes of the numbers and of the namespaces is the
 -- definition's. The number at each level is what the marks find, or what `next_pid` gives.
-use Prim.Native.Nat.{◌-◌}
 use mathlib.Core.Path.{ap, ◌∙◌}
 use Rattle.numbers.proofs.Columns.{gathering, columns, marks_give_next}
 use Rattle.table.specs.declared.Pid.{Pid}

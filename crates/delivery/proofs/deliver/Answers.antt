@@ -1,8 +1,5 @@
 -- `deliver` reads the target, decides, and does the action: each arm is the definition's.
-use mathlib.Core.Path.{◌≡◌}
-use lib.ListN.{length}
-use Rattle.table.specs.Limits.{process_slots}
-use Rattle.delivery.proofs.Actions.{Target, target, does_nothing, does_resume, does_stop, does_finish, does_pend}
+use Rattle.delivery.proofs.Actions.{target, does_nothing, does_resume, does_stop, does_finish, does_pend}
 use borrow.Author.Rules.{rules}
 use Rattle.delivery.proofs.deliver.Goals as goal
 

@@ -1,5 +1,4 @@
 -- `deliver_all` delivers to each of the list, by the laws of that loop.
-use Prim.Native.Nat.{◌-◌}
 use Rattle.delivery.proofs.Delivers.{delivery_loops}
 use Rattle.delivery.proofs.deliver_all.Goals as goal
 

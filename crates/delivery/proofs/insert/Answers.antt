@@ -1,5 +1,4 @@
 -- `insert` puts a slot at its place, by the laws of that loop.
-use Prim.Native.Nat.{◌-◌}
 use Rattle.delivery.proofs.Inserts.{insert_loops}
 use borrow.Author.Rules.{rules}
 use Rattle.delivery.proofs.insert.Goals as goal

@@ -1,5 +1,4 @@
 -- `others` gathers all that the caller sees beside itself, by the laws of that loop.
-use Prim.Native.Nat.{◌-◌}
 use mathlib.Core.Path.{refl}
 use Rattle.delivery.proofs.Gathers.{gather_loops, gathers_one, gathers_none}
 use Rattle.delivery.proofs.others.Goals as goal

@@ -1,5 +1,4 @@
 -- `pids_at` fills an array with the processes' numbers, by the laws of a loop that changes each element.
-use Prim.Native.Nat.{◌-◌}
 use mathlib.Core.Path.{refl}
 use lib.ListN.{replicate}
 use Rattle.table.proofs.MapLoops.{map_old_loops, filled_reads}

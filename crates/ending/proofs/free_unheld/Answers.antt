@@ -1,5 +1,4 @@
 -- `free_unheld` passes over the namespaces, by the laws of a loop that changes each element.
-use Prim.Native.Nat.{◌-◌}
 use Rattle.table.proofs.MapLoops.{map_loops}
 use Rattle.ending.proofs.Freeing.{freed_all}
 use Rattle.ending.proofs.free_unheld.Goals as goal

@@ -1,5 +1,4 @@
 -- `hand_over` passes over the processes, by the laws of a loop that changes each element.
-use Prim.Native.Nat.{◌-◌}
 use Rattle.table.proofs.MapLoops.{map_loops}
 use Rattle.ending.proofs.Members.{processes_changed}
 use Rattle.ending.specs.Ending.{handed_over}

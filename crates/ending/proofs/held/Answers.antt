@@ -1,5 +1,4 @@
 -- `held` marks what each process holds in turn, by the laws of a loop of turns.
-use Prim.Native.Nat.{◌-◌}
 use Rattle.table.proofs.FoldLoops.{fold_loops}
 use Rattle.ending.specs.Holding.{marks_of}
 use Rattle.ending.proofs.held.Goals as goal

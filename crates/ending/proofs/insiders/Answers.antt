@@ -1,5 +1,4 @@
 -- `insiders` fills an array with what `seen` says of each process.
-use Prim.Native.Nat.{◌-◌}
 use Rattle.table.proofs.MapLoops.{map_old_loops}
 use Rattle.tree.proofs.Sights.{seen_test}
 use Rattle.ending.proofs.Marks.{all_seen}

@@ -1,6 +1,4 @@
 -- `is_kept` looks for a marked namespace below n, by the laws of a loop that leaves at the first.
-use Prim.Native.Nat.{◌-◌}
-use mathlib.Core.Logic.{⊎_elim}
 use Rattle.table.proofs.AnyLoops.{any_starts}
 use Rattle.table.proofs.Chains.{chains}
 use Rattle.ending.proofs.Freeing.{unmarked_on, marked_on, kept_found, kept_none}

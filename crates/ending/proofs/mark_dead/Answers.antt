@@ -1,5 +1,4 @@
 -- `mark_dead` passes over the namespaces, by the laws of a loop that changes each element.
-use Prim.Native.Nat.{◌-◌}
 use Rattle.table.proofs.MapLoops.{map_loops}
 use Rattle.ending.proofs.Members.{namespaces_changed}
 use Rattle.ending.specs.Ending.{marked_dead}

@@ -1,5 +1,4 @@
 -- `sweep` passes over the processes, by the laws of a loop that changes each element.
-use Prim.Native.Nat.{◌-◌}
 use Rattle.table.proofs.MapLoops.{map_loops}
 use Rattle.ending.proofs.Marks.{swept_all}
 use Rattle.ending.proofs.sweep.Goals as goal

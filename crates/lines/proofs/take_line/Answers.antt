@@ -1,5 +1,4 @@
 -- `take_line` takes bytes in up to a line feed, or to the end of the chunk.
-use Prim.Native.Nat.{◌-◌}
 use native.Mathlib.Omega.{arith}
 use Rattle.lines.proofs.Carrying.{take_loop}
 use Rattle.lines.proofs.take_line.Goals as goal

@@ -1,4 +1,3 @@
-use Prim.Native.Nat.{◌-◌}
 use Rattle.table.proofs.AllLoops.{all_loops}
 use Rattle.mirror.proofs.are_namespace_rows.Goals as goal
 

@@ -1,4 +1,3 @@
-use Prim.Native.Nat.{◌-◌}
 use Rattle.mirror.proofs.Fills.{fill_loops, fill_ends}
 use Rattle.mirror.specs.Mirror.{namespace_row}
 use Rattle.table.specs.Limits.{namespace_slots}

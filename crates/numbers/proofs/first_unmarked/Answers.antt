@@ -1,5 +1,4 @@
 -- `first_unmarked` is a loop that leaves at the first place of which the test holds.
-use Prim.Native.Nat.{◌-◌}
 use Rattle.table.proofs.Chains.{chains}
 use Rattle.table.proofs.FirstLoops.{first_loops_by}
 use Rattle.numbers.proofs.first_unmarked.Goals as goal

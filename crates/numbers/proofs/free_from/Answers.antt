@@ -1,9 +1,7 @@
 -- `free_from` gives the lowest free number, by the laws of the candidate loop and of the loop over slots in it.
-use Prim.Native.Nat.{◌-◌}
 use Rattle.table.proofs.AnyLoops.{any_loops}
 use Rattle.table.proofs.SeekLoops.{seek_loops}
 use Rattle.rules.specs.Pids.{free_pid}
-use Rattle.table.specs.Tests.{◌and◌}
 use Rattle.tree.proofs.Sights.{named_test}
 use borrow.Author.Rules.{rules}
 use Rattle.numbers.proofs.free_from.Goals as goal

@@ -1,5 +1,4 @@
 -- `next_pid` gives what the marks find, or what the search one by one does.
-use Prim.Native.Nat.{◌-◌}
 use Rattle.numbers.proofs.Columns.{gathering, namespace_past, columns, marks_give_next}
 use Rattle.numbers.proofs.next_pid.Goals as goal
 use Rattle.numbers.proofs.next_pid.Goals.{else-at-lt-NAMESPACE_SLOTS, then-at-lt-NAMESPACE_SLOTS}

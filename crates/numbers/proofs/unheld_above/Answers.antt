@@ -1,5 +1,4 @@
 -- `unheld_above` marks which numbers above the last are taken, and gives the first without a mark.
-use Prim.Native.Nat.{◌-◌}
 use Rattle.numbers.specs.Marks.{unheld}
 use Rattle.numbers.proofs.Marking.{markings, marks_all, marks_past_greatest, marks_give}
 use Rattle.numbers.proofs.Window.{none_above}

@@ -31,7 +31,7 @@ use Rattle.table.specs.declared.Process.{Process}
 use Rattle.table.specs.declared.State.TheVariants.{Running}
 use Rattle.table.specs.declared.Table.{Table}
 use Rattle.table.specs.Records.{to_pid, with_last, with_life}
-use Rattle.table.specs.Traits.{born_traits, ended_traits}
+use Rattle.table.specs.Traits.{born_traits}
 
 -- ---- the number that a new process gets is free
 

@@ -9,7 +9,7 @@ use Rattle.rules.proofs.Keeps.Changed.{get_d_replicate, changed_at, process_coun
 use Rattle.rules.proofs.Keeps.InitEnds.{gone, subtree_gone, subtree_facts}
 use Rattle.rules.proofs.Keeps.MemberEnds.{member_gone, member_facts}
 use Rattle.rules.proofs.Laws.Below.{shallow_below, no_level}
-use Rattle.rules.proofs.Laws.Facts.{Facts, Lives, Other, lives_taken, seen_taken, facts, Sane, Taken}
+use Rattle.rules.proofs.Laws.Facts.{Facts, Lives, Other, lives_taken, seen_taken, Sane, Taken}
 use Rattle.rules.proofs.Laws.Holds.{ended_none, none_past, parent_holds}
 use Rattle.rules.proofs.Laws.Tests.{false_and, isnt_so, choose, left, both, right}
 use Rattle.rules.specs.Ends.{end, init_ends, namespace_dies, member_ends}

@@ -9,7 +9,6 @@ use borrow.Author.Tests.{ne_eqb, eqb-true, eq-eqb, eqb-false}
 use lib.Dec.{eqb}
 use lib.IntN.{ℤ, pos, negsuc}
 use Rattle.rules.proofs.Keeps.Changed.{changed_at, process_count}
-use Rattle.rules.proofs.Keeps.Premises as K
 use Rattle.rules.proofs.Laws.Below.{below_level}
 use Rattle.rules.proofs.Laws.Facts.{Facts, Taken, Stands, Seen, seen_taken, seen_below}
 use Rattle.rules.proofs.Laws.Find.{find_cases, finds}

@@ -21,7 +21,6 @@ use Rattle.table.specs.Tests.{◌and◌, ◌or◌, if◌then◌else◌}
 use Rattle.table.specs.declared.Life.TheVariants.{Unborn}
 use Rattle.table.specs.declared.Namespace.{Namespace}
 use Rattle.table.specs.declared.Table.{Table}
-use Rattle.table.specs.Traits.{ended_traits}
 
 -- ---- who is kept
 

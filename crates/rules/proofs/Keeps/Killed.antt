@@ -30,7 +30,7 @@ use Rattle.rules.specs.Claims.{Falls, SignalDone, SignalExact, SignalFinds, ends
 use Rattle.rules.specs.Delivery.{action_on, deliver_all}
 use Rattle.rules.specs.Freeing.{freed}
 use Rattle.rules.specs.Read.{View, all_seen, init, is_init, living, seen, taken, view}
-use Rattle.rules.specs.Refusals.{meant, numbered}
+use Rattle.rules.specs.Refusals.{meant}
 use Rattle.rules.specs.Sound.{SoundTable}
 use Rattle.rules.specs.Step.{runs, step}
 use Rattle.table.specs.Limits.{process_slots, signals, sigkill}

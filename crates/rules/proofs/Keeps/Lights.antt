@@ -14,7 +14,7 @@ use Rattle.rules.specs.Read.{View, below, living, namespace_taken, pid_seen, see
 use Rattle.rules.specs.Sound.{kept_end, zero_namespace, zero_process}
 use Rattle.table.specs.Tests.{if◌then◌else◌}
 use Rattle.table.specs.declared.State.{State}
-use Rattle.table.specs.Traits.{ended_traits, traits_ok}
+use Rattle.table.specs.Traits.{traits_ok}
 use Rattle.table.specs.declared.Traits.{Traits}
 
 -- the view with these of the process at c

@@ -1,6 +1,6 @@
 -- Each negative number is given exactly when its row of the table says so and no earlier row does.
-use Prim.Native.Nat.{ℕ, ◌<◌, ◌≤◌, zero, suc}
-use native.Mathlib.Decide.{dec_lt, ℕ_discrete}
+use Prim.Native.Nat.{ℕ, ◌<◌, suc}
+use native.Mathlib.Decide.{dec_lt}
 use native.Mathlib.Omega.{arith}
 use mathlib.Core.Bool.{Bool, true, false, not, So, false≢true}
 use mathlib.Core.List.{List, [], ◌∷◌}

@@ -16,7 +16,6 @@ use Rattle.rules.specs.Read.{View, below, climb, dead, living, namespace_taken, 
 use Rattle.rules.specs.Sound.{zero_namespace, zero_process}
 use Rattle.table.specs.Tests.{if◌then◌else◌}
 use Rattle.table.specs.declared.Life.TheVariants.{Unborn}
-use Rattle.table.specs.Traits.{ended_traits}
 
 -- the view with an unborn namespace at j below a
 abbrev pub with_namespace : View → ℕ → ℕ → View

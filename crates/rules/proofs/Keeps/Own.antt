@@ -1,5 +1,5 @@
 -- What unshare, setns, handle and poll change: the caller's record, and namespaces.
-use Prim.Native.Nat.{ℕ, suc, ◌<◌}
+use Prim.Native.Nat.{ℕ, suc}
 use native.Mathlib.Omega.{arith}
 use mathlib.Core.Bool.{Bool, true, false, not, So}
 use mathlib.Core.Logic.{◌⊎◌, inl, inr}
@@ -13,7 +13,7 @@ use Rattle.rules.proofs.Keeps.Finds.{freed_leaves, named_is}
 use Rattle.rules.proofs.Keeps.Freed.{freed_space, kept_children}
 use Rattle.rules.proofs.Keeps.Premises as K
 use Rattle.rules.proofs.Laws.Below.{not_deepest}
-use Rattle.rules.proofs.Laws.Facts.{Facts, Lives, Sane, Taken, facts, lives_taken}
+use Rattle.rules.proofs.Laws.Facts.{Facts, Lives, Taken, facts, lives_taken}
 use Rattle.rules.proofs.Laws.Find.{named_seen}
 use Rattle.rules.proofs.Laws.Judged.{None, made_is, none_refused, place, refusals}
 use Rattle.rules.proofs.Laws.Steps.{made_or_refused, outcome_of, runs_lives}
@@ -23,7 +23,7 @@ use Rattle.rules.specs.Calls.{handle_off, handle_on, named, natural, new_namespa
 use Rattle.rules.specs.Claims.{ChildrenTurn, MadeNamespace, OwnSignals, SignalsOnly, Turned}
 use Rattle.rules.specs.Freeing.{freed, kept}
 use Rattle.rules.specs.Pids.{free_namespace_slot}
-use Rattle.rules.specs.Read.{View, children, taken, unborn, view}
+use Rattle.rules.specs.Read.{children, taken, unborn, view}
 use Rattle.rules.specs.Refusals.{numbered}
 use Rattle.rules.specs.Sound.{SoundTable, shaped}
 use Rattle.rules.specs.Step.{make, runs}
@@ -37,7 +37,6 @@ use Rattle.table.specs.declared.Namespace.{Namespace}
 use Rattle.table.specs.declared.Outcome.{Outcome}
 use Rattle.table.specs.declared.Process.{Process}
 use Rattle.table.specs.declared.Refusal.TheVariants.{NotRunning, Esrch, Enospc, Eagain}
-use Rattle.table.specs.declared.Refusal.{Refusal}
 use Rattle.table.specs.declared.Table.{Table}
 use Rattle.table.specs.Records.{blank_namespace, placed, with_children, with_traits}
 

@@ -19,7 +19,7 @@ use Rattle.rules.specs.Sound.{reaches_root, zero_namespace, zero_process}
 use Rattle.rules.proofs.Laws.Traits.{none_are_blank}
 use Rattle.table.specs.Tests.{if◌then◌else◌}
 use Rattle.table.specs.declared.State.TheVariants.{Running}
-use Rattle.table.specs.Traits.{no_traits, ended_traits}
+use Rattle.table.specs.Traits.{no_traits}
 
 -- the view with the slot d emptied
 abbrev pub without : View → ℕ → View

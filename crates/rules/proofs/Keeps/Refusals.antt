@@ -1,6 +1,6 @@
 -- A refusal leaves the whole table unchanged and tells the host no slot.
 use Prim.Native.Nat.{ℕ}
-use mathlib.Core.Option.{Option, none, some}
+use mathlib.Core.Option.{none}
 use mathlib.Core.Path.{◌≡◌, refl, sym, ◌∙◌, ap}
 use lib.IntN.{negsuc}
 use Rattle.rules.proofs.Laws.Judged.{gives, gives_granted, made_is, some_none, told}

@@ -1,12 +1,11 @@
 -- kill 1 9 by an init on itself: nothing is delivered, and of a sound table nothing is freed.
-use Prim.Native.Nat.{ℕ, zero, suc, ◌<◌, ◌≤◌, ◌+◌}
+use Prim.Native.Nat.{ℕ, zero, suc, ◌≤◌, ◌+◌}
 use native.Mathlib.Omega.{arith}
 use mathlib.Core.Bool.{Bool, true, false, So}
 use mathlib.Core.Logic.{⊎_elim}
 use mathlib.Core.Path.{◌≡◌, refl, sym, ◌∙◌, ap, subst}
 use borrow.Author.Tests.{eq-eqb, eqb-true}
 use lib.IntN.{pos}
-use lib.ListN.{length}
 use lib.Seq.{ext_get_or}
 use Rattle.rules.proofs.Keeps.Changed.{length_changed}
 use Rattle.rules.proofs.Keeps.Exact.{kill_answers}
@@ -15,7 +14,7 @@ use Rattle.rules.proofs.Keeps.Freed.{freed_space, kept_hold, kept_own, kept_root
 use Rattle.rules.proofs.Laws.Below.{level_deepest}
 use Rattle.rules.proofs.Laws.Facts.{Facts, Holder, root, member, holder, child, Lives, Other, Stands, is_seen, lives_taken, facts, held_in}
 use Rattle.rules.proofs.Laws.Slots.{init_pid, living_own_alive}
-use Rattle.rules.proofs.Laws.Steps.{runs_lives, step_made}
+use Rattle.rules.proofs.Laws.Steps.{runs_lives}
 use Rattle.rules.proofs.Laws.Tests.{left, no_so, right, yes_or_no}
 use Rattle.rules.proofs.Laws.Tree.{below_refl}
 use Rattle.rules.specs.Answers.{answers, granted, number_of}

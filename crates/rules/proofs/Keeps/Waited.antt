@@ -1,17 +1,17 @@
 -- What a wait removes and answers, and that no other call says how a process ended.
-use Prim.Native.Nat.{ℕ, ◌<◌, ◌≤◌}
+use Prim.Native.Nat.{ℕ, ◌<◌}
 use native.Mathlib.Omega.{arith}
 use mathlib.Core.Bool.{false, not, So}
 use mathlib.Core.Logic.{⊎_elim}
 use mathlib.Core.Option.{none, some}
-use mathlib.Core.Path.{◌≡◌, refl, sym, ◌∙◌, ap, subst}
+use mathlib.Core.Path.{◌≡◌, refl, sym, ◌∙◌, ap}
 use borrow.Author.Tests.{eq-eqb, ne_eqb}
 use lib.Dec.{eqb}
 use lib.IntN.{pos}
 use Rattle.rules.proofs.Keeps.Changed.{process_count, stored}
 use Rattle.rules.proofs.Keeps.Finds.{freed_leaves}
 use Rattle.rules.proofs.Keeps.Puts.{ended_low, reaped_sane}
-use Rattle.rules.proofs.Laws.Facts.{Taken, facts, sane}
+use Rattle.rules.proofs.Laws.Facts.{facts, sane}
 use Rattle.rules.proofs.Laws.Find.{Least, least_cases}
 use Rattle.rules.proofs.Laws.Judged.{gives, made_is, none_refused, some_none}
 use Rattle.rules.proofs.Laws.Steps.{outcome_of}
@@ -22,12 +22,12 @@ use Rattle.rules.specs.Claims.{Removes, WaitExact, ended_child}
 use Rattle.rules.specs.Freeing.{freed}
 use Rattle.rules.specs.Read.{View, child_of, taken, view}
 use Rattle.rules.specs.Sound.{SoundTable, sound}
-use Rattle.rules.specs.Step.{make, runs, step}
+use Rattle.rules.specs.Step.{runs, step}
 use Rattle.table.specs.Fresh.{empty_process}
 use Rattle.table.specs.Limits.{process_slots, signals}
 use Rattle.table.specs.SignalSets.{lowest_signal}
 use Rattle.table.specs.Slots.{is_ended, no_process, pid_at, process, put}
-use Rattle.table.specs.Tests.{◌and◌, if◌then◌else◌}
+use Rattle.table.specs.Tests.{if◌then◌else◌}
 use Rattle.table.specs.declared.Call.TheVariants.{Clone, CloneNew, Unshare, Setns, Kill, Exit, Wait, Getpid, Getppid, Handle, Poll}
 use Rattle.table.specs.declared.Call.{Call}
 use Rattle.table.specs.declared.End.{End}

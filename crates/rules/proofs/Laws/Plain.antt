@@ -6,7 +6,7 @@ use lib.Dec.{eqb}
 use Rattle.rules.proofs.Laws.Tests.{bool_ext, all_intro, all_elim, assume, given, left, right, both}
 use Rattle.rules.specs.Read.{View, seen, pid_seen}
 use Rattle.rules.specs.Sound.{each_process, each_namespace, pids_differ, process_traits}
-use Rattle.table.specs.Limits.{process_slots, namespace_slots}
+use Rattle.table.specs.Limits.{process_slots}
 use Rattle.table.specs.Tests.{◌and◌, ◌implies◌, all}
 use Rattle.table.specs.Traits.{handled_ok, pending_ok, traits_ok}
 

@@ -1,5 +1,4 @@
 -- `digits_value` reads digits from the left: ten at most, so that no sum is too great.
-use Prim.Native.Nat.{◌-◌}
 use native.Mathlib.Omega.{arith}
 use Rattle.script.proofs.Scans.{value_small, value_loop}
 use Rattle.script.proofs.digits_value.Goals as goal

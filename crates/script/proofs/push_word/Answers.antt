@@ -1,5 +1,4 @@
 -- `push_word` puts the bytes of a word after a text, one by one.
-use Prim.Native.Nat.{◌-◌}
 use native.Mathlib.Omega.{arith}
 use Rattle.script.proofs.Writes.{pushing_loop}
 use Rattle.script.proofs.push_word.Goals as goal

@@ -1,5 +1,4 @@
 -- `put` copies the bytes of a text one by one.
-use Prim.Native.Nat.{◌-◌}
 use native.Mathlib.Omega.{arith}
 use Rattle.script.proofs.Writes.{copy_loop}
 use Rattle.script.proofs.put.Goals as goal

@@ -1,5 +1,4 @@
 -- `same` compares two texts byte by byte.
-use Prim.Native.Nat.{◌-◌}
 use native.Mathlib.Omega.{arith}
 use Rattle.script.proofs.Scans.{alike_loop}
 use Rattle.script.proofs.same.Goals as goal

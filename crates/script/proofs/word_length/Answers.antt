@@ -1,5 +1,4 @@
 -- `word_length` counts the bytes before the first space.
-use Prim.Native.Nat.{◌-◌}
 use native.Mathlib.Omega.{arith}
 use Rattle.script.proofs.Scans.{word_loop}
 use Rattle.script.proofs.word_length.Goals as goal

@@ -1,5 +1,4 @@
 -- `find` gives the slot of the process with a number, by the laws of a loop that leaves with the first.
-use Prim.Native.Nat.{◌-◌}
 use Rattle.table.proofs.FirstLoops.{first_loops}
 use Rattle.rules.specs.Read.{find}
 use Rattle.tree.proofs.Sights.{named_test}

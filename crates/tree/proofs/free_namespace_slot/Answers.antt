@@ -1,5 +1,4 @@
 -- `free_namespace_slot` gives the lowest free namespace slot, by the laws of a loop that leaves with the first.
-use Prim.Native.Nat.{◌-◌}
 use Rattle.table.proofs.Chains.{chains}
 use Rattle.table.proofs.FirstLoops.{first_loops_by}
 use Rattle.rules.specs.Pids.{free_namespace_slot}

@@ -1,5 +1,5 @@
 -- `parents` fills a column with the namespaces' parents, by the laws of a loop that changes each element.
-use Prim.Native.Nat.{ℕ, ◌-◌}
+use Prim.Native.Nat.{ℕ}
 use mathlib.Core.Path.{refl}
 use lib.ListN.{replicate}
 use Rattle.table.proofs.MapLoops.{map_old_loops, filled_reads}

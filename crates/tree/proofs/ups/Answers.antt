@@ -1,5 +1,4 @@
 -- `ups` fills an array with the namespaces' parents, by the laws of a loop that changes each element.
-use Prim.Native.Nat.{◌-◌}
 use mathlib.Core.Path.{refl}
 use lib.ListN.{replicate}
 use Rattle.table.proofs.MapLoops.{map_old_loops, filled_reads}

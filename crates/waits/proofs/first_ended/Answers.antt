@@ -1,6 +1,5 @@
 -- `first_ended` keeps the best slot and its number; the definition is the same turns over the slots.
 use Rattle.waits.proofs.Waits.{search_starts, search_takes, search_passes, search_ends}
-use Prim.Native.Nat.{◌-◌}
 use Rattle.waits.proofs.first_ended.Goals as goal
 use Rattle.waits.proofs.first_ended.Goals.{else-comes_first, then-comes_first}
 

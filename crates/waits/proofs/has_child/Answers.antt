@@ -1,7 +1,6 @@
 -- `has_child` looks for a child, by the laws of a loop that leaves at the first.
 use Rattle.rules.specs.Read.{taken, child_of}
 use Rattle.table.proofs.AnyLoops.{any_loops}
-use Prim.Native.Nat.{◌-◌}
 use Rattle.waits.proofs.has_child.Goals as goal
 
 pub loop-i-init : goal.loop-i-init

@@ -1,5 +1,4 @@
 -- The marks of each namespace.
-use Prim.Native.Nat.{◌-◌}
 use mathlib.Core.Bool.{false}
 use mathlib.Core.Path.{◌≡◌, sym, subst}
 use lib.ListN.{replicate}

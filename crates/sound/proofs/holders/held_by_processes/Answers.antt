@@ -1,5 +1,4 @@
 -- The marks of each process, after the root.
-use Prim.Native.Nat.{◌-◌}
 use mathlib.Core.Bool.{true, false}
 use mathlib.Core.Path.{◌≡◌, sym, subst}
 use lib.ListN.{set, replicate}

@@ -1,15 +1,13 @@
 -- A loop that tests every slot with the records that its namespace names.
-use mathlib.Core.Logic.{⊎_elim}
 use mathlib.Core.Path.{◌≡◌, ap, ◌∙◌}
 use Rattle.table.specs.Slots.{process, namespace}
-use Prim.Native.Nat.{◌-◌}
 use mathlib.Core.Path.{ap₂}
 use Rattle.sound.proofs.Records.{namespace_past, process_past, namespace_reads}
 use Rattle.sound.proofs.Marks.{marks_all}
 use Rattle.table.proofs.AllLoops.{all_starts, all_goes_on, all_fails, all_passes}
 use Rattle.table.specs.Limits.{namespace_slots}
 use Rattle.table.specs.Tests.{◌or◌}
-use Rattle.sound.specs.Quick.{process_row, namespace_ok, namespaces_ok}
+use Rattle.sound.specs.Quick.{process_row, namespaces_ok}
 use borrow.Author.Rules.{rules}
 use Rattle.sound.proofs.namespaces.namespaces_ok.Goals as goal
 use Rattle.sound.proofs.namespaces.namespaces_ok.Goals.{else-first-lt-PROCESS_SLOTS, else-up-lt-NAMESPACE_SLOTS, then-first-lt-PROCESS_SLOTS, then-up-lt-NAMESPACE_SLOTS}

@@ -1,5 +1,4 @@
 -- A loop that tests every key.
-use Prim.Native.Nat.{◌-◌}
 use Rattle.table.proofs.AllLoops.{all_loops}
 use Rattle.sound.specs.Quick.{differ}
 use Rattle.sound.proofs.numbers.all_differ.Goals as goal

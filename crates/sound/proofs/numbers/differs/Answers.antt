@@ -1,5 +1,4 @@
 -- A key that is 0, or a loop that tests every key below.
-use Prim.Native.Nat.{◌-◌}
 use borrow.Author.Tests.{ne_eqb}
 use Rattle.table.proofs.AllLoops.{all_loops_by}
 use Rattle.table.proofs.Chains.{chains, or_goes}

@@ -1,5 +1,5 @@
 -- Each key at its place.
-use Prim.Native.Nat.{ℕ, ◌-◌}
+use Prim.Native.Nat.{ℕ}
 use mathlib.Core.Path.{◌≡◌, refl, ap}
 use lib.ListN.{get_or}
 use Rattle.table.proofs.MapLoops.{map_old_loops, map_done, changed_reads}

@@ -1,10 +1,9 @@
 -- A loop over the levels from the deepest up, with the namespaces above at each.
-use Prim.Native.Nat.{◌-◌}
 use native.Mathlib.Numerals.{add-one}
 use Rattle.table.proofs.AllLoops.{all_starts, all_goes_on, all_fails, all_passes}
 use Rattle.table.specs.Limits.{levels as level_count}
 use Rattle.rules.specs.Read.{view}
-use Rattle.sound.specs.Quick.{pid_keys, top}
+use Rattle.sound.specs.Quick.{top}
 use Rattle.sound.proofs.Keys.{next_top, next_differs}
 use borrow.Author.Rules.{rules}
 use Rattle.sound.proofs.numbers.pids_differ.Goals as goal

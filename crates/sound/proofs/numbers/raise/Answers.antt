@@ -1,5 +1,4 @@
 -- Each namespace that is below the level goes one up.
-use Prim.Native.Nat.{◌-◌}
 use native.Mathlib.Omega.{arith}
 use mathlib.Core.Path.{◌≡◌, refl, ap}
 use borrow.Author.Tests.{le-ltb}

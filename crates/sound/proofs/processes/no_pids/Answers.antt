@@ -1,5 +1,4 @@
 -- A loop that tests every level.
-use Prim.Native.Nat.{◌-◌}
 use Rattle.table.proofs.AllLoops.{all_loops_by}
 use Rattle.table.proofs.Chains.{chains}
 use Rattle.sound.proofs.processes.no_pids.Goals as goal

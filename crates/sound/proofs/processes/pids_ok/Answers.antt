@@ -1,5 +1,4 @@
 -- A loop that tests every level.
-use Prim.Native.Nat.{◌-◌}
 use Rattle.table.proofs.AllLoops.{all_loops}
 use Rattle.sound.specs.Quick.{pids_ok}
 use Rattle.sound.proofs.processes.pids_ok.Goals as goal

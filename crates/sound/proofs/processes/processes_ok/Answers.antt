@@ -1,14 +1,11 @@
 -- A loop that tests every slot with the records that its process names.
-use mathlib.Core.Logic.{⊎_elim}
 use mathlib.Core.Path.{◌≡◌, ap}
 use Rattle.table.specs.Slots.{process, namespace}
-use Rattle.rules.specs.Read.{children}
-use Prim.Native.Nat.{◌-◌}
 use Rattle.sound.proofs.Records.{namespace_past, process_past, process_reads}
 use Rattle.table.proofs.AllLoops.{all_starts, all_goes_on, all_fails, all_passes}
 use Rattle.table.specs.Limits.{process_slots}
 use Rattle.tree.specs.Tree.{slot_in}
-use Rattle.sound.specs.Quick.{process_row, process_ok, processes_ok}
+use Rattle.sound.specs.Quick.{process_row, processes_ok}
 use borrow.Author.Rules.{rules}
 use Rattle.sound.proofs.processes.processes_ok.Goals as goal
 use Rattle.sound.proofs.processes.processes_ok.Goals.{else-above-lt-PROCESS_SLOTS, else-children-lt-NAMESPACE_SLOTS, else-own-lt-NAMESPACE_SLOTS, then-above-lt-PROCESS_SLOTS, then-children-lt-NAMESPACE_SLOTS, then-own-lt-NAMESPACE_SLOTS}

@@ -1,5 +1,4 @@
 -- A loop that tests every slot.
-use Prim.Native.Nat.{◌-◌}
 use Rattle.table.proofs.AllLoops.{all_loops}
 use Rattle.sound.specs.Quick.{reach_ok}
 use Rattle.sound.proofs.reach.all_reach_root.Goals as goal

@@ -1,5 +1,4 @@
 -- Each parent at its place.
-use Prim.Native.Nat.{◌-◌}
 use mathlib.Core.Path.{refl}
 use lib.ListN.{replicate}
 use Rattle.table.proofs.MapLoops.{map_old_loops, filled_reads}
