@@ -1,53 +1,104 @@
 // Reads and writes that fail: which are tried again, and what is said of the others.
-use libc::STDOUT_FILENO;
-use libc::types::timespec;
+ghost use Rattle.std.specs.Prelude.{IsTrue};
+ghost use Rattle.std.specs.Io.KnownBytes.{Appends};
+ghost use Rattle.recorder.specs.Writing.{TookSome, TookFirst};
+
+use std::io::{ErrorKind, Print, Write};
+use std::time::Duration;
+use std::{io, thread};
 
 // Lets a millisecond pass.
-fn pause() {
-    let asked = timespec {
-        tv_sec: 0,
-        tv_nsec: 1000000,
-    };
-    let mut left = timespec {
-        tv_sec: 0,
-        tv_nsec: 0,
-    };
-    libc::nanosleep(&asked, &mut left);
+fn pause(rt: &HostRuntime) {
+    thread::sleep(rt, Duration::from_millis(1));
 }
+
+// ---- what is told on standard error
+
+// Writes a part of a message. Nobody is left to be told where that fails, and the next part is tried all the same.
+pub(crate) fn tell(rt: &HostRuntime, part: &[u8]) {
+    let _ = Print::write_all(&rt.stderr(), part);
+}
+
+// The system's words for an error: std puts the error's number in brackets behind them.
+fn words(text: &str) -> &str {
+    match text.split_once(" (os error ") {
+        Some((words, _)) => words,
+        None => text,
+    }
+}
+
+fn tell_reason(rt: &HostRuntime, error: &io::Error) {
+    match error.to_string(rt.alloc()) {
+        Ok(text) => tell(rt, words(text.as_str()).as_bytes()),
+        // There is no memory for the text, and it is told with the number.
+        Err(_) => {
+            let _ = rt.eprint(error);
+        }
+    }
+}
+
+// Writes a line: what failed, as the caller names it, a colon and the reason.
+pub(crate) fn fail(rt: &HostRuntime, what: &[u8], error: &io::Error) {
+    tell(rt, what);
+    tell(rt, b": ");
+    tell_reason(rt, error);
+    tell(rt, b"\n");
+}
+
+// ---- what is tried again
 
 // Whether a read or a write that has just failed is to be tried again: one that a signal interrupted, or one that would
 // have had to wait. Of any other it says why it failed.
-pub(crate) fn may_retry(what: &[u8]) -> bool {
-    let error = os::errno();
-    if error == libc::EINTR {
-        return true;
+pub(crate) fn may_retry(rt: &HostRuntime, what: &[u8], error: &io::Error) -> bool {
+    match error.kind() {
+        ErrorKind::Interrupted => true,
+        ErrorKind::WouldBlock => {
+            pause(rt);
+            true
+        }
+        _ => {
+            fail(rt, what, error);
+            false
+        }
     }
-    if error == libc::EAGAIN {
-        pause();
-        return true;
-    }
-    os::fail(what);
-    false
 }
 
-// Writes all of `out` to standard output, and says whether it could. A proved loop has to end, and nothing says that a
-// reader ever makes room: the turns count down from a number that no run uses up.
-pub(crate) fn write_out(out: &[u8]) -> bool {
-    let mut done: usize = 0;
-    let mut turns = u64::MAX;
-    while done < out.len() {
-        if turns == 0 {
-            return false;
+// Writes some of `out`, maybe nothing yet, and says how many bytes; none after an error.
+fn write_some<W: Write>(rt: &HostRuntime, to: &mut W, out: &[u8]) -> Option<usize>
+    ensures { TookSome (W.contents to.old) (W.contents to.new) out.now result }
+{
+    match to.write(out) {
+        Ok(n) => {
+            if n == 0 {
+                pause(rt);
+            }
+            Some(n)
         }
-        let put = libc::write(STDOUT_FILENO, &out[done..]);
-        if put < 0 && !may_retry(b"recorder: standard output") {
-            return false;
+        Err(e) => {
+            if may_retry(rt, b"recorder: standard output", &e) {
+                Some(0)
+            } else {
+                None
+            }
         }
-        if put == 0 {
-            pause();
-        }
-        done += io::count(put, &out[done..]);
-        turns -= 1;
     }
-    true
+}
+
+// Writes all of `out`, and says whether it could. A proved loop has to end, and nothing says that a reader ever makes
+// room: it has more turns than any run uses up.
+pub(crate) fn write_out<W: Write>(rt: &HostRuntime, to: &mut W, out: &[u8]) -> bool
+    ensures whole { IsTrue result → Appends (W.contents to.old) (W.contents to.new) out.now }
+    ensures first { TookFirst (W.contents to.old) (W.contents to.new) out.now }
+{
+    let mut done = 0;
+    for _ in 0..u64::MAX {
+        if done == out.len() {
+            return true;
+        }
+        match write_some(rt, to, &out[done..]) {
+            Some(n) => done += n,
+            None => return false,
+        }
+    }
+    false
 }

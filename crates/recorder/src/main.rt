@@ -7,24 +7,45 @@ mod usage;
 
 ghost use Rattle.std.specs.Prelude.{◌≤◌, length};
 
-use libc::STDIN_FILENO;
+use faults::fail;
 use run::run;
 use script::same;
+use std::env::{Env, FillError};
+use std::fs::File;
+use std::io::{Error, ErrorKind};
 use usage::{misused, print_help, print_version};
 
+// So many bytes of an argument are taken, and the name of the program stands before them.
+const TEXT: usize = 65536;
+
+// What the system says of a name that is too long.
+const ENAMETOOLONG: i32 = 36;
+
 // Runs the script in a file. `what` is what an error is told of.
-fn run_file(name: &[u8], what: &[u8]) {
-    let fd = os::open_read(name);
-    if fd < 0 {
-        os::fail(what);
-        return;
+fn run_file(rt: &HostRuntime, name: &[u8], what: &[u8]) {
+    match open(rt, name) {
+        Ok(mut file) => {
+            run(rt, &mut file, what, &mut rt.stdout());
+        }
+        Err(e) => fail(rt, what, &e),
     }
-    run(fd, what);
-    libc::close(fd);
 }
 
-fn run_input() {
-    run(STDIN_FILENO, b"recorder: standard input");
+// std takes names that are text.
+fn open(rt: &HostRuntime, name: &[u8]) -> Result<File, Error> {
+    match str::from_utf8(name) {
+        Ok(path) => File::open(rt, path),
+        Err(_) => Err(Error::from(ErrorKind::InvalidFilename)),
+    }
+}
+
+fn run_input(rt: &HostRuntime) {
+    run(
+        rt,
+        &mut rt.stdin(),
+        b"recorder: standard input",
+        &mut rt.stdout(),
+    );
 }
 
 // Whether a word is an option, or would be one.
@@ -36,52 +57,56 @@ fn is_option(word: &[u8]) -> bool {
 }
 
 // Does what the one argument asks for: the word that stands behind the program's name, from `start` on.
-fn obey(what: &[u8], start: usize)
+fn obey(rt: &HostRuntime, what: &[u8], start: usize)
     requires { start ≤ length what.now }
 {
     let word = &what[start..];
     if same(word, b"--help") {
-        print_help();
+        print_help(rt);
         return;
     }
     if same(word, b"--version") {
-        print_version();
+        print_version(rt);
         return;
     }
     if same(word, b"-") {
-        run_input();
+        run_input(rt);
         return;
     }
     if is_option(word) {
-        misused(what);
+        misused(rt, what);
         return;
     }
-    run_file(word, what);
+    run_file(rt, word, what);
 }
 
 // The argument is read behind the program's name, so that an error can be told of both at once.
-fn take_argument(text: &mut [u8])
+fn take_argument(rt: &HostRuntime, text: &mut [u8])
     requires { 10 ≤ length text.old }
 {
-    let start = bytes::copy(b"recorder: ", text);
-    let n = os::arg(1, &mut text[start..]);
-    if os::errno() != 0 {
-        os::fail(b"recorder: the argument");
-        return;
+    let start = 10;
+    text[..start].copy_from_slice(b"recorder: ");
+    match rt.arg(1, &mut text[start..]) {
+        Ok(n) => obey(rt, &text[..start + n], start),
+        Err(FillError::NotPresent) => run_input(rt),
+        Err(FillError::TooLong) => fail(
+            rt,
+            b"recorder: the argument",
+            &Error::from_raw_os_error(ENAMETOOLONG),
+        ),
     }
-    obey(&text[..start + n], start);
 }
 
-fn main() {
-    let count = os::arg_count();
-    if count < 2 {
-        run_input();
+// Whether there is an argument at a place, whatever it is.
+fn has_argument(rt: &HostRuntime, place: usize) -> bool {
+    !matches!(rt.arg(place, &mut []), Err(FillError::NotPresent))
+}
+
+fn main(rt: HostRuntime) {
+    if has_argument(&rt, 2) {
+        misused(&rt, b"recorder: more than one argument");
         return;
     }
-    if count > 2 {
-        misused(b"recorder: more than one argument");
-        return;
-    }
-    let mut text = io::large_buffer();
-    take_argument(&mut text);
+    let mut text = [0u8; TEXT];
+    take_argument(&rt, &mut text);
 }

@@ -1,19 +1,23 @@
 // What the program says of itself.
-use crate::faults::write_out;
-use libc::STDERR_FILENO;
+use crate::faults::{tell, write_out};
 
 // Of an argument that it does not take.
-pub(crate) fn misused(what: &[u8]) {
-    io::write_all(STDERR_FILENO, what);
-    io::write_all(STDERR_FILENO, b": not understood; see recorder --help\n");
+pub(crate) fn misused(rt: &HostRuntime, what: &[u8]) {
+    tell(rt, what);
+    tell(rt, b": not understood; see recorder --help\n");
 }
 
-pub(crate) fn print_version() {
-    write_out(b"recorder 0.1.0 (Lampfunnel, with W-203 and W-206)\n");
+fn print(rt: &HostRuntime, text: &[u8]) -> bool {
+    write_out(rt, &mut rt.stdout(), text)
 }
 
-fn print_synopsis() -> bool {
-    write_out(
+pub(crate) fn print_version(rt: &HostRuntime) {
+    print(rt, b"recorder 0.1.0 (Lampfunnel, with W-203 and W-206)\n");
+}
+
+fn print_synopsis(rt: &HostRuntime) -> bool {
+    print(
+        rt,
         b"usage: recorder [FILE]\n\
           \n\
           Runs a script of calls on a table of processes and PID namespaces: FILE, or standard\n\
@@ -25,8 +29,9 @@ fn print_synopsis() -> bool {
     )
 }
 
-fn print_calls() -> bool {
-    write_out(
+fn print_calls(rt: &HostRuntime) -> bool {
+    print(
+        rt,
         b"  clone           a child in the namespace for the caller's children\n\
           \x20 clone new       a child that is the init of a new namespace\n\
           \x20 unshare         the caller's next child is the init of a new namespace\n\
@@ -42,8 +47,9 @@ fn print_calls() -> bool {
     )
 }
 
-fn print_refusals() -> bool {
-    write_out(
+fn print_refusals(rt: &HostRuntime) -> bool {
+    print(
+        rt,
         b"\n\
           Each line gives one line: the answer, ? where it is no call, or a refusal:\n\
           \x20 -1000  the table is not sound (no script brings that about)\n\
@@ -62,10 +68,10 @@ fn print_refusals() -> bool {
 }
 
 // Each part is printed if the one before could be.
-pub(crate) fn print_help() {
-    if print_synopsis() {
-        if print_calls() {
-            print_refusals();
+pub(crate) fn print_help(rt: &HostRuntime) {
+    if print_synopsis(rt) {
+        if print_calls(rt) {
+            print_refusals(rt);
         }
     }
 }
