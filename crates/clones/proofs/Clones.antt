@@ -12,7 +12,6 @@ use Rattle.outcomes.specs.Verdicts.{verdict}
 use Rattle.outcomes.specs.declared.Verdict.TheVariants.{Granted, Refused}
 use Rattle.outcomes.specs.declared.Verdict.{Verdict}
 use Rattle.rules.proofs.Laws.ReadAt.{read_at}
-use Rattle.table.specs.contracts.Table as T
 use Rattle.rules.specs.Answers.{refused}
 use Rattle.rules.specs.Births.{birth}
 use Rattle.rules.specs.Calls.{own_level, born, clone_refusals, clone_gives, clone, clone_new_refusals, clone_new_gives, clone_new}
