@@ -16,7 +16,6 @@ use Rattle.outcomes.proofs.Verdicts.{either, judged_grants, judged_refuses, one_
 use Rattle.outcomes.specs.Verdicts.{verdict}
 use Rattle.outcomes.specs.declared.Verdict.TheVariants.{Granted, Refused}
 use Rattle.outcomes.specs.declared.Verdict.{Verdict}
-use Rattle.table.specs.contracts.Table as T
 use Rattle.rules.proofs.Laws.ReadAt.{read_at}
 use Rattle.rules.specs.Answers.{refused, answers}
 use Rattle.rules.specs.Calls.{own_level, new_namespace, set_children, unshare_refusals, unshare_gives, unshare, named, setns_refusals, setns_gives, setns}
