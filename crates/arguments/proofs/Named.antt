@@ -11,7 +11,7 @@ use lib.IntN.{ℤ, pos, negsuc}
 use Rattle.rules.specs.Calls.{within, natural, named, targets, others, names_group}
 use Rattle.table.specs.Limits.{process_slots, signals, sigkill, sigstop}
 use Rattle.rules.specs.Read.{View, find}
-use Rattle.table.specs.Tests.{◌and◌, ◌or◌, if◌then◌else◌}
+use Rattle.table.specs.Tests.{◌and◌, ◌or◌, when◌then◌else◌}
 use Rattle.arguments.specs.Arguments.{names_everyone, byte_values}
 
 -- ---- numbers of processes
@@ -36,7 +36,7 @@ module _ (v : View) (c : ℕ) where
 
   -- not a group and not everyone: one
   pub targets_one : (n : ℤ) → names_group n ≡ false → names_everyone n ≡ false
-      → targets v c n ≡ (if eqb (named v c n) process_slots then [] else named v c n ∷ [])
+      → targets v c n ≡ (when eqb (named v c n) process_slots then [] else named v c n ∷ [])
   unfolding targets
   targets_one (pos n) g h = refl
   targets_one (negsuc n) g h = absurd (true≢false (sym (not-false (eqb n 0) g) ∙ h))

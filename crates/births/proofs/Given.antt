@@ -17,7 +17,7 @@ use Rattle.table.specs.Limits.{levels}
 use Rattle.rules.specs.Pids.{next_pid, free_slot, free_namespace_slot}
 use Rattle.table.specs.Slots.{no_pid, pid_at}
 use Rattle.rules.specs.Read.{View, view, taken, above_at}
-use Rattle.table.specs.Tests.{if◌then◌else◌}
+use Rattle.table.specs.Tests.{when◌then◌else◌}
 use Rattle.table.specs.declared.Pid.{Pid}
 use Rattle.table.specs.declared.Table.{Table}
 use Rattle.table.specs.Records.{to_pid}
@@ -48,7 +48,7 @@ clone_new_given t u r c n slot own level e p l q s b =
 pub child_number : (v : View) → Facts v → (caller n m : ℕ) → Below v n m → v.level m < levels → pid_at (newborn v caller n) (v.level m) ≡ next_pid v m
 unfolding newborn new_pids
 child_number v p caller n m b h =
-    let f : ℕ → Pid → Pid = λ l x. if leb l (v.level n) then to_pid (next_pid v (above_at v n l)) else x in
+    let f : ℕ → Pid → Pid = λ l x. when leb l (v.level n) then to_pid (next_pid v (above_at v n l)) else x in
     ap (λ x. x.0)
     (changed_at f no_pid levels (v.level m) (replicate levels no_pid) h h ∙ pick_yes _ _ _ (le-leb (v.level m) (v.level n) (below_level v p n m b)))
     ∙ ap (next_pid v) (above_same v p n m b)

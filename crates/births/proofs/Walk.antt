@@ -19,7 +19,7 @@ use Rattle.table.specs.Limits.{levels, process_slots, namespace_slots}
 use Rattle.rules.specs.Pids.{next_pid}
 use Rattle.table.specs.Slots.{namespace, no_pid, no_process, no_namespace, put}
 use Rattle.rules.specs.Read.{View, view, below, climb, up_by, above_at}
-use Rattle.table.specs.Tests.{if◌then◌else◌, changed_to}
+use Rattle.table.specs.Tests.{when◌then◌else◌, changed_to}
 use Rattle.table.specs.declared.Life.{Life}
 use Rattle.table.specs.declared.Life.TheVariants.{Unborn, Alive, Dead}
 use Rattle.table.specs.declared.Namespace.{Namespace}
@@ -76,7 +76,7 @@ module _ (v : View) where
   pub numbers_all : (n : ℕ) → numbers_on v (suc (v.level n)) n none ≡ new_pids v n
   unfolding new_pids above_at
   numbers_all n =
-      let f : ℕ → Pid → Pid = λ l p. if leb l (v.level n) then to_pid (next_pid v (above_at v n l)) else p in
+      let f : ℕ → Pid → Pid = λ l p. when leb l (v.level n) then to_pid (next_pid v (above_at v n l)) else p in
       let long : length (numbers_on v (suc (v.level n)) n none) ≡ levels = numbers_length (suc (v.level n)) n none in
       ext_get_or no_pid _ _ (long ∙ sym (changed_length f no_pid levels none))
       (λ l h.
@@ -124,11 +124,11 @@ module _ (v : View) (child : ℕ) where
   there : (at m : ℕ) (ns : List Namespace) → eqb at m ≡ false → get_or (set ns at (joins at (get_or ns at no_namespace))) m no_namespace ≡ get_or ns m no_namespace
   there at m ns e = get_or-set_other ns at m _ no_namespace (λ q. eqb-false at m e (sym q))
 
-  twice : (b : Bool) (m : ℕ) (s : Namespace) → (if b then joins m (joins m s) else joins m s) ≡ joins m s
+  twice : (b : Bool) (m : ℕ) (s : Namespace) → (when b then joins m (joins m s) else joins m s) ≡ joins m s
   twice true m s = life_twice child s.life (next_pid v m) s refl
   twice false m s = refl
 
-  joins_at : (k at m : ℕ) (ns : List Namespace) → m < length ns → get_or (joins_on v child (suc k) at ns) m no_namespace ≡ (if climb v.up k at m then joins m (get_or ns m no_namespace) else get_or ns m no_namespace)
+  joins_at : (k at m : ℕ) (ns : List Namespace) → m < length ns → get_or (joins_on v child (suc k) at ns) m no_namespace ≡ (when climb v.up k at m then joins m (get_or ns m no_namespace) else get_or ns m no_namespace)
   unfolding joins_on climb
   joins_at zero at m ns h =
       by_bool (eqb at m) (λ e. here at m ns h e ∙ sym (pick_yes _ _ _ e)) (λ e. there at m ns e ∙ sym (pick_no _ _ _ e))
@@ -138,8 +138,8 @@ module _ (v : View) (child : ℕ) where
       let next : List Namespace = set ns at (joins at (get_or ns at no_namespace)) in
       joins_at k (v.up at) m next (omega (arith, length-set ns at (joins at (get_or ns at no_namespace))))
       ∙ by_bool (eqb at m)
-      (λ e. ap (λ y. if b then joins m y else y) (here at m ns h e) ∙ twice b m s ∙ sym (pick_yes _ _ _ (pick_yes (eqb at m) true b e)))
-      (λ e. ap (λ y. if b then joins m y else y) (there at m ns e) ∙ sym (ap (λ c. if c then joins m s else s) (pick_no (eqb at m) true b e)))
+      (λ e. ap (λ y. when b then joins m y else y) (here at m ns h e) ∙ twice b m s ∙ sym (pick_yes _ _ _ (pick_yes (eqb at m) true b e)))
+      (λ e. ap (λ y. when b then joins m y else y) (there at m ns e) ∙ sym (ap (λ c. when c then joins m s else s) (pick_no (eqb at m) true b e)))
 
   pub joins_all : (n : ℕ) (ns : List Namespace) → length ns ≡ namespace_slots → joins_on v child (suc (v.level n)) n ns ≡ changed_to (joined v child n) no_namespace namespace_slots ns
   unfolding joined below

@@ -4,7 +4,7 @@ use Rattle.std.specs.Prelude.{ℕ, List}
 use Rattle.rules.specs.Births.{newborn, joined}
 use Rattle.table.specs.Slots.{is_unborn, put, put_namespace, changed}
 use Rattle.rules.specs.Read.{view}
-use Rattle.table.specs.Tests.{if◌then◌else◌}
+use Rattle.table.specs.Tests.{when◌then◌else◌}
 use Rattle.table.specs.declared.Life.TheVariants.{Alive}
 use Rattle.table.specs.declared.Namespace.{Namespace}
 use Rattle.table.specs.declared.Pid.{Pid}
@@ -32,4 +32,4 @@ child_with caller n x pids = with_traits (with_parent (of_namespace (blank_proce
 -- child is its init
 abbrev pub joined_by : ℕ → ℕ → Namespace → Namespace
 joined_by child k s =
-    with_life (with_last s k) (if is_unborn s.life then Alive (record { 0 = child }) else s.life)
+    with_life (with_last s k) (when is_unborn s.life then Alive (record { 0 = child }) else s.life)

@@ -23,7 +23,7 @@ use Rattle.table.specs.Limits.{deepest}
 use Rattle.table.specs.Fresh.{empty_process}
 use Rattle.table.specs.Slots.{process, namespace, pid_at, put}
 use Rattle.rules.specs.Read.{View, view, pid_seen, pid_in}
-use Rattle.table.specs.Tests.{if◌then◌else◌}
+use Rattle.table.specs.Tests.{when◌then◌else◌}
 use Rattle.table.specs.declared.Namespace.{Namespace}
 use Rattle.table.specs.declared.NsSlot.{NsSlot}
 use Rattle.table.specs.declared.Outcome.{Outcome}
@@ -78,7 +78,7 @@ module _ (t : Table) (c : ℕ) (p : Process) (e : p ≡ get_or t.processes c emp
 -- ---- a call that makes a namespace, by a caller at the level l
 
 -- a and b are the verdicts on the last refusals, and x is what `is_elsewhere` gives
-pub may_make_is : (t : Table) (c l : ℕ) (full x : Bool) (a b r : Verdict) → x ≡ elsewhere (view t) c → a ≡ (if full then Refused Eagain else Granted) → b ≡ (if leb deepest l then Refused Enospc else a) → r ≡ (if x then Refused Einval else b)
+pub may_make_is : (t : Table) (c l : ℕ) (full x : Bool) (a b r : Verdict) → x ≡ elsewhere (view t) c → a ≡ (when full then Refused Eagain else Granted) → b ≡ (when leb deepest l then Refused Enospc else a) → r ≡ (when x then Refused Einval else b)
     → r ≡ verdict (refusals_at (view t) c l full)
 may_make_is t c l full x a b r away last deep all = one_more Einval x _ b _ r all away (one_more Enospc (leb deepest l) (leb deepest l) a _ b deep refl last)
 

@@ -20,7 +20,7 @@ use Rattle.table.specs.Limits.{process_slots, namespace_slots}
 use Rattle.rules.specs.Pids.{next_pid, free_slot, free_namespace_slot}
 use Rattle.table.specs.Slots.{namespace, is_dead}
 use Rattle.rules.specs.Read.{view}
-use Rattle.table.specs.Tests.{◌or◌, if◌then◌else◌}
+use Rattle.table.specs.Tests.{◌or◌, when◌then◌else◌}
 use Rattle.table.specs.declared.Answer.TheVariants.{Number}
 use Rattle.table.specs.declared.Namespace.{Namespace}
 use Rattle.table.specs.declared.Outcome.{Outcome}
@@ -43,7 +43,7 @@ born_is t u c k slot p e q f =
 
 -- s is the namespace read for the caller's children, b whether it is dead, and a the verdict on the room
 pub may_clone_is : (t : Table) (c i : ℕ) (p : Process) (s : Namespace) (b : Bool) (a r : Verdict) → p ≡ get_or t.processes c empty_process → s ≡ namespace t p.children.0 → b ≡ is_dead s.life
-    → a ≡ (if eqb i process_slots then Refused Eagain else Granted) → r ≡ (if b then Refused Enomem else a) → i ≡ free_slot (view t) → r ≡ verdict (clone_refusals (view t) c)
+    → a ≡ (when eqb i process_slots then Refused Eagain else Granted) → r ≡ (when b then Refused Enomem else a) → i ≡ free_slot (view t) → r ≡ verdict (clone_refusals (view t) c)
 may_clone_is t c i p s b a r e d q last all f =
     one_more Enomem b _ a _ r all
     (q ∙ ap (λ x. is_dead x.life) d ∙ ap (λ n. is_dead (namespace t n).life) (read_at t c p e).children)

@@ -19,7 +19,7 @@ use Rattle.table.specs.Limits.{process_slots, signals, sigcont, sigstop}
 use Rattle.table.specs.Slots.{process, namespace, init_of, put}
 use Rattle.rules.specs.Read.{View, view, is_init, living}
 use Rattle.table.specs.SignalSets.{has}
-use Rattle.table.specs.Tests.{◌and◌, ◌or◌, if◌then◌else◌}
+use Rattle.table.specs.Tests.{◌and◌, ◌or◌, when◌then◌else◌}
 use Rattle.table.specs.declared.Action.{Action}
 use Rattle.table.specs.declared.Action.TheVariants.{Nothing, Resume, Stop, Finish, Pend}
 use Rattle.table.specs.declared.End.TheVariants.{Signaled}
@@ -62,7 +62,7 @@ module _ (s : ℕ) where
       (λ z. choose Low (eqb s sigcont) (λ y. never Resume refl)
       (λ y. choose Low (eqb s sigstop or eqb s 20 or eqb s 21 or eqb s 22) (λ x. never Stop refl) (λ x. never Finish refl)))
 
-  unless_init : (init : Bool) → Low (if init then Nothing else default_action s)
+  unless_init : (init : Bool) → Low (when init then Nothing else default_action s)
   unless_init init = choose Low init (λ z. never Nothing refl) (λ z. default_low)
 
   action_low : (living init : Bool) (own handled from : ℕ) → handled < 2 ^ signals → Low (action_by living init own handled from s)

@@ -11,7 +11,7 @@ use lib.Seq.{get_or-set_other}
 use native.Mathlib.Numerals.{add-one}
 use native.Mathlib.Omega.{arith}
 use Rattle.table.proofs.Chains.{pick_yes, pick_no}
-use Rattle.table.specs.Tests.{◌or◌, if◌then◌else◌, insert}
+use Rattle.table.specs.Tests.{◌or◌, when◌then◌else◌, insert}
 use Rattle.table.specs.declared.ProcSlot.{ProcSlot}
 use Rattle.delivery.proofs.Slots.{no_one, numbers_take, numbers_take_set, rest, rest_all, rest_cons, rest_none}
 use Rattle.delivery.specs.Targets.{numbers}
@@ -20,7 +20,7 @@ use Rattle.delivery.specs.Targets.{numbers}
 
 -- what is still to be stored: the one that is held and the rest, or the rest with s inserted
 abbrev pub to_store : (ℕ → ℕ) → ℕ → Bool → ℕ → List ℕ → List ℕ
-to_store f s placed held r = if placed then held ∷ r else insert f s r
+to_store f s placed held r = when placed then held ∷ r else insert f s r
 
 pub record Placing (f : ℕ → ℕ) (s len : ℕ) (l₀ l : List ProcSlot) (held : ProcSlot) (placed : Bool) (i : ℕ) : Type 0 where
   pub within : i ≤ len

@@ -21,7 +21,7 @@ use Rattle.table.specs.Fresh.{empty_process}
 use Rattle.table.specs.Limits.{deepest, namespace_slots, process_slots}
 use Rattle.table.specs.Slots.{process, namespace, pid_at, no_process, no_namespace, is_ended, is_dead, init_of, put, changed}
 use Rattle.rules.specs.Read.{View, view, init, is_init, taken, child_of, seen, below, climb}
-use Rattle.table.specs.Tests.{◌and◌, if◌then◌else◌, changed_to}
+use Rattle.table.specs.Tests.{◌and◌, when◌then◌else◌, changed_to}
 use Rattle.table.specs.declared.End.{End}
 use Rattle.table.specs.declared.Life.TheVariants.{Dead}
 use Rattle.table.specs.declared.Namespace.{Namespace}
@@ -34,7 +34,7 @@ use Rattle.ending.specs.Ending.{killed, end_namespace, once_swept, swept, end_in
 -- ---- a table that a subtree has gone down in, by its slots
 
 module _ (v : View) (n : ℕ) (t u : Table) (s : Step v n t u) (d : Down v n u) where
-  pub fallen_process : (i : ℕ) → i < process_slots → process u i ≡ (if seen v n i then killed (process t i) else process t i)
+  pub fallen_process : (i : ℕ) → i < process_slots → process u i ≡ (when seen v n i then killed (process t i) else process t i)
   fallen_process i h =
       ⊎_elim
       (λ (q : process u i ≡ process t i).
@@ -44,7 +44,7 @@ module _ (v : View) (n : ℕ) (t u : Table) (s : Step v n t u) (d : Down v n u) 
       (λ (q : Seen v n i × (process u i ≡ killed (process t i))). q.1 ∙ sym (pick_yes (seen v n i) (killed (process t i)) (process t i) q.0))
       (s.processes i h)
 
-  pub fallen_namespace : (m : ℕ) → m < namespace_slots → namespace u m ≡ (if below v m n then with_life (namespace t m) Dead else namespace t m)
+  pub fallen_namespace : (m : ℕ) → m < namespace_slots → namespace u m ≡ (when below v m n then with_life (namespace t m) Dead else namespace t m)
   fallen_namespace m h =
       ⊎_elim
       (λ (q : namespace u m ≡ namespace t m).
@@ -58,7 +58,7 @@ module _ (v : View) (n : ℕ) (t u : Table) (s : Step v n t u) (d : Down v n u) 
 
 -- every process of the subtree not yet ended is ended by signal 9, and every namespace of it is dead
 abbrev pub fallen : Table → ℕ → Table
-fallen t n = changed t (λ i q. if seen (view t) n i then killed q else q) (namespace_dies (view t) n)
+fallen t n = changed t (λ i q. when seen (view t) n i then killed q else q) (namespace_dies (view t) n)
 
 pub namespace_end_is : (t : Table) → length t.processes ≡ process_slots → length t.namespaces ≡ namespace_slots → Facts (view t) → (n : ℕ) → Stands (view t) n → end_namespace deepest t n ≡ fallen t n
 unfolding namespace_dies
@@ -75,7 +75,7 @@ namespace_end_is t count namespace_count f n stands =
     fallen_namespace (view t) n t _ s d m k ∙ sym (changed_at (namespace_dies (view t) n) no_namespace namespace_slots m t.namespaces k (omega arith))))
   where
     ends : ℕ → Process → Process
-    ends i q = if seen (view t) n i then killed q else q
+    ends i q = when seen (view t) n i then killed q else q
 
 -- ---- the end of an init
 
@@ -114,7 +114,7 @@ module _ (t : Table) (count : length t.processes ≡ process_slots) (namespace_c
   at_init : process w p ≡ as_ended (process t p) e
   at_init = get_or-set_same u.processes p (as_ended (process t p) e) no_process (omega (arith, step.count, count, low))
 
-  at_other : (i : ℕ) → i < process_slots → (i ≡ p → ⊥) → process w i ≡ (if seen v n i then killed (process t i) else process t i)
+  at_other : (i : ℕ) → i < process_slots → (i ≡ p → ⊥) → process w i ≡ (when seen v n i then killed (process t i) else process t i)
   at_other i h o = get_or-set_other u.processes p i (as_ended (process t p) e) no_process o ∙ fallen_process v n t u step down i h
 
   -- what no end changes reads as before

@@ -23,7 +23,7 @@ use Rattle.table.proofs.MapLoops.{changed_length, changed_at}
 use Rattle.table.specs.Limits.{deepest, namespace_slots, process_slots}
 use Rattle.table.specs.Slots.{process, namespace, pid_at, no_process, no_namespace, is_ended, is_unborn, is_alive, is_dead, init_of, put}
 use Rattle.rules.specs.Read.{View, view, alive, unborn, init, taken, namespace_taken}
-use Rattle.table.specs.Tests.{◌and◌, if◌then◌else◌}
+use Rattle.table.specs.Tests.{◌and◌, when◌then◌else◌}
 use Rattle.table.specs.declared.Life.{Life}
 use Rattle.table.specs.declared.Life.TheVariants.{Unborn, Alive, Dead}
 use Rattle.table.specs.declared.Namespace.{Namespace}
@@ -482,7 +482,7 @@ module _ (t : Table) (count : length t.processes ≡ process_slots) (namespace_c
           own : (process w i).own.0 ≡ v.own i
           own = own_at top w s i h
 
-          falling : So (falls_with w.namespaces n i (process w i)) → Dec (v.own i ≡ n) → TurnedAt n i w (if eqb (process w i).own.0 n then put w i (killed (process w i)) else lower left w (process w i).own.0)
+          falling : So (falls_with w.namespaces n i (process w i)) → Dec (v.own i ≡ n) → TurnedAt n i w (when eqb (process w i).own.0 n then put w i (killed (process w i)) else lower left w (process w i).own.0)
           falling g (yes e) =
               subst (TurnedAt n i w) (sym (pick_yes (eqb (process w i).own.0 n) (put w i (killed (process w i))) _ (eq-eqb _ _ (own ∙ e))))
               (member_turn top n stands inside (lower left) ends i h w s o (sym (taken_at top w s i h) ∙ falls_taken w.namespaces n i (process w i) g) e)

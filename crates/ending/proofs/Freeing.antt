@@ -21,7 +21,7 @@ use Rattle.table.specs.Fresh.{empty_namespace}
 use Rattle.table.specs.Limits.{namespace_slots, process_slots}
 use Rattle.table.specs.Slots.{process, namespace, no_process, no_namespace, is_unborn}
 use Rattle.rules.specs.Read.{View, view, taken, below, climb, children}
-use Rattle.table.specs.Tests.{◌and◌, ◌or◌, if◌then◌else◌, any}
+use Rattle.table.specs.Tests.{◌and◌, ◌or◌, when◌then◌else◌, any}
 use Rattle.table.specs.declared.Life.{Life}
 use Rattle.table.specs.declared.Life.TheVariants.{Unborn, Alive, Dead}
 use Rattle.table.specs.declared.Namespace.{Namespace}
@@ -104,8 +104,8 @@ freed_all t u up level marks i count a b c m s h =
     ap₂ (λ x y. record { processes = x; namespaces = y })
     (s ∙ sym (changed_none no_process process_slots t.processes))
     (map_done namespace_slots (once_freed up level (mark_at marks)) no_namespace t.namespaces u.namespaces i m h
-    ∙ changed_same (once_freed up level (mark_at marks)) (λ n x. if kept (view t) n then x else empty_namespace) no_namespace namespace_slots t.namespaces
-    (λ n k. ap (λ (y : Bool). if y then namespace t n else empty_namespace)
+    ∙ changed_same (once_freed up level (mark_at marks)) (λ n x. when kept (view t) n then x else empty_namespace) no_namespace namespace_slots t.namespaces
+    (λ n k. ap (λ (y : Bool). when y then namespace t n else empty_namespace)
     (ap (λ (l : List Bool). kept_for up level (mark_at l) n) c ∙ ap₂ (λ (p q : ℕ → ℕ). kept_for p q (mark_at (marks_of t)) n) a b
     ∙ kept_is t count n k)))
 
@@ -130,7 +130,7 @@ pub freed_blank : (up level : ℕ → ℕ) (mark : ℕ → Bool) (n : ℕ) (s : 
 unfolding once_freed
 freed_blank up level mark n s r e h = go (kept_for up level mark n)
   where
-    go : (b : Bool) → s ≡ (if b then s else empty_namespace)
+    go : (b : Bool) → s ≡ (when b then s else empty_namespace)
     go true = refl
     go false = blank_is s (sym e ∙ h)
 

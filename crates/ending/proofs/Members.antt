@@ -12,7 +12,7 @@ use Rattle.table.proofs.FoldLoops.{turns, Turned, fold_done}
 use Rattle.table.specs.Fresh.{empty_process}
 use Rattle.table.specs.Limits.{deepest, process_slots}
 use Rattle.table.specs.Slots.{process, pid_at, no_namespace, is_ended, init_of, put}
-use Rattle.table.specs.Tests.{◌and◌, if◌then◌else◌}
+use Rattle.table.specs.Tests.{◌and◌, when◌then◌else◌}
 use Rattle.table.specs.declared.End.{End}
 use Rattle.table.specs.declared.Namespace.{Namespace}
 use Rattle.table.specs.declared.Process.{Process}
@@ -95,7 +95,7 @@ member_down (suc left) t n i v o z e =
 -- ---- the loop over the slots
 
 abbrev pub turn : ℕ → ℕ → ℕ → Table → Table
-turn left n i t = if falls_with t.namespaces n i (process t i) then end_member left t n i else t
+turn left n i t = when falls_with t.namespaces n i (process t i) then end_member left t n i else t
 
 -- r says whether the process at i falls
 module _ (left n i : ℕ) (t : Table) (r : Bool) (e : r ≡ falls_with t.namespaces n i (process t i)) where

@@ -5,7 +5,7 @@ use Rattle.table.specs.Fresh.{empty_namespace}
 use Rattle.table.specs.Limits.{namespace_slots, process_slots}
 use Rattle.table.specs.Slots.{process}
 use Rattle.rules.specs.Read.{climb}
-use Rattle.table.specs.Tests.{◌and◌, ◌or◌, if◌then◌else◌, any}
+use Rattle.table.specs.Tests.{◌and◌, ◌or◌, when◌then◌else◌, any}
 use Rattle.table.specs.declared.Namespace.{Namespace}
 use Rattle.table.specs.declared.Table.{Table}
 use Rattle.tree.specs.Tree.{mark_process}
@@ -27,4 +27,4 @@ unfoldable pub kept_for : (ℕ → ℕ) → (ℕ → ℕ) → (ℕ → Bool) →
 kept_for up level mark n = eqb n 0 or any namespace_slots (keeps up level mark n)
 
 unfoldable pub once_freed : (ℕ → ℕ) → (ℕ → ℕ) → (ℕ → Bool) → ℕ → Namespace → Namespace
-once_freed up level mark n s = if kept_for up level mark n then s else empty_namespace
+once_freed up level mark n s = when kept_for up level mark n then s else empty_namespace

@@ -26,7 +26,7 @@ use Rattle.table.specs.Fresh.{empty_process}
 use Rattle.table.specs.Limits.{signals, sigkill, sigstop}
 use Rattle.table.specs.Slots.{process, put}
 use Rattle.table.specs.SignalSets.{with_signal, without_signal, lowest_signal}
-use Rattle.table.specs.Tests.{◌or◌, if◌then◌else◌}
+use Rattle.table.specs.Tests.{◌or◌, when◌then◌else◌}
 use Rattle.table.specs.declared.Outcome.{Outcome}
 use Rattle.table.specs.declared.Process.{Process}
 use Rattle.table.specs.declared.Refusal.TheVariants.{Einval}
@@ -38,11 +38,11 @@ use Rattle.table.specs.Records.{with_traits}
 
 -- what `handling` makes of a process, where h, q and x are the callees' results
 module _ (p : Process) (s h : ℕ) (x : Traits) (on : Bool) where
-  pub handles : s < signals → on ≡ true → h ≡ (if ltb s signals then with_signal p.traits.handled s else p.traits.handled) → x ≡ with_signals p.traits h p.traits.pending → with_traits p x ≡ (if on then handle_on p s else handle_off p s)
+  pub handles : s < signals → on ≡ true → h ≡ (when ltb s signals then with_signal p.traits.handled s else p.traits.handled) → x ≡ with_signals p.traits h p.traits.pending → with_traits p x ≡ (when on then handle_on p s else handle_off p s)
   unfolding handle_on
   handles l b e z = if_yes on _ _ _ b (rw (z, with_fitting p.traits.handled s h l e))
 
-  pub ignores : (q : ℕ) → on ≡ false → h ≡ without_signal p.traits.handled s → q ≡ without_signal p.traits.pending s → x ≡ with_signals p.traits h q → with_traits p x ≡ (if on then handle_on p s else handle_off p s)
+  pub ignores : (q : ℕ) → on ≡ false → h ≡ without_signal p.traits.handled s → q ≡ without_signal p.traits.pending s → x ≡ with_signals p.traits h q → with_traits p x ≡ (when on then handle_on p s else handle_off p s)
   unfolding handle_off
   ignores q b e d z = if_no on _ _ _ b (rw (z, e, d))
 
@@ -51,7 +51,7 @@ abbrev cannot : ℤ → Bool
 cannot s = not (within 1 signals s) or eqb (natural s) sigkill or eqb (natural s) sigstop
 
 -- b is what `cannot_handle` gives of the argument z
-pub may_handle_is : (z : ℤ) (fits : SFits w32 z) (b : Bool) (r : Verdict) → b ≡ cannot (to_z w32 (of_z w32 z)) → r ≡ (if b then Refused Einval else Granted) → r ≡ verdict (handle_refusals z)
+pub may_handle_is : (z : ℤ) (fits : SFits w32 z) (b : Bool) (r : Verdict) → b ≡ cannot (to_z w32 (of_z w32 z)) → r ≡ (when b then Refused Einval else Granted) → r ≡ verdict (handle_refusals z)
 may_handle_is z fits b r e a = one_more Einval b _ Granted _ r a (e ∙ ap cannot (to_z-of_z w32 z fits)) refl
 
 -- v is the verdict of `may_handle`
@@ -75,15 +75,15 @@ module _ (z : ℤ) (fits : SFits w32 z) (v : Verdict) (e : v ≡ verdict (handle
   handle_asks_of s g q = subst (λ k. k < signals) (sym (signal_is_it s g q)) (handle_asks g)
 
   pub handle_does : (t u : Table) (c s : ℕ) (p q : Process) (on : Bool) (r : Outcome) → v ≡ Granted → p ≡ get_or t.processes c empty_process
-      → s ≡ natural (to_z w32 (of_z w32 z)) % byte_values → q ≡ (if on then handle_on p s else handle_off p s) → u ≡ put t c q → r ≡ answers u 0 → r ≡ handle t c z on
+      → s ≡ natural (to_z w32 (of_z w32 z)) % byte_values → q ≡ (when on then handle_on p s else handle_off p s) → u ≡ put t c q → r ≡ answers u 0 → r ≡ handle t c z on
   unfolding handle
   handle_does t u c s p q on r g d k m w a =
       judged_grants t (handle_refusals z) (handle_gives t c z on) v ruled r g
       (a
       ∙ ap (λ x. answers x 0)
       (w
-      ∙ ap (put t c) (m ∙ ap (λ j. if on then handle_on p j else handle_off p j) (signal_is_it s g k ∙ ap natural (to_z-of_z w32 z fits)))
-      ∙ put_changed t c p (λ x. if on then handle_on x (natural z) else handle_off x (natural z)) d))
+      ∙ ap (put t c) (m ∙ ap (λ j. when on then handle_on p j else handle_off p j) (signal_is_it s g k ∙ ap natural (to_z-of_z w32 z fits)))
+      ∙ put_changed t c p (λ x. when on then handle_on x (natural z) else handle_off x (natural z)) d))
 
 -- p is the process read at the caller's slot c, and s the lowest of its pending signals
 module _ (t : Table) (c s : ℕ) (p : Process) (r : Outcome) (e : p ≡ get_or t.processes c empty_process) (h : s ≡ lowest_signal p.traits.pending) where

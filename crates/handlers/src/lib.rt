@@ -5,7 +5,7 @@ ghost use Rattle.std.specs.Prelude.{◌≡◌, ◌<◌};
 ghost use Rattle.outcomes.specs.Verdicts.{verdict};
 ghost use Rattle.rules.specs.Calls.{handle_on, handle_off, handle_refusals, handle as handle_of, poll as poll_of};
 ghost use Rattle.table.specs.Limits.{signals};
-ghost use Rattle.table.specs.Tests.{if◌then◌else◌};
+ghost use Rattle.table.specs.Tests.{when◌then◌else◌};
 
 use arguments::{cannot_handle, signal_of};
 use outcomes::{Verdict, answers, refuse_if, refused};
@@ -15,7 +15,7 @@ use table::{Outcome, ProcSlot, Process, Refusal, SIGNALS, Table};
 // A process that handles a signal, or no longer does: then a pending one is dropped.
 fn handling(p: Process, s: u8, on: bool) -> Process
     requires { s < signals }
-    ensures { result ≡ (if on then handle_on p s else handle_off p s) }
+    ensures { result ≡ (when on then handle_on p s else handle_off p s) }
 {
     let x = p.traits;
     if on {

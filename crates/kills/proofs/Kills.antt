@@ -34,7 +34,7 @@ use Rattle.rules.specs.Freeing.{freed}
 use Rattle.table.specs.Fresh.{empty_process}
 use Rattle.table.specs.Limits.{process_slots, signals}
 use Rattle.rules.specs.Read.{View, view}
-use Rattle.table.specs.Tests.{if◌then◌else◌}
+use Rattle.table.specs.Tests.{when◌then◌else◌}
 use Rattle.table.specs.declared.Outcome.{Outcome}
 use Rattle.table.specs.declared.Process.{Process}
 use Rattle.table.specs.declared.Refusal.TheVariants.{Einval, Enosys, Esrch}
@@ -44,7 +44,7 @@ use Rattle.table.specs.declared.Table.{Table}
 -- ---- the verdict: x is what `names_group` gives of the first argument, n, y what `is_signal` gives of the second, z, and
 -- nobody whether none was found
 
-module _ (n z : ℤ) (fits_n : SFits w32 n) (fits : SFits w32 z) (nobody x y : Bool) (a b r : Verdict) (e : x ≡ names_group (to_z w32 (of_z w32 n))) (d : y ≡ within 0 signals (to_z w32 (of_z w32 z))) (last : a ≡ (if nobody then Refused Esrch else Granted)) (group : b ≡ (if x then Refused Enosys else a)) (all : r ≡ (if not y then Refused Einval else b)) where
+module _ (n z : ℤ) (fits_n : SFits w32 n) (fits : SFits w32 z) (nobody x y : Bool) (a b r : Verdict) (e : x ≡ names_group (to_z w32 (of_z w32 n))) (d : y ≡ within 0 signals (to_z w32 (of_z w32 z))) (last : a ≡ (when nobody then Refused Esrch else Granted)) (group : b ≡ (when x then Refused Enosys else a)) (all : r ≡ (when not y then Refused Einval else b)) where
   signal : y ≡ within 0 signals z
   signal = d ∙ ap (within 0 signals) (to_z-of_z w32 z fits)
 
@@ -138,10 +138,10 @@ module _ (t : Table) (c i : ℕ) (n z : ℤ) (fits_n : SFits w32 n) (fits : SFit
   slot = e ∙ ap (named (view t) c) (to_z-of_z w32 n fits_n)
 
   -- the list of the one, if there is one
-  the_one : names_group n ≡ false → targets (view t) c n ≡ (if eqb i process_slots then [] else i ∷ [])
-  the_one g = targets_one (view t) c n g o ∙ ap (λ j. if eqb j process_slots then [] else j ∷ []) (sym slot)
+  the_one : names_group n ≡ false → targets (view t) c n ≡ (when eqb i process_slots then [] else i ∷ [])
+  the_one g = targets_one (view t) c n g o ∙ ap (λ j. when eqb j process_slots then [] else j ∷ []) (sym slot)
 
-  counts : (b : Bool) → b ≡ eqb (length (if b then [] else i ∷ [])) 0
+  counts : (b : Bool) → b ≡ eqb (length (when b then [] else i ∷ [])) 0
   counts true = refl
   counts false = refl
 

@@ -8,7 +8,7 @@ use Rattle.requests.specs.declared.Told.{Told}
 use Rattle.rules.specs.Pids.{next_pid}
 use Rattle.rules.specs.Read.{view}
 use Rattle.table.specs.Limits.{namespace_slots}
-use Rattle.table.specs.Tests.{if◌then◌else◌}
+use Rattle.table.specs.Tests.{when◌then◌else◌}
 use Rattle.turns.specs.Turns.{turn}
 
 -- The host held m, was told x, and holds the last one then: as one call makes it.
@@ -17,4 +17,4 @@ Called m c r x after = (x ≡ (turn m c r).told) × (after ≡ (turn m c r).mirr
 
 -- The number that the namespace at a slot would give next, or 0 where the slot is past the table's end.
 unfoldable pub next_number : Mirror → ℕ → ℕ
-next_number m n = if ltb n namespace_slots then next_pid (view (table_from m)) n else 0
+next_number m n = when ltb n namespace_slots then next_pid (view (table_from m)) n else 0

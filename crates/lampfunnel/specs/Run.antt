@@ -3,7 +3,7 @@ use Rattle.std.specs.Prelude.{ℕ, ◌*◌, true, false, List, ◌++◌, ltb, le
 use Rattle.lines.specs.Runs.{run}
 use Rattle.lines.specs.Splitting.{lines}
 use Rattle.script.specs.Sizes.{answer_bytes}
-use Rattle.table.specs.Tests.{if◌then◌else◌}
+use Rattle.table.specs.Tests.{when◌then◌else◌}
 
 -- "the buffer is too short"
 abbrev pub short : ℕ
@@ -15,9 +15,9 @@ needed script = answer_bytes * length (lines script)
 
 -- The number that is told for a buffer of so many bytes: how many bytes the answers are.
 unfoldable pub told : List ℕ → ℕ → ℕ
-told script size = if ltb size (needed script) then short else length (run script)
+told script size = when ltb size (needed script) then short else length (run script)
 
 -- What the buffer holds then: the answers, and after them what it held before.
 unfoldable pub filled : List ℕ → List ℕ → List ℕ
 filled script before =
-    if ltb (length before) (needed script) then before else run script ++ drop (length (run script)) before
+    when ltb (length before) (needed script) then before else run script ++ drop (length (run script)) before

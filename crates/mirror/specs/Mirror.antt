@@ -4,7 +4,7 @@ use Rattle.std.specs.Prelude.{ℕ, Bool, [], map, eqb, length, get_or, replicate
 use Rattle.table.specs.Fresh.{empty_process, empty_namespace}
 use Rattle.table.specs.Limits.{process_slots, namespace_slots}
 use Rattle.table.specs.Slots.{no_pid}
-use Rattle.table.specs.Tests.{◌and◌, all, if◌then◌else◌}
+use Rattle.table.specs.Tests.{◌and◌, all, when◌then◌else◌}
 use Rattle.table.specs.declared.End.TheVariants.{Exited, Signaled}
 use Rattle.table.specs.declared.Life.{Life}
 use Rattle.table.specs.declared.Life.TheVariants.{Unborn, Alive, Dead}
@@ -77,14 +77,14 @@ mirror_of t = record { processes = map process_row t.processes; namespaces = map
 
 unfoldable pub state_from : ℕ → ℕ → State
 state_from kind value =
-    if eqb kind 0 then Running
-    else (if eqb kind 1 then Stopped
-    else (if eqb kind 2 then Ended (Exited value) else Ended (Signaled value)))
+    when eqb kind 0 then Running
+    else (when eqb kind 1 then Stopped
+    else (when eqb kind 2 then Ended (Exited value) else Ended (Signaled value)))
 
 unfoldable pub life_from : ℕ → ℕ → Life
 life_from kind init =
-    if eqb kind 0 then Unborn
-    else (if eqb kind 1 then Alive (record { 0 = init }) else Dead)
+    when eqb kind 0 then Unborn
+    else (when eqb kind 1 then Alive (record { 0 = init }) else Dead)
 
 unfoldable pub process_from : ProcessRow → Process
 process_from r =
@@ -155,5 +155,5 @@ empty_table =
 -- call on them is refused as on any table that isn't sound.
 unfoldable pub table_from : Mirror → Table
 table_from m =
-    if is_written m then record { processes = map process_from m.processes; namespaces = map namespace_from m.namespaces }
+    when is_written m then record { processes = map process_from m.processes; namespaces = map namespace_from m.namespaces }
     else empty_table

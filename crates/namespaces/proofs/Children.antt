@@ -25,7 +25,7 @@ use Rattle.table.specs.Limits.{process_slots, namespace_slots}
 use Rattle.rules.specs.Pids.{free_namespace_slot}
 use Rattle.table.specs.Slots.{is_ended, put}
 use Rattle.rules.specs.Read.{view}
-use Rattle.table.specs.Tests.{◌or◌, if◌then◌else◌}
+use Rattle.table.specs.Tests.{◌or◌, when◌then◌else◌}
 use Rattle.table.specs.declared.Outcome.{Outcome}
 use Rattle.table.specs.declared.Process.{Process}
 use Rattle.table.specs.declared.Refusal.TheVariants.{Esrch}
@@ -41,7 +41,7 @@ children_set t u r c n p e d f =
 
 -- ---- setns: p is the process read at the slot i, and b whether it has ended
 
-pub may_setns_is : (t : Table) (i : ℕ) (p : Process) (b : Bool) (r : Verdict) → p ≡ get_or t.processes i empty_process → b ≡ is_ended p.state → r ≡ (if eqb i process_slots || b then Refused Esrch else Granted)
+pub may_setns_is : (t : Table) (i : ℕ) (p : Process) (b : Bool) (r : Verdict) → p ≡ get_or t.processes i empty_process → b ≡ is_ended p.state → r ≡ (when eqb i process_slots || b then Refused Esrch else Granted)
     → (c : ℕ) (n : ℤ) → i ≡ named (view t) c n → r ≡ verdict (setns_refusals (view t) c n)
 may_setns_is t i p b r e q all c n f =
     one_more Esrch _ _ Granted _ r all

@@ -21,7 +21,7 @@ use Rattle.table.proofs.Slots.{array_past}
 use Rattle.table.specs.Fresh.{empty_namespace}
 use Rattle.table.specs.Limits.{process_slots, namespace_slots, greatest_pid, restart_pid}
 use Rattle.table.specs.Slots.{process, namespace, no_process, no_namespace, pid_at}
-use Rattle.table.specs.Tests.{◌and◌, if◌then◌else◌, any}
+use Rattle.table.specs.Tests.{◌and◌, when◌then◌else◌, any}
 use Rattle.table.specs.declared.Namespace.{Namespace}
 use Rattle.table.specs.declared.Process.{Process}
 use Rattle.table.specs.declared.Table.{Table}
@@ -71,7 +71,7 @@ filled t f c₀ c i z e d w h =
 -- ---- what is found in them
 
 -- b: the slot is taken; c: its process is in the subtree; x: its number
-held_seen : (b c : Bool) (x k : ℕ) → 0 < k → c and eqb (if b then x else 0) k ≡ (b and c) and eqb x k
+held_seen : (b c : Bool) (x k : ℕ) → 0 < k → c and eqb (when b then x else 0) k ≡ (b and c) and eqb x k
 unfolding ◌and◌
 held_seen true c x k h = refl
 held_seen false c x k h = and_false_later c _ (ne_eqb 0 k (λ e. omega arith))
@@ -117,7 +117,7 @@ module _ (t : Table) (n : ℕ) (s : Namespace) (up levels owns pids : List ℕ) 
   first_free : Columns t n s up levels owns pids → (last : ℕ) → first_of m free last ≡ first_of m (free_pid (view t) n) last
   unfolding first_of
   first_free c last =
-      ap (λ x. if ltb x (last + 1 + m) and leb x greatest_pid then x else 0)
+      ap (λ x. when ltb x (last + 1 + m) and leb x greatest_pid then x else 0)
       (lowest_same _ _ m (last + 1) (λ j l. unheld_free t n s _ _ _ _ c.here c.ups c.depths c.own c.held j (omega arith)))
 
   pub marks_give_next : (r : ℕ) → r ≡ by_marks m free s.last.0 → (r ≡ 0 → ⊥) → Columns t n s up levels owns pids → r ≡ next_pid (view t) n
@@ -135,7 +135,7 @@ module _ (t : Table) (n : ℕ) (s : Namespace) (up levels owns pids : List ℕ) 
           choice.found_above t n s c.here r first within
 
       -- and the one from 300 on
-      again : above ≡ 0 → r ≡ (if leb (greatest_pid - m) s.last.0 then first_of m free (restart_pid - 1) else 0) → r ≡ next_pid (view t) n
+      again : above ≡ 0 → r ≡ (when leb (greatest_pid - m) s.last.0 then first_of m free (restart_pid - 1) else 0) → r ≡ next_pid (view t) n
       again z e = by_bool (leb (greatest_pid - m) s.last.0) reached (λ h. absurd (o (e ∙ pick_no _ _ _ h)))
         where
           reached : leb (greatest_pid - m) s.last.0 ≡ true → r ≡ next_pid (view t) n

@@ -14,7 +14,7 @@ use Rattle.rules.specs.Read.{climb}
 use Rattle.table.proofs.Chains.{by_bool, pick_yes, pick_no}
 use Rattle.table.proofs.Slots.{array_past}
 use Rattle.table.specs.Limits.{namespace_slots}
-use Rattle.table.specs.Tests.{◌and◌, if◌then◌else◌}
+use Rattle.table.specs.Tests.{◌and◌, when◌then◌else◌}
 use Rattle.tree.proofs.Climbs.{climb_on}
 use Rattle.tree.specs.Tree.{level_in}
 use Rattle.numbers.specs.Climbs.{column_at, Known}
@@ -45,7 +45,7 @@ module _ (up level : ℕ → ℕ) (n : ℕ) where
 
   -- m is the parent, r what is found from there, and new what `keep` leaves
   pub known_kept : (known new : List Bool) (a m steps : ℕ) (r : Bool) → Known up level n known → (a ≡ n → ⊥) → (steps ≡ 0 → ⊥) → m ≡ up a → r ≡ climb up (steps - 1) m n → r ≡ true
-      → new ≡ (if ltb a namespace_slots and eqb (level a) steps then set known a true else known) → Known up level n new
+      → new ≡ (when ltb a namespace_slots and eqb (level a) steps then set known a true else known) → Known up level n new
   known_kept known new a m steps r w o z p e q d =
       by_bool (ltb a namespace_slots and eqb (level a) steps)
       (λ t.

@@ -5,7 +5,7 @@ use Rattle.std.specs.Prelude.{ℕ, ◌+◌, ◌-◌, Bool, not, eqb, leb, ltb}
 use Rattle.rules.specs.Read.{climb}
 use Rattle.table.specs.Limits.{process_slots, greatest_pid, restart_pid}
 use Rattle.table.specs.Slots.{pid_at}
-use Rattle.table.specs.Tests.{◌and◌, if◌then◌else◌, any, lowest}
+use Rattle.table.specs.Tests.{◌and◌, when◌then◌else◌, any, lowest}
 use Rattle.table.specs.declared.Process.{Process}
 
 abbrev pub marks : ℕ
@@ -13,7 +13,7 @@ marks = process_slots
 
 -- the number at a level that a process has; in an empty slot none, whatever stands there
 abbrev pub held_pid : Process → ℕ → ℕ
-held_pid p l = if not (eqb (pid_at p 0) 0) then pid_at p l else 0
+held_pid p l = when not (eqb (pid_at p 0) 0) then pid_at p l else 0
 
 -- nobody in the subtree of n has the number x
 unfoldable pub unheld : (ℕ → ℕ) → (ℕ → ℕ) → (ℕ → ℕ) → (ℕ → ℕ) → ℕ → ℕ → Bool
@@ -24,17 +24,17 @@ unheld up level own pid n x = not (any process_slots (λ i. climb up (level (own
 unfoldable pub first_of : ℕ → (ℕ → Bool) → ℕ → ℕ
 first_of m f last =
     let x = lowest f m (last + 1) in
-    if ltb x (last + 1 + m) and leb x greatest_pid then x else 0
+    when ltb x (last + 1 + m) and leb x greatest_pid then x else 0
 
 -- The number by marks: the first of the m above `last`, or else, where these reach to 32,767, the first of the m from 300
 -- on. Where the marks run out it is 0.
 unfoldable pub by_marks : ℕ → (ℕ → Bool) → ℕ → ℕ
 by_marks m f last =
     let x = first_of m f last in
-    let again = if leb (greatest_pid - m) last then first_of m f (restart_pid - 1) else 0 in
-    if not (eqb x 0) then x else again
+    let again = when leb (greatest_pid - m) last then first_of m f (restart_pid - 1) else 0 in
+    when not (eqb x 0) then x else again
 
 -- The place of a mark: that of the number x among the m above `last`, if who has it is seen. Else m, where there is no
 -- mark.
 unfoldable pub place_from : ℕ → ℕ → ℕ → Bool → ℕ
-place_from m last x seen = if ltb last x and ltb (x - last - 1) m and seen then x - last - 1 else m
+place_from m last x seen = when ltb last x and ltb (x - last - 1) m and seen then x - last - 1 else m

@@ -3,7 +3,7 @@
 ghost use Rattle.std.specs.Prelude.{true, false, ◌≡◌, eqb, ltb, get_or, set};
 ghost use Rattle.rules.specs.Read.{climb};
 ghost use Rattle.table.specs.Limits.{namespace_slots};
-ghost use Rattle.table.specs.Tests.{◌and◌, if◌then◌else◌};
+ghost use Rattle.table.specs.Tests.{◌and◌, when◌then◌else◌};
 ghost use Rattle.numbers.specs.Climbs.{column_at, Known};
 
 use table::NAMESPACE_SLOTS;
@@ -42,7 +42,7 @@ fn is_known(
 
 // Keeps it for later climbs.
 fn keep(levels: &[u8; NAMESPACE_SLOTS], known: &mut [bool; NAMESPACE_SLOTS], a: u8, steps: u8)
-    ensures { known.new ≡ (if ltb a namespace_slots and eqb (column_at levels.now a) steps then set known.old a true else known.old) }
+    ensures { known.new ≡ (when ltb a namespace_slots and eqb (column_at levels.now a) steps then set known.old a true else known.old) }
 {
     let k = a as usize;
     if k < NAMESPACE_SLOTS {

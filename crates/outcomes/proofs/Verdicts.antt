@@ -9,7 +9,7 @@ use Rattle.outcomes.specs.declared.Verdict.TheVariants.{Granted, Refused}
 use Rattle.rules.proofs.Laws.Judged.{None, place}
 use Rattle.rules.proofs.Laws.Tests.{choose}
 use Rattle.rules.specs.Answers.{judged, refused}
-use Rattle.table.specs.Tests.{◌or◌, if◌then◌else◌}
+use Rattle.table.specs.Tests.{◌or◌, when◌then◌else◌}
 use Rattle.table.specs.declared.Outcome.{Outcome}
 use Rattle.table.specs.declared.Refusal.{Refusal}
 use Rattle.table.specs.declared.Table.{Table}
@@ -17,12 +17,12 @@ use Rattle.table.specs.declared.Table.{Table}
 -- ---- a list's verdict, from its last refusal on
 
 -- one refusal more: b is what the code tested, and v its verdict on those that follow
-pub one_more : (e : Refusal) (b x : Bool) (v w r : Verdict) → r ≡ (if b then Refused e else v) → b ≡ x → v ≡ w → r ≡ (if x then Refused e else w)
-one_more e b x v w r a h q = a ∙ ap₂ (λ y z. if y then Refused e else z) h q
+pub one_more : (e : Refusal) (b x : Bool) (v w r : Verdict) → r ≡ (when b then Refused e else v) → b ≡ x → v ≡ w → r ≡ (when x then Refused e else w)
+one_more e b x v w r a h q = a ∙ ap₂ (λ y z. when y then Refused e else z) h q
 
 -- where that one holds the others do not count
-pub one_more_where : (e : Refusal) (b x : Bool) (v w r : Verdict) → r ≡ (if b then Refused e else v) → b ≡ x → (x ≡ false → v ≡ w) → r ≡ (if x then Refused e else w)
-one_more_where e b true v w r a h q = a ∙ ap (λ y. if y then Refused e else v) h
+pub one_more_where : (e : Refusal) (b x : Bool) (v w r : Verdict) → r ≡ (when b then Refused e else v) → b ≡ x → (x ≡ false → v ≡ w) → r ≡ (when x then Refused e else w)
+one_more_where e b true v w r a h q = a ∙ ap (λ y. when y then Refused e else v) h
 one_more_where e b false v w r a h q = one_more e b false v w r a h (q refl)
 
 -- two tests of one refusal, as the code joins them
@@ -32,7 +32,7 @@ either true b = refl
 either false b = refl
 
 -- what is granted passed the test
-pub passed : (e : Refusal) (b : Bool) (v r : Verdict) → r ≡ (if b then Refused e else v) → r ≡ Granted → (b ≡ false) × (v ≡ Granted)
+pub passed : (e : Refusal) (b : Bool) (v r : Verdict) → r ≡ (when b then Refused e else v) → r ≡ Granted → (b ≡ false) × (v ≡ Granted)
 passed e true v r a g = absurd (not_granted (sym a ∙ g))
   where
     is_granted : Verdict → Bool
@@ -62,7 +62,7 @@ judged_ruled : (t : Table) (rs : List (Refusal × Bool)) (o : Unit {0} → Outco
 judged_ruled t [] o = refl
 judged_ruled t (r ∷ rs) o = go r.1 (judged_ruled t rs o)
   where
-    go : (b : Bool) → judged t rs o ≡ ruled t (verdict rs) o → (if b then refused t r.0 else judged t rs o) ≡ ruled t (if b then Refused r.0 else verdict rs) o
+    go : (b : Bool) → judged t rs o ≡ ruled t (verdict rs) o → (when b then refused t r.0 else judged t rs o) ≡ ruled t (when b then Refused r.0 else verdict rs) o
     go true h = refl
     go false h = h
 

@@ -3,7 +3,7 @@
 
 ghost use Rattle.std.specs.Prelude.{◌≡◌};
 ghost use Rattle.rules.specs.Answers.{refused as refused_as, granted as granted_as, answers as answers_as};
-ghost use Rattle.table.specs.Tests.{if◌then◌else◌};
+ghost use Rattle.table.specs.Tests.{when◌then◌else◌};
 
 use table::{Answer, NO_SLOT, Outcome, ProcSlot, Refusal, Reply, Table};
 
@@ -17,7 +17,7 @@ pub enum Verdict {
 // One more refusal, before those that came to `rest`: a call's last one is written first. So all its tests are made,
 // also where an earlier one holds; none changes anything.
 pub fn refuse_if(test: bool, why: Refusal, rest: Verdict) -> Verdict
-    ensures { result ≡ (if test then Verdict.Refused why else rest) }
+    ensures { result ≡ (when test then Verdict.Refused why else rest) }
 {
     if test {
         return Verdict::Refused(why);

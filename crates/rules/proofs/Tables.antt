@@ -8,7 +8,7 @@ use Rattle.table.specs.Slots.{no_pid}
 use Rattle.rules.specs.Answers.{refused}
 use Rattle.rules.specs.Read.{view}
 use Rattle.rules.specs.Step.{make, runs}
-use Rattle.table.specs.Tests.{if◌then◌else◌}
+use Rattle.table.specs.Tests.{when◌then◌else◌}
 use Rattle.table.specs.declared.Call.{Call}
 use Rattle.table.specs.declared.End.TheVariants.{Exited}
 use Rattle.table.specs.declared.Life.{Life}
@@ -62,7 +62,7 @@ dead_from k (suc n) = ns (pred k) k 1 Dead ∷ dead_from (suc k) n
 
 -- a call on a table that is known to be sound: without the check, which would take most of the computing
 abbrev pub served : Table → ℕ → Call → Outcome
-served t c call = if runs (view t) c then make t c call else refused t NotRunning
+served t c call = when runs (view t) c then make t c call else refused t NotRunning
 
 -- the table after a list of calls, each by the process at its slot (from a sound table on, as `step` makes it)
 abbrev pub after : Table → List (ℕ × Call) → Table

@@ -4,7 +4,7 @@ use Rattle.table.specs.Limits.{levels}
 use Rattle.rules.specs.Pids.{next_pid, free_slot}
 use Rattle.table.specs.Slots.{no_pid, is_unborn, put, changed}
 use Rattle.rules.specs.Read.{View, view, below, above_at}
-use Rattle.table.specs.Tests.{if◌then◌else◌, changed_to}
+use Rattle.table.specs.Tests.{when◌then◌else◌, changed_to}
 use Rattle.table.specs.declared.Life.TheVariants.{Alive}
 use Rattle.table.specs.declared.Namespace.{Namespace}
 use Rattle.table.specs.declared.Pid.{Pid}
@@ -16,7 +16,7 @@ use Rattle.table.specs.Records.{to_pid, with_parent, with_life, with_last, of_na
 -- It gets a number at each level: from the root's to that of its own namespace n, and 0 beyond.
 unfoldable pub new_pids : View → ℕ → List Pid
 new_pids v n =
-    changed_to (λ l p. if leb l (v.level n) then to_pid (next_pid v (above_at v n l)) else p) no_pid levels
+    changed_to (λ l p. when leb l (v.level n) then to_pid (next_pid v (above_at v n l)) else p) no_pid levels
     (replicate levels no_pid)
 
 -- The child runs, its parent is the caller, children's namespace its own, signals empty.
@@ -28,8 +28,8 @@ newborn v caller n =
 -- (What becomes of the namespace s at slot m.)
 unfoldable pub joined : View → ℕ → ℕ → ℕ → Namespace → Namespace
 joined v child n m s =
-    if below v n m
-    then with_life (with_last s (next_pid v m)) (if is_unborn s.life then Alive (record { 0 = child }) else s.life)
+    when below v n m
+    then with_life (with_last s (next_pid v m)) (when is_unborn s.life then Alive (record { 0 = child }) else s.life)
     else s
 
 -- A child of the caller is born into n, in the lowest free slot.

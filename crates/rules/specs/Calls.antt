@@ -12,7 +12,7 @@ use Rattle.rules.specs.Pids.{next_pid, free_slot, free_namespace_slot}
 use Rattle.table.specs.Slots.{process, put, put_namespace}
 use Rattle.rules.specs.Read.{View, view, children, dead, pid_seen, pid_in, find, all_seen, child_of}
 use Rattle.table.specs.SignalSets.{with_signal, without_signal, lowest_signal}
-use Rattle.table.specs.Tests.{◌and◌, ◌or◌, if◌then◌else◌, any, least, only}
+use Rattle.table.specs.Tests.{◌and◌, ◌or◌, when◌then◌else◌, any, least, only}
 use Rattle.table.specs.declared.Answer.TheVariants.{Number, Reaped}
 use Rattle.table.specs.declared.End.TheVariants.{Exited}
 use Rattle.table.specs.declared.Outcome.{Outcome}
@@ -207,7 +207,7 @@ handle_refusals s =
 
 abbrev pub handle_gives : Table → ℕ → ℤ → Bool → Unit {0} → Outcome
 handle_gives t c s on z =
-    answers (put t c (if on then handle_on (process t c) (natural s) else handle_off (process t c) (natural s))) 0
+    answers (put t c (when on then handle_on (process t c) (natural s) else handle_off (process t c) (natural s))) 0
 
 unfoldable pub handle : Table → ℕ → ℤ → Bool → Outcome
 handle t c s on = judged t (handle_refusals s) (handle_gives t c s on)
@@ -220,7 +220,7 @@ taken_up p s = with_traits p (with_signals p.traits p.traits.handled (without_si
 unfoldable pub poll : Table → ℕ → Outcome
 poll t c =
     let s = lowest_signal (process t c).traits.pending in
-    if eqb s signals then answers t 0
+    when eqb s signals then answers t 0
     else answers (put t c (taken_up (process t c) s)) s
 
 -- ---- kill
@@ -231,7 +231,7 @@ others v c = only (λ i. not (eqb i c) and not (eqb (pid_to v c i) 1)) (all_seen
 
 -- Whom a kill finds, before any delivery: the one of that number in the caller's namespace, or the others.
 unfoldable pub targets : View → ℕ → ℤ → List ℕ
-targets v c (pos n) = if eqb (named v c (pos n)) process_slots then [] else named v c (pos n) ∷ []
+targets v c (pos n) = when eqb (named v c (pos n)) process_slots then [] else named v c (pos n) ∷ []
 targets v c (negsuc n) = others v c
 
 -- 0 or below -1

@@ -12,7 +12,7 @@ use Rattle.rules.specs.Read.{View, view, taken, living, children, namespace_take
 use Rattle.rules.specs.Refusals.{meant, numbered, rows, first, below_0}
 use Rattle.rules.specs.Sound.{SoundTable, shaped}
 use Rattle.rules.specs.Step.{step, runs}
-use Rattle.table.specs.Tests.{◌and◌, if◌then◌else◌, some_of}
+use Rattle.table.specs.Tests.{◌and◌, when◌then◌else◌, some_of}
 use Rattle.table.specs.declared.Action.{Action}
 use Rattle.table.specs.declared.Action.TheVariants.{Nothing, Resume, Stop, Finish, Pend}
 use Rattle.table.specs.declared.Call.{Call}
@@ -223,7 +223,7 @@ pub record SignalFinds : Type 0 where
 unfoldable pub parent_after : Table → Table → ℕ → ℕ
 parent_after t u i =
     let p = (view t).parent i in
-    if living (view t) p and not (living (view u) p) then init (view t) ((view t).own p) else p
+    when living (view t) p and not (living (view u) p) then init (view t) ((view t).own p) else p
 
 -- the record after the action of signal s on it, all else left as it is
 unfoldable pub after_action : Process → ℕ → Action → Process
@@ -253,7 +253,7 @@ pub record SignalDone (t u : Table) (c : ℕ) (n s : ℤ) : Type 0 where
   pub swept :
       (i : ℕ) → Falls (view t) c n s i → So (taken (view u) i)
       → process u i
-      ≡ with_parent (if (view t).ended i then process t i else as_ended (process t i) (Signaled sigkill)) (parent_after t u i)
+      ≡ with_parent (when (view t).ended i then process t i else as_ended (process t i) (Signaled sigkill)) (parent_after t u i)
   -- Who is meant, in no such subtree, gets what the signal does to it.
   pub reached :
       (i : ℕ) → (Falls (view t) c n s i → ⊥) → So (meant (view t) c n i)
@@ -300,7 +300,7 @@ pub record EndsExactly (t u : Table) (c : ℕ) (e : End) : Type 0 where
   -- before for the reason it had, and each other by signal 9.
   pub left :
       (i : ℕ) → So (seen (view t) ((view t).own c) i) → (So (seen (view t) ((view t).own c) ((view t).parent i)) → ⊥)
-      → (view u).state i ≡ (if eqb i c then Ended e else (if (view t).ended i then (view t).state i else Ended (Signaled sigkill)))
+      → (view u).state i ≡ (when eqb i c then Ended e else (when (view t).ended i then (view t).state i else Ended (Signaled sigkill)))
   -- Nobody outside the subtree is ended, or changed at all.
   pub outside : (i : ℕ) → (So (seen (view t) ((view t).own c) i) → ⊥) → process u i ≡ process t i
 

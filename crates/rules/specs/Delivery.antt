@@ -5,7 +5,7 @@ use Rattle.table.specs.Limits.{sigkill, sigcont, sigstop}
 use Rattle.table.specs.Slots.{process, put}
 use Rattle.rules.specs.Read.{View, view, living, is_init, handled}
 use Rattle.table.specs.SignalSets.{has, with_signal}
-use Rattle.table.specs.Tests.{◌and◌, ◌or◌, if◌then◌else◌}
+use Rattle.table.specs.Tests.{◌and◌, ◌or◌, when◌then◌else◌}
 use Rattle.table.specs.declared.Action.{Action}
 use Rattle.table.specs.declared.Action.TheVariants.{Nothing, Resume, Stop, Finish, Pend}
 use Rattle.table.specs.declared.End.TheVariants.{Signaled}
@@ -19,9 +19,9 @@ use Rattle.table.specs.Traits.{with_signals}
 -- of 1 to 31.
 unfoldable pub default_action : ℕ → Action
 default_action s =
-    if eqb s 17 or eqb s 23 or eqb s 28 then Nothing
-    else (if eqb s sigcont then Resume
-    else (if eqb s sigstop or eqb s 20 or eqb s 21 or eqb s 22 then Stop else Finish))
+    when eqb s 17 or eqb s 23 or eqb s 28 then Nothing
+    else (when eqb s sigcont then Resume
+    else (when eqb s sigstop or eqb s 20 or eqb s 21 or eqb s 22 then Stop else Finish))
 
 -- What signal s, sent by a process whose own namespace is `from`, does to the process at i.
 -- Signal 0 and ended targets: nothing. 18 resumes. 9 ends, 19 stops. Any other: if handled, it becomes pending; if not,
@@ -29,11 +29,11 @@ default_action s =
 -- namespace above (001).
 unfoldable pub action_on : View → ℕ → ℕ → ℕ → Action
 action_on v from i s =
-    if eqb s 0 or not (living v i) then Nothing
-    else (if eqb s sigcont then Resume
-    else (if eqb s sigkill or eqb s sigstop then (if is_init v i and eqb (v.own i) from then Nothing else default_action s)
-    else (if has (handled v i) s then Pend
-    else (if is_init v i then Nothing else default_action s))))
+    when eqb s 0 or not (living v i) then Nothing
+    else (when eqb s sigcont then Resume
+    else (when eqb s sigkill or eqb s sigstop then (when is_init v i and eqb (v.own i) from then Nothing else default_action s)
+    else (when has (handled v i) s then Pend
+    else (when is_init v i then Nothing else default_action s))))
 
 -- with signal s pending
 unfoldable pub with_pending : Process → ℕ → Process
@@ -42,7 +42,7 @@ with_pending p s =
 
 -- 18 makes a stopped target run, and then becomes pending too if handled.
 unfoldable pub resumed : Process → Process
-resumed p = if has p.traits.handled sigcont then with_pending (with_state p Running) sigcont else with_state p Running
+resumed p = when has p.traits.handled sigcont then with_pending (with_state p Running) sigcont else with_state p Running
 
 -- the table once signal s has done an action to the process at i
 unfoldable pub act : Table → ℕ → ℕ → Action → Table

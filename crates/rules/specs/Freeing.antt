@@ -4,7 +4,7 @@ use Rattle.table.specs.Fresh.{empty_namespace}
 use Rattle.table.specs.Limits.{process_slots, hold_slots}
 use Rattle.rules.specs.Read.{View, view, taken, below}
 use Rattle.table.specs.Slots.{changed}
-use Rattle.table.specs.Tests.{◌and◌, ◌or◌, if◌then◌else◌, any}
+use Rattle.table.specs.Tests.{◌and◌, ◌or◌, when◌then◌else◌, any}
 use Rattle.table.specs.declared.Table.{Table}
 
 -- What stays: the root, and each namespace in whose subtree some process, ended or not, has its own or its children's
@@ -17,4 +17,4 @@ kept v n =
 
 -- the table with those alone
 unfoldable pub freed : Table → Table
-freed t = changed t (λ i p. p) (λ n s. if kept (view t) n then s else empty_namespace)
+freed t = changed t (λ i p. p) (λ n s. when kept (view t) n then s else empty_namespace)

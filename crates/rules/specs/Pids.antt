@@ -2,7 +2,7 @@
 use Rattle.std.specs.Prelude.{ℕ, suc, ◌-◌, Bool, not, eqb, leb}
 use Rattle.table.specs.Limits.{process_slots, namespace_slots, greatest_pid, restart_pid}
 use Rattle.rules.specs.Read.{View, taken, namespace_taken, seen, pid_seen}
-use Rattle.table.specs.Tests.{◌and◌, if◌then◌else◌, any, lowest}
+use Rattle.table.specs.Tests.{◌and◌, when◌then◌else◌, any, lowest}
 
 -- No process seen from n has the number k there. An ended process keeps its numbers until removed.
 unfoldable pub free_pid : View → ℕ → ℕ → Bool
@@ -15,7 +15,7 @@ unfoldable pub next_pid : View → ℕ → ℕ
 next_pid v n =
     let k = lowest (free_pid v n) (greatest_pid - v.last n) (suc (v.last n)) in
     let r = lowest (free_pid v n) (suc greatest_pid - restart_pid) restart_pid in
-    if leb k greatest_pid then k else r
+    when leb k greatest_pid then k else r
 
 -- New entries take the lowest free slot; 64, or 48 for a namespace (W-206), says that there is none.
 unfoldable pub free_slot : View → ℕ

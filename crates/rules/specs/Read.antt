@@ -1,7 +1,7 @@
 -- Reading a table: what stands at a slot, what lies below what, who is seen from where.
 use Rattle.std.specs.Prelude.{ℕ, zero, suc, ◌-◌, Bool, true, false, not, List, eqb}
 use Rattle.table.specs.Limits.{process_slots}
-use Rattle.table.specs.Tests.{◌and◌, ◌or◌, ◌implies◌, if◌then◌else◌, lowest, ascending}
+use Rattle.table.specs.Tests.{◌and◌, ◌or◌, ◌implies◌, when◌then◌else◌, lowest, ascending}
 use Rattle.table.specs.Slots.{process, namespace, pid_at, hold_at, is_ended, is_unborn, is_alive, is_dead, init_of}
 use Rattle.table.specs.declared.Life.{Life}
 use Rattle.table.specs.declared.State.{State}
@@ -144,7 +144,7 @@ pid_seen v n i = number_in v n (numbers v i)
 
 -- the same, or 0 where it is not seen
 unfoldable pub pid_in : View → ℕ → ℕ → ℕ
-pid_in v n i = if seen v n i then pid_seen v n i else 0
+pid_in v n i = when seen v n i then pid_seen v n i else 0
 
 -- the slot of the process with number k in n, or 64 where there is none
 unfoldable pub find : View → ℕ → ℕ → ℕ

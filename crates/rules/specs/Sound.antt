@@ -4,7 +4,7 @@ use Rattle.std.proofs.Math.Bool.{So}
 use Rattle.table.specs.Limits.{process_slots, namespace_slots, levels, deepest, greatest_pid, no_slot, hold_slots, signals, statuses}
 use Rattle.table.specs.Slots.{process, is_running}
 use Rattle.rules.specs.Read.{View, view, taken, namespace_taken, living, children, alive, dead, unborn, init, below, seen, pid_seen, numbers, unlike}
-use Rattle.table.specs.Tests.{◌and◌, ◌or◌, ◌implies◌, agree, if◌then◌else◌, all, any, one}
+use Rattle.table.specs.Tests.{◌and◌, ◌or◌, ◌implies◌, agree, when◌then◌else◌, all, any, one}
 use Rattle.table.specs.declared.End.TheVariants.{Exited, Signaled}
 use Rattle.table.specs.declared.State.{State}
 use Rattle.table.specs.declared.State.TheVariants.{Running, Stopped, Ended}
@@ -95,7 +95,7 @@ unfoldable pub pid_range : View → Bool
 pid_range v =
     each_process v
     (λ i. all levels
-    (λ l. if leb l (v.level (v.own i)) then leb 1 (v.pid i l) and leb (v.pid i l) greatest_pid else eqb (v.pid i l) 0))
+    (λ l. when leb l (v.level (v.own i)) then leb 1 (v.pid i l) and leb (v.pid i l) greatest_pid else eqb (v.pid i l) 0))
 
 -- no two processes share one in the same namespace;
 unfoldable pub pids_differ : View → Bool

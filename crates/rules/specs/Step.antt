@@ -5,7 +5,7 @@ use Rattle.rules.specs.Calls.{clone, clone_new, unshare, setns, kill, exit, wait
 use Rattle.table.specs.Slots.{is_running}
 use Rattle.rules.specs.Read.{View, view, taken}
 use Rattle.rules.specs.Sound.{sound}
-use Rattle.table.specs.Tests.{◌and◌, if◌then◌else◌}
+use Rattle.table.specs.Tests.{◌and◌, when◌then◌else◌}
 use Rattle.table.specs.declared.Call.{Call}
 use Rattle.table.specs.declared.Call.TheVariants.{Clone, CloneNew, Unshare, Setns, Kill, Exit, Wait, Getpid, Getppid, Handle, Poll}
 use Rattle.table.specs.declared.Outcome.{Outcome}
@@ -33,4 +33,4 @@ runs v c = taken v c and is_running (v.state c)
 -- -1000 if the table isn't sound, -1001 if the caller isn't running, and else what the call gives.
 unfoldable pub step : Table → ℕ → Call → Outcome
 step t c call =
-    if sound t then (if runs (view t) c then make t c call else refused t NotRunning) else refused t Unsound
+    when sound t then (when runs (view t) c then make t c call else refused t NotRunning) else refused t Unsound

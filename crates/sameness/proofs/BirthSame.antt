@@ -25,7 +25,7 @@ use Rattle.table.specs.Slots.{init_of}
 use Rattle.rules.specs.Read.{View, above_at, alive, below, init, is_init, living, seen, taken, unborn, children}
 use Rattle.sameness.specs.Sheet.{Row, by_init, name, row}
 use Rattle.sameness.proofs.Names.{named_rows, children_named, values_same}
-use Rattle.table.specs.Tests.{if◌then◌else◌, values}
+use Rattle.table.specs.Tests.{when◌then◌else◌, values}
 use Rattle.table.specs.declared.Life.{Life}
 use Rattle.table.specs.Traits.{born_traits}
 
@@ -43,11 +43,11 @@ unborn_below {v} f n o h e a =
     bool_ext _ _ (λ b. below_up f n o b (λ q. no_so (alive_not_unborn (v.life o) a) (subst (λ x. So (unborn v x)) q h))) (λ b. below_trans v f n (v.up n) o (up_below f n _ e) b)
 
 -- the last number that a row shows then
-shows : {v : View} {n k : ℕ} (a : Room v n k) (c : ℕ) (i : ℕ) → So (taken v i) → (if is_init (with_born v c n k) i then (with_born v c n k).last ((with_born v c n k).own i) else 0) ≡ (if is_init v i then (if below v n (v.own i) then next_pid v (v.own i) else v.last (v.own i)) else 0)
+shows : {v : View} {n k : ℕ} (a : Room v n k) (c : ℕ) (i : ℕ) → So (taken v i) → (when is_init (with_born v c n k) i then (with_born v c n k).last ((with_born v c n k).own i) else 0) ≡ (when is_init v i then (when below v n (v.own i) then next_pid v (v.own i) else v.last (v.own i)) else 0)
 unfolding is_init
 shows {v} {n} {k} a c i h =
     rw (ne_eqb i k (old a c i h))
-    (ap (λ (x : Life). if eqb (init_of x) i then (if below v n (v.own i) then next_pid v (v.own i) else v.last (v.own i)) else 0) (life_born a c (v.own i) (own_not_unborn v a.facts i h)))
+    (ap (λ (x : Life). when eqb (init_of x) i then (when below v n (v.own i) then next_pid v (v.own i) else v.last (v.own i)) else 0) (life_born a c (v.own i) (own_not_unborn v a.facts i h)))
 
 -- nobody's parent was the child
 parent_old : {v : View} {n k : ℕ} (a : Room v n k) (i : ℕ) → So (taken v i) → v.parent i ≡ k → ⊥
@@ -56,15 +56,15 @@ parent_old {v} a i h q =
     (λ z. no_so a.empty (subst (λ x. So (taken v x)) q (lives_taken v _ (parent_living v a.facts i h z))))
 
 -- and the child's row
-in_old : {v : View} {n k : ℕ} (a : Room v n k) (c : ℕ) (x : ℕ) → So (alive v n) → (if eqb (init (with_born v c n k) n) k then x else 0) ≡ 0
+in_old : {v : View} {n k : ℕ} (a : Room v n k) (c : ℕ) (x : ℕ) → So (alive v n) → (when eqb (init (with_born v c n k) n) k then x else 0) ≡ 0
 in_old {v} {n} {k} a c x h =
-    ap (λ (y : Life). if eqb (init_of y) k then x else 0) (life_born a c n (alive_not_unborn (v.life n) h))
-    ∙ ap (λ (b : Bool). if b then x else 0) (ne_eqb (init v n) k (old a c (init v n) (init_taken v a.facts n h)))
+    ap (λ (y : Life). when eqb (init_of y) k then x else 0) (life_born a c n (alive_not_unborn (v.life n) h))
+    ∙ ap (λ (b : Bool). when b then x else 0) (ne_eqb (init v n) k (old a c (init v n) (init_taken v a.facts n h)))
 
-in_new : {v : View} {n k : ℕ} (a : Room v n k) (c : ℕ) → So (unborn v n) → (if eqb (init (with_born v c n k) n) k then (with_born v c n k).last n else 0) ≡ next_pid v n
+in_new : {v : View} {n k : ℕ} (a : Room v n k) (c : ℕ) → So (unborn v n) → (when eqb (init (with_born v c n k) n) k then (with_born v c n k).last n else 0) ≡ next_pid v n
 in_new {v} {n} {k} a c h =
-    ap (λ (x : Life). if eqb (init_of x) k then (with_born v c n k).last n else 0) (life_new a c h)
-    ∙ ap₂ (λ (b d : Bool). if b then (if d then next_pid v n else v.last n) else 0) (eq-eqb k k refl) (below_refl v n)
+    ap (λ (x : Life). when eqb (init_of x) k then (with_born v c n k).last n else 0) (life_new a c h)
+    ∙ ap₂ (λ (b d : Bool). when b then (when d then next_pid v n else v.last n) else 0) (eq-eqb k k refl) (below_refl v n)
 
 module _ {v u : View} {s r : ℕ} (w : Pair v u s r) {c d : ℕ} {n m k l : ℕ} (a : Room v n k) (b : Room u m l) (tc : Twin v u s r c d) (cradles : Cradles v u s r n m) (holders : (i j : ℕ) → Twin v u s r i j → So (unborn v (children v i)) → So (unborn u (children u j)) → eqb (children v i) n ≡ eqb (children u j) m) where
   abbrev v' : View
@@ -124,14 +124,14 @@ module _ {v u : View} {s r : ℕ} (w : Pair v u s r) {c d : ℕ} {n m k l : ℕ}
         (λ q. name_other a c s _ (children_taken w.facts_v i li) y (λ z. eqb-false _ _ q (sym z)) ∙ sym (name_other b d r _ (children_taken w.facts_u j lj) y' (λ z. eqb-false _ _ (sym same ∙ q) (sym z)))))
         (λ y. name_born a c s (children v i) y ∙ named_rows v u s r i j rows 0 (omega arith) ∙ sym (name_born b d r (children u j) (sym both_unborn ∙ y))))
 
-    old_last : (if is_init v' i then v'.last (v'.own i) else 0) ≡ (if is_init u' j then u'.last (u'.own j) else 0)
+    old_last : (when is_init v' i then v'.last (v'.own i) else 0) ≡ (when is_init u' j then u'.last (u'.own j) else 0)
     unfolding row
     old_last = shows a c i (taken_v x) ∙ go (alive v (v.own i)) refl ∙ sym (shows b d j (taken_u x))
       where
-        go : (z : Bool) → alive v (v.own i) ≡ z → (if is_init v i then (if below v n (v.own i) then next_pid v (v.own i) else v.last (v.own i)) else 0) ≡ (if is_init u j then (if below u m (u.own j) then next_pid u (u.own j) else u.last (u.own j)) else 0)
+        go : (z : Bool) → alive v (v.own i) ≡ z → (when is_init v i then (when below v n (v.own i) then next_pid v (v.own i) else v.last (v.own i)) else 0) ≡ (when is_init u j then (when below u m (u.own j) then next_pid u (u.own j) else u.last (u.own j)) else 0)
         go true h =
             let o = owns w x h in
-            λ y. if is_init_twins w x h y then (if below_cradle o y then next_twins w o y else last_twins w o y) else 0
+            λ y. when is_init_twins w x h y then (when below_cradle o y then next_twins w o y else last_twins w o y) else 0
         go false h = rw (not_init w.facts_v i (taken_v x) h, not_init w.facts_u j (taken_u x) (sym (alive_named w (own_names w x)) ∙ h)) refl
 
     old_rows : row v' s i ≡ row u' r j
@@ -151,15 +151,15 @@ module _ {v u : View} {s r : ℕ} (w : Pair v u s r) {c d : ℕ} {n m k l : ℕ}
       each : (h : ℕ) → v.level s ≤ h → h < v.level s + (levels - v.level s) → v'.pid k h ≡ u'.pid l h
       each h x y = rw (eq-eqb k k refl, eq-eqb l l refl) (go (dec_le h (v.level n)))
         where
-          go : Dec (h ≤ v.level n) → (if leb h (v.level n) then next_pid v (above_at v n h) else 0) ≡ (if leb h (u.level m) then next_pid u (above_at u m h) else 0)
+          go : Dec (h ≤ v.level n) → (when leb h (v.level n) then next_pid v (above_at v n h) else 0) ≡ (when leb h (u.level m) then next_pid u (above_at u m h) else 0)
           go (yes z) = rw (le-leb h (v.level n) z, le-leb h (u.level m) (omega (arith, levels_nm))) (cradle_next w n m h cradles x z)
           go (no z) = rw (lt-leb h (v.level n) (omega arith), lt-leb h (u.level m) (omega (arith, levels_nm))) refl
 
-  new_last : (if is_init v' k then v'.last (v'.own k) else 0) ≡ (if is_init u' l then u'.last (u'.own l) else 0)
+  new_last : (when is_init v' k then v'.last (v'.own k) else 0) ≡ (when is_init u' l then u'.last (u'.own l) else 0)
   unfolding is_init
   new_last = rw (eq-eqb k k refl, eq-eqb l l refl) (go cradles)
     where
-      go : Cradles v u s r n m → (if eqb (init v' n) k then v'.last n else 0) ≡ (if eqb (init u' m) l then u'.last m else 0)
+      go : Cradles v u s r n m → (when eqb (init v' n) k then v'.last n else 0) ≡ (when eqb (init u' m) l then u'.last m else 0)
       go (inl y) = in_old a c (v'.last n) y.lives_v ∙ sym (in_old b d (u'.last m) y.lives_u)
       go (inr y) =
           in_new a c y.unborn_v ∙ next_unborn w.facts_v w.facts_u n m y.unborn_v y.unborn_u y.lasts

@@ -22,7 +22,7 @@ use Rattle.rules.specs.Pids.{free_pid, next_pid}
 use Rattle.table.specs.Slots.{is_unborn}
 use Rattle.rules.specs.Read.{View, alive, init, is_init, pid_seen, seen, above_at, below, namespace_taken, pid_in, taken, unborn, up_by}
 use Rattle.sameness.specs.Sheet.{Row, row, by_init, name, name_by, unborn_name}
-use Rattle.table.specs.Tests.{◌and◌, any, if◌then◌else◌, lowest}
+use Rattle.table.specs.Tests.{◌and◌, any, when◌then◌else◌, lowest}
 use Rattle.table.specs.declared.Life.TheVariants.{Unborn, Alive, Dead}
 use Rattle.table.specs.declared.Life.{Life}
 
@@ -39,7 +39,7 @@ held_there {u} {s} {r} w {n} k l h =
 next_same : (v u : View) (n m : ℕ) → ((k : ℕ) → free_pid v n k ≡ free_pid u m k) → v.last n ≡ u.last m → next_pid v n ≡ next_pid u m
 unfolding next_pid
 next_same v u n m h e =
-    ap₂ (λ (f : ℕ → Bool) (a : ℕ). let k = lowest f (greatest_pid - a) (suc a) in let q = lowest f (suc greatest_pid - restart_pid) restart_pid in if leb k greatest_pid then k else q) (fun_ext h) e
+    ap₂ (λ (f : ℕ → Bool) (a : ℕ). let k = lowest f (greatest_pid - a) (suc a) in let q = lowest f (suc greatest_pid - restart_pid) restart_pid in when leb k greatest_pid then k else q) (fun_ext h) e
 
 module _ {v u : View} {s r : ℕ} (w : Pair v u s r) {n m : ℕ} (l : Twins v u s r n m) where
   pub free_twins : (k : ℕ) → free_pid v n k ≡ free_pid u m k
@@ -51,10 +51,10 @@ module _ {v u : View} {s r : ℕ} (w : Pair v u s r) {n m : ℕ} (l : Twins v u 
   unfolding row is_init
   last_twins = sym (shows v w.facts_v n l.lives_v) ∙ ap (λ (q : Row). q.last) (twin_rows w (inits_twin w l)) ∙ shows u w.facts_u m l.lives_u
     where
-      shows : (x : View) (f : Facts x) (a : ℕ) → So (alive x a) → (if eqb (init x (x.own (init x a))) (init x a) then x.last (x.own (init x a)) else 0) ≡ x.last a
+      shows : (x : View) (f : Facts x) (a : ℕ) → So (alive x a) → (when eqb (init x (x.own (init x a))) (init x a) then x.last (x.own (init x a)) else 0) ≡ x.last a
       shows x f a h =
-          ap (λ (y : ℕ). if eqb (init x y) (init x a) then x.last y else 0) (init_own x f a h)
-          ∙ ap (λ (b : Bool). if b then x.last a else 0) (eq-eqb (init x a) (init x a) refl)
+          ap (λ (y : ℕ). when eqb (init x y) (init x a) then x.last y else 0) (init_own x f a h)
+          ∙ ap (λ (b : Bool). when b then x.last a else 0) (eq-eqb (init x a) (init x a) refl)
 
   -- the next number is the same
   pub next_twins : next_pid v n ≡ next_pid u m
@@ -106,7 +106,7 @@ module _ {v : View} {n k : ℕ} (room : Room v n k) (c : ℕ) where
 
   pub pid_in_grown : (m i : ℕ) → (i ≡ k → ⊥) → pid_in v' m i ≡ pid_in v m i
   unfolding pid_in
-  pid_in_grown m i o = ap₂ (λ (b : Bool) (x : ℕ). if b then x else 0) (seen_grown m i o) (pid_grown m i o)
+  pid_in_grown m i o = ap₂ (λ (b : Bool) (x : ℕ). when b then x else 0) (seen_grown m i o) (pid_grown m i o)
 
   -- the child
   child_taken : So (taken v' k)
@@ -124,19 +124,19 @@ module _ {v : View} {n k : ℕ} (room : Room v n k) (c : ℕ) where
   -- ---- lives
 
   pub life_born : (m : ℕ) → unborn v m ≡ false → v'.life m ≡ v.life m
-  life_born m h = ap (λ (b : Bool). if below v n m then (if b then Alive (record { 0 = k }) else v.life m) else v.life m) h ∙ either (below v n m)
+  life_born m h = ap (λ (b : Bool). when below v n m then (when b then Alive (record { 0 = k }) else v.life m) else v.life m) h ∙ either (below v n m)
     where
-      either : (b : Bool) → (if b then v.life m else v.life m) ≡ v.life m
+      either : (b : Bool) → (when b then v.life m else v.life m) ≡ v.life m
       either true = refl
       either false = refl
 
   pub life_other : (m : ℕ) → So (unborn v m) → (n ≡ m → ⊥) → v'.life m ≡ v.life m
   life_other m h o =
       let not_above : below v n m ≡ false = isnt_so (λ b. o (bottom f n m b h)) in
-      ap (λ (b : Bool). if b then (if is_unborn (v.life m) then Alive (record { 0 = k }) else v.life m) else v.life m) not_above
+      ap (λ (b : Bool). when b then (when is_unborn (v.life m) then Alive (record { 0 = k }) else v.life m) else v.life m) not_above
 
   pub life_new : So (unborn v n) → v'.life n ≡ Alive (record { 0 = k })
-  life_new h = ap₂ (λ (a b : Bool). if a then (if b then Alive (record { 0 = k }) else v.life n) else v.life n) (below_refl v n) h
+  life_new h = ap₂ (λ (a b : Bool). when a then (when b then Alive (record { 0 = k }) else v.life n) else v.life n) (below_refl v n) h
 
   -- ---- names
 

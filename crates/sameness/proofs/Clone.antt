@@ -38,7 +38,7 @@ use Rattle.table.specs.Slots.{is_dead, is_alive, process}
 use Rattle.rules.specs.Read.{View, dead, namespace_taken, unborn, view, pid_seen, below, seen, children, taken}
 use Rattle.sameness.specs.Sheet.{name_by, row}
 use Rattle.rules.specs.Sound.{SoundTable}
-use Rattle.table.specs.Tests.{◌or◌, if◌then◌else◌}
+use Rattle.table.specs.Tests.{◌or◌, when◌then◌else◌}
 use Rattle.table.specs.declared.Answer.TheVariants.{Number}
 use Rattle.table.specs.declared.Call.TheVariants.{Clone, CloneNew, Unshare}
 use Rattle.table.specs.declared.Life.TheVariants.{Unborn, Alive, Dead}
@@ -285,7 +285,7 @@ module _ {v : View} {n k : ℕ} (room : Room v n k) (c s : ℕ) (o : below v n s
         looks = λ i h. rw (ne_eqb i k (apart i h));
         pids = λ i l h. rw (ne_eqb i k (apart i h));
         parents = λ i h. rw (ne_eqb i k (apart i h));
-        lasts = λ i h. ap (λ (b : Bool). if b then next_pid v (v.own i) else v.last (v.own i)) (not_above i h);
+        lasts = λ i h. ap (λ (b : Bool). when b then next_pid v (v.own i) else v.last (v.own i)) (not_above i h);
       }
     where
       not_above : (i : ℕ) → So (seen v s i) → below v n (v.own i) ≡ false

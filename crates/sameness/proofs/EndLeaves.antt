@@ -33,7 +33,7 @@ use Rattle.rules.specs.Freeing.{freed, kept}
 use Rattle.table.specs.Limits.{namespace_slots}
 use Rattle.table.specs.Slots.{is_alive}
 use Rattle.rules.specs.Read.{View, alive, below, child_of, init, is_init, living, pid_in, seen, taken, view}
-use Rattle.table.specs.Tests.{if◌then◌else◌}
+use Rattle.table.specs.Tests.{when◌then◌else◌}
 use Rattle.sameness.specs.Touches.{ends_above, touched}
 use Rattle.table.specs.declared.Call.TheVariants.{Exit}
 use Rattle.table.specs.declared.End.TheVariants.{Exited}
@@ -58,7 +58,7 @@ module _ {v : View} (f : Facts v) (x : ℕ) (e : End) (lives : So (alive v (v.ow
   unfolding seen taken
   init_unseen = isnt_so (λ k. no_so o (both _ _ tx (subst (λ n. So (below v n s)) (init_own v f (v.own x) lives) (right _ _ k))))
 
-  parents_as : (i : ℕ) → So (seen v s i) → pid_in v s (if eqb i x then v.parent i else (if child_of v x i then init v (v.own x) else v.parent i)) ≡ pid_in v s (v.parent i)
+  parents_as : (i : ℕ) → So (seen v s i) → pid_in v s (when eqb i x then v.parent i else (when child_of v x i then init v (v.own x) else v.parent i)) ≡ pid_in v s (v.parent i)
   unfolding child_of
   parents_as i k =
       rw (apart i k)

@@ -24,7 +24,7 @@ use Rattle.rules.specs.Ends.{end}
 use Rattle.table.specs.Slots.{is_alive, init_of}
 use Rattle.rules.specs.Read.{View, living, is_init, taken, alive, view, init, seen, pid_seen, below}
 use Rattle.rules.specs.Sound.{kept_end}
-use Rattle.table.specs.Tests.{if◌then◌else◌, ◌and◌}
+use Rattle.table.specs.Tests.{when◌then◌else◌, ◌and◌}
 use Rattle.table.specs.declared.End.{End}
 use Rattle.table.specs.declared.State.TheVariants.{Ended}
 use Rattle.table.specs.declared.Table.{Table}
@@ -76,12 +76,12 @@ module _ (v : View) (x : ℕ) (e : End) where
   ended_end i h =
       choose (λ w. living w i ≡ false) (is_init v x) (λ a. go (gone v (v.own x) i) (seen v (v.own x) i)) (λ a. at (eqb i x))
     where
-      go : (b c : Bool) → not (eqb (if b then 0 else v.pid i 0) 0) and not (if b then false else (if c then true else v.ended i)) ≡ false
+      go : (b c : Bool) → not (eqb (when b then 0 else v.pid i 0) 0) and not (when b then false else (when c then true else v.ended i)) ≡ false
       go true c = false_and _ _ (λ k. false≢true k)
       go false true = and_not _ refl
       go false false = h
 
-      at : (b : Bool) → not (eqb (v.pid i 0) 0) and not (if b then true else v.ended i) ≡ false
+      at : (b : Bool) → not (eqb (v.pid i 0) 0) and not (when b then true else v.ended i) ≡ false
       at true = and_not _ refl
       at false = h
 

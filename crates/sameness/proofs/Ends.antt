@@ -25,7 +25,7 @@ use Rattle.table.specs.Slots.{init_of, is_alive}
 use Rattle.rules.specs.Read.{View, alive, below, init, namespace_taken, pid_in, seen, taken, child_of, is_init, living, unborn, children}
 use Rattle.sameness.specs.Sheet.{dead_at, name, name_by, nearest, row, Row}
 use Rattle.sameness.proofs.Names.{named_rows, children_named}
-use Rattle.table.specs.Tests.{if◌then◌else◌, ◌and◌}
+use Rattle.table.specs.Tests.{when◌then◌else◌, ◌and◌}
 use Rattle.table.specs.declared.End.{End}
 use Rattle.table.specs.declared.Life.TheVariants.{Dead}
 use Rattle.table.specs.declared.State.TheVariants.{Ended, Running}
@@ -80,11 +80,11 @@ module _ {v : View} (f : Facts v) (x : ℕ) (e : End) where
       (pid_in_remain f (fallen_places v x e) s (v.parent i) refl (not_seen_stays v x (v.parent i) (isnt_so (λ k. no_so (here v x i q) (both _ _ (child_seen v f _ i h k) k)))))
 
   -- the last number that a row shows
-  pub last_left : (i : ℕ) → So (taken v i) → So (stays v x i) → (if eqb (init (fallen v x e) ((fallen v x e).own i)) i then v.last ((fallen v x e).own i) else 0) ≡ (if below v (v.own i) (v.own x) then 0 else (if eqb (init v (v.own i)) i then v.last (v.own i) else 0))
+  pub last_left : (i : ℕ) → So (taken v i) → So (stays v x i) → (when eqb (init (fallen v x e) ((fallen v x e).own i)) i then v.last ((fallen v x e).own i) else 0) ≡ (when below v (v.own i) (v.own x) then 0 else (when eqb (init v (v.own i)) i then v.last (v.own i) else 0))
   last_left i h q = rw (here v x i q) (go (below v (v.own i) (v.own x)))
     where
-      go : (b : Bool) → (if eqb (init_of (if b then Dead else v.life (v.own i))) i then v.last (v.own i) else 0) ≡ (if b then 0 else (if eqb (init v (v.own i)) i then v.last (v.own i) else 0))
-      go true = ap (λ (c : Bool). if c then v.last (v.own i) else 0) (ne_eqb no_slot i (λ z. omega (arith, f.in_range i h)))
+      go : (b : Bool) → (when eqb (init_of (when b then Dead else v.life (v.own i))) i then v.last (v.own i) else 0) ≡ (when b then 0 else (when eqb (init v (v.own i)) i then v.last (v.own i) else 0))
+      go true = ap (λ (c : Bool). when c then v.last (v.own i) else 0) (ne_eqb no_slot i (λ z. omega (arith, f.in_range i h)))
       go false = refl
 
   -- ---- names
@@ -150,12 +150,12 @@ module _ {v : View} (f : Facts v) (x : ℕ) (e : End) (s i : ℕ) where
   abbrev after : View
   after = member_of v x e
 
-  parent_after : pid_in after s (after.parent i) ≡ (if eqb i x then pid_in v s (v.parent i) else (if child_of v x i then pid_in v s (init v (v.own x)) else pid_in v s (v.parent i)))
+  parent_after : pid_in after s (after.parent i) ≡ (when eqb i x then pid_in v s (v.parent i) else (when child_of v x i then pid_in v s (init v (v.own x)) else pid_in v s (v.parent i)))
   parent_after =
       pid_in_remain f (member_remain x e).places s (after.parent i) refl refl
-      ∙ pick (pid_in v s) (eqb i x) _ _ ∙ ap (λ (n : ℕ). if eqb i x then pid_in v s (v.parent i) else n) (pick (pid_in v s) (child_of v x i) _ _)
+      ∙ pick (pid_in v s) (eqb i x) _ _ ∙ ap (λ (n : ℕ). when eqb i x then pid_in v s (v.parent i) else n) (pick (pid_in v s) (child_of v x i) _ _)
 
-  children_after : name after s (children after i) ≡ (if eqb i x then name v s no_slot else name v s (children v i))
+  children_after : name after s (children after i) ≡ (when eqb i x then name v s no_slot else name v s (children v i))
   children_after = name_remain f (member_remain x e) s (children after i) refl refl ∙ pick (name v s) (eqb i x) no_slot (children v i)
 
 module _ {v u : View} {s r : ℕ} (p : Pair v u s r) {x y : ℕ} (e : End) (k : Twin v u s r x y) (lives : So (alive v (v.own x))) where
@@ -173,10 +173,10 @@ module _ {v u : View} {s r : ℕ} (p : Pair v u s r) {x y : ℕ} (e : End) (k : 
       let child = child_twins p m k in
       let none = name_no_slot v s no_slot refl ∙ sym (name_no_slot u r no_slot refl) in
       record {
-        states = λ z. if slot z then Ended e else (rows z).state;
-        traitss = λ z. if slot z then ended_traits (rows z).traits else (rows z).traits;
-        parents = parent_after p.facts_v x e s i ∙ (λ z. if slot z then (rows z).parent else (if child z then reapers z else (rows z).parent)) ∙ sym (parent_after p.facts_u y e r j);
-        holds = children_named _ _ s r i j (children_after p.facts_v x e s i ∙ (λ z. if slot z then none z else named_rows v u s r i j rows 0 (omega arith) z) ∙ sym (children_after p.facts_u y e r j));
+        states = λ z. when slot z then Ended e else (rows z).state;
+        traitss = λ z. when slot z then ended_traits (rows z).traits else (rows z).traits;
+        parents = parent_after p.facts_v x e s i ∙ (λ z. when slot z then (rows z).parent else (when child z then reapers z else (rows z).parent)) ∙ sym (parent_after p.facts_u y e r j);
+        holds = children_named _ _ s r i j (children_after p.facts_v x e s i ∙ (λ z. when slot z then none z else named_rows v u s r i j rows 0 (omega arith) z) ∙ sym (children_after p.facts_u y e r j));
         lasts = λ z. (rows z).last;
       }
 
@@ -227,7 +227,7 @@ module _ {v u : View} {s r : ℕ} (p : Pair v u s r) {x y : ℕ} (e : End) (k : 
       either_name _ _ (named_rows v u s r i j (twin_rows p m) 0 (omega arith)) (children_taken p.facts_v i li) (children_taken p.facts_u j lj) (a ∙ sym b) (λ h. absurd (no_so a h)))
       (λ z. namesakes (children_names p m li z))
 
-  child_names : {i j : ℕ} → Twin v u s r i j → name v' s (if seen v (v.own x) i then no_slot else children v i) ≡ name u' r (if seen u (u.own y) j then no_slot else children u j)
+  child_names : {i j : ℕ} → Twin v u s r i j → name v' s (when seen v (v.own x) i then no_slot else children v i) ≡ name u' r (when seen u (u.own y) j then no_slot else children u j)
   unfolding living
   child_names {i} {j} m =
       by_test (seen v (v.own x) i) (λ o. rw (o, sym (sees m) ∙ o) (none no_slot no_slot refl refl))
@@ -247,12 +247,12 @@ module _ {v u : View} {s r : ℕ} (p : Pair v u s r) {x y : ℕ} (e : End) (k : 
       let going : gone v (v.own x) i ≡ gone u (u.own y) j = ap₂ ◌and◌ (sees m) (parent_in_twins p m tops) in
       row_by v' u' s r i j
       (pids_remain p.facts_v (fallen_places v x e) s i refl q ∙ ap (λ (o : Row). o.pids) rows ∙ sym (pids_remain p.facts_u (fallen_places u y e) r j refl q'))
-      (λ z. if going z then Running else (if sees m z then (if slot z then Ended e else (if ended_twins p m z then (rows z).state else Ended (Signaled sigkill))) else (rows z).state))
-      (λ z. if going z then no_traits else (if sees m z then ended_traits (rows z).traits else (rows z).traits))
+      (λ z. when going z then Running else (when sees m z then (when slot z then Ended e else (when ended_twins p m z then (rows z).state else Ended (Signaled sigkill))) else (rows z).state))
+      (λ z. when going z then no_traits else (when sees m z then ended_traits (rows z).traits else (rows z).traits))
       (parent_left p.facts_v x e s i (taken_v m) q ∙ ap (λ (o : Row). o.parent) rows ∙ sym (parent_left p.facts_u y e r j (taken_u m) q'))
       (rw (here v x i q, here u y j q') (namesakes (own_names p m)))
       (children_named v' u' s r i j (rw (here v x i q, here u y j q') (child_names m)))
-      (last_left p.facts_v x e i (taken_v m) q ∙ (λ z. if below_named p (own_names p m) tops z then 0 else (rows z).last) ∙ sym (last_left p.facts_u y e j (taken_u m) q'))
+      (last_left p.facts_v x e i (taken_v m) q ∙ (λ z. when below_named p (own_names p m) tops z then 0 else (rows z).last) ∙ sym (last_left p.facts_u y e j (taken_u m) q'))
 
   -- each row that stays is the same on both
   pub init_same : Same v' u' s r

@@ -22,7 +22,7 @@ use Rattle.rules.specs.Read.{View, all_seen, is_init, namespace_taken, seen, tak
 use Rattle.sameness.specs.Sheet.{Sheet, row, sheet}
 use Rattle.sameness.proofs.Names.{values_same}
 use Rattle.rules.specs.Sound.{SoundTable}
-use Rattle.table.specs.Tests.{if◌then◌else◌}
+use Rattle.table.specs.Tests.{when◌then◌else◌}
 use Rattle.table.specs.declared.Table.{Table}
 use Rattle.table.specs.Limits.{hold_slots}
 
@@ -52,7 +52,7 @@ module _ {v : View} (f : Facts v) where
   row_freed : (s i : ℕ) → So (kept v s) → So (taken v i) → row w s i ≡ row v s i
   unfolding row
   row_freed s i ks h =
-      let last : (if is_init v i then w.last (v.own i) else 0) ≡ (if is_init v i then v.last (v.own i) else 0) = rw (kept_own v f i h) in
+      let last : (when is_init v i then w.last (v.own i) else 0) ≡ (when is_init v i then v.last (v.own i) else 0) = rw (kept_own v f i h) in
       row_remain f remain s i ks refl h
       ∙ (λ z. lit v s i (v.state i) (v.traits i) (pid_in_remain f remain.places s (v.parent i) ks refl z) (values_same _ _ hold_slots 0 (λ k a b. name_remain f remain s (v.hold i k) ks (kept_hold v f i h k (omega arith))) z) (last z))
 

@@ -35,7 +35,7 @@ use Rattle.table.specs.Limits.{process_slots, signals, sigcont, sigkill, sigstop
 use Rattle.table.specs.Slots.{is_ended, pid_at, process, put}
 use Rattle.rules.specs.Read.{View, alive, all_seen, pid_seen, seen, view, below, is_init, living, taken}
 use Rattle.table.specs.SignalSets.{has, with_signal}
-use Rattle.table.specs.Tests.{◌and◌, if◌then◌else◌, only, ◌or◌}
+use Rattle.table.specs.Tests.{◌and◌, when◌then◌else◌, only, ◌or◌}
 use Rattle.table.specs.declared.Action.TheVariants.{Finish, Nothing, Pend, Resume, Stop}
 use Rattle.table.specs.declared.Action.{Action}
 use Rattle.table.specs.declared.Call.TheVariants.{Kill}
@@ -106,7 +106,7 @@ targets_twins {t} {u} {s} {r} w (negsuc k) =
     (all_seen_twins w.pair (owns_twins w))
 targets_twins {t} {u} {s} {r} {i} {j} w (pos k) = go (named_twins w (pos k))
   where
-    go : NobodyOrTwins (view t) (view u) s r (named (view t) i (pos k)) (named (view u) j (pos k)) → Along (Twin (view t) (view u) s r) (if eqb (named (view t) i (pos k)) process_slots then [] else named (view t) i (pos k) ∷ []) (if eqb (named (view u) j (pos k)) process_slots then [] else named (view u) j (pos k) ∷ [])
+    go : NobodyOrTwins (view t) (view u) s r (named (view t) i (pos k)) (named (view u) j (pos k)) → Along (Twin (view t) (view u) s r) (when eqb (named (view t) i (pos k)) process_slots then [] else named (view t) i (pos k) ∷ []) (when eqb (named (view u) j (pos k)) process_slots then [] else named (view u) j (pos k) ∷ [])
     go (inl (e, d)) = rw (eq-eqb _ _ e, eq-eqb _ _ d) end_along
     go (inr p) = rw (slot_v w.pair p, slot_v (flip_pair w.pair) (flip_twin p)) (more p end_along)
 
@@ -174,7 +174,7 @@ finish_own v f x n e h q =
     let no_finish : is_finish (action_on v f x n) ≡ false = rw (h, eq-eqb (v.own x) f q, action_on) (go (eqb n 0 or not (living v x)) (eqb n sigcont) (eqb n sigkill or eqb n sigstop) (has (v.traits x).handled n)) in
     false≢true (sym no_finish ∙ ap is_finish e)
   where
-    go : (a b c d : Bool) → is_finish (if a then Nothing else (if b then Resume else (if c then Nothing else (if d then Pend else Nothing)))) ≡ false
+    go : (a b c d : Bool) → is_finish (when a then Nothing else (when b then Resume else (when c then Nothing else (when d then Pend else Nothing)))) ≡ false
     go true b c d = refl
     go false true c d = refl
     go false false true d = refl
@@ -187,9 +187,9 @@ resumed_placed p = choose (λ q. Placed q p) (has p.traits.handled sigcont) (λ 
 
 resumed_shown : {t u : Table} {s r : ℕ} {p q : Process} → Shown t u s r p q → Shown t u s r (resumed p) (resumed q)
 unfolding resumed with_pending
-resumed_shown {t} {u} {s} {r} {p} {q} z = subst (λ b. Shown t u s r (resumed p) (if b then with_pending (with_state q Running) sigcont else with_state q Running)) (ap (λ (x : Traits). has x.handled sigcont) z.traitss) (go (has p.traits.handled sigcont))
+resumed_shown {t} {u} {s} {r} {p} {q} z = subst (λ b. Shown t u s r (resumed p) (when b then with_pending (with_state q Running) sigcont else with_state q Running)) (ap (λ (x : Traits). has x.handled sigcont) z.traitss) (go (has p.traits.handled sigcont))
   where
-    go : (b : Bool) → Shown t u s r (if b then with_pending (with_state p Running) sigcont else with_state p Running) (if b then with_pending (with_state q Running) sigcont else with_state q Running)
+    go : (b : Bool) → Shown t u s r (when b then with_pending (with_state p Running) sigcont else with_state p Running) (when b then with_pending (with_state q Running) sigcont else with_state q Running)
     go true = shown_as z refl (ap (λ (x : Traits). with_signals x x.handled (with_signal x.pending sigcont)) z.traitss)
     go false = shown_as z refl z.traitss
 

@@ -37,7 +37,7 @@ use Rattle.rules.specs.Read.{View, find, namespace_taken, seen, view, alive}
 use Rattle.sameness.specs.Sheet.{sheet, Row, row}
 use Rattle.rules.specs.Sound.{SoundTable}
 use Rattle.rules.specs.Step.{step, runs}
-use Rattle.table.specs.Tests.{◌or◌, if◌then◌else◌, ◌and◌}
+use Rattle.table.specs.Tests.{◌or◌, when◌then◌else◌, ◌and◌}
 use Rattle.sameness.specs.Touches.{allowed, untouched}
 use Rattle.table.specs.declared.Call.TheVariants.{Getpid, Getppid, Handle, Poll, Clone, CloneNew, Unshare, Setns, Kill, Exit, Wait}
 use Rattle.table.specs.declared.Call.{Call}
@@ -107,7 +107,7 @@ unfolding follow
 follow_stands t u (gone l) = tt
 follow_stands t u (at s) = go (namespace_taken (view u) s) refl
   where
-    go : (b : Bool) → namespace_taken (view u) s ≡ b → PlaceStands u (if b then at s else gone ((view t).level s))
+    go : (b : Bool) → namespace_taken (view u) s ≡ b → PlaceStands u (when b then at s else gone ((view t).level s))
     go true e = e
     go false e = tt
 
@@ -212,7 +212,7 @@ both_inside k c es fs rest t u p q w e a b = go (full x or full y) refl (inside_
     y : Option Outcome
     y = happens u q (inside k c)
 
-    go : (z : Bool) → full x or full y ≡ z → Between t p u q x y → (if z then Unit {0} else (◌≡◌ {A = Observed} (record { answer = answer_of x; sheet = sheet_of (table_after t x) (follow t (table_after t x) p) }) (record { answer = answer_of y; sheet = sheet_of (table_after u y) (follow u (table_after u y) q) }) × Agree (observations (table_after t x) (follow t (table_after t x) p) es) (observations (table_after u y) (follow u (table_after u y) q) fs)))
+    go : (z : Bool) → full x or full y ≡ z → Between t p u q x y → (when z then Unit {0} else (◌≡◌ {A = Observed} (record { answer = answer_of x; sheet = sheet_of (table_after t x) (follow t (table_after t x) p) }) (record { answer = answer_of y; sheet = sheet_of (table_after u y) (follow u (table_after u y) q) }) × Agree (observations (table_after t x) (follow t (table_after t x) p) es) (observations (table_after u y) (follow u (table_after u y) q) fs)))
     go true r h = tt
     go false r (inl h) = absurd (false≢true (sym r ∙ h))
     go false r (inr (h, n)) =
@@ -258,7 +258,7 @@ agreed (o ∷ os) (q ∷ qs) a h k =
     or_false (lacks_room o) (lacks_room q) (not-true (lacks_room o) (left _ _ h)) (not-true (lacks_room q) (left _ _ k)) in
     go (lacks_room o or lacks_room q) none a (λ b. agreed os qs b (right _ _ h) (right _ _ k))
   where
-    go : (b : Bool) → b ≡ false → (if b then Unit {0} else ((o ≡ q) × Agree os qs)) → (Agree os qs → os ≡ qs) → ◌≡◌ {A = List Observed} (o ∷ os) (q ∷ qs)
+    go : (b : Bool) → b ≡ false → (when b then Unit {0} else ((o ≡ q) × Agree os qs)) → (Agree os qs → os ≡ qs) → ◌≡◌ {A = List Observed} (o ∷ os) (q ∷ qs)
     go true e a f = absurd (true≢false e)
     go false e a f = ap (λ x. x ∷ os) a.0 ∙ ap (λ x. q ∷ x) (f a.1)
 

@@ -23,7 +23,7 @@ use Rattle.rules.specs.Read.{pid_seen, View, all_seen, alive, below, child_of, f
 use Rattle.sameness.specs.Sheet.{Row, row, sheet}
 use Rattle.sameness.proofs.Names.{named_rows}
 use Rattle.rules.specs.Sound as S
-use Rattle.table.specs.Tests.{◌and◌, if◌then◌else◌}
+use Rattle.table.specs.Tests.{◌and◌, when◌then◌else◌}
 
 -- nobody on both tables, or twins
 abbrev pub NobodyOrTwins : View → View → ℕ → ℕ → ℕ → ℕ → Type 0
@@ -47,7 +47,7 @@ module _ {v u : View} {s r : ℕ} (w : Pair v u s r) where
   pub parent_pid : {i j n m : ℕ} → Twin v u s r i j → Twins v u s r n m → pid_in v n (v.parent i) ≡ pid_in u m (u.parent j)
   unfolding pid_in
   parent_pid {i} {j} {n} {m} k l =
-      by_test (seen v s (v.parent i)) (λ e. ap₂ (λ (b : Bool) (y : ℕ). if b then y else 0) (parent_in_twins k l) (pid_twins w (parent_twin w k e) l))
+      by_test (seen v s (v.parent i)) (λ e. ap₂ (λ (b : Bool) (y : ℕ). when b then y else 0) (parent_in_twins k l) (pid_twins w (parent_twin w k e) l))
       (λ e. let d = unseen_below w.facts_v n s _ l.below_v e in rw (d, sym (parent_in_twins k l) ∙ d))
 
   -- two pairs of twins are of the same slots on one table as on the other

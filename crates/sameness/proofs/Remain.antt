@@ -17,7 +17,7 @@ use Rattle.table.specs.Slots.{init_of, is_alive}
 use Rattle.rules.specs.Read.{View, below, climb, init, is_init, namespace_taken, pid_in, pid_seen, seen, taken}
 use Rattle.sameness.specs.Sheet.{Name, Row, by_init, dead_at, name, name_by, nearest, no_name, row}
 use Rattle.sameness.proofs.Names.{Named, names_alike}
-use Rattle.table.specs.Tests.{◌and◌, ◌or◌, if◌then◌else◌, values}
+use Rattle.table.specs.Tests.{◌and◌, ◌or◌, when◌then◌else◌, values}
 use Rattle.table.specs.declared.Life.TheVariants.{Unborn, Alive, Dead}
 use Rattle.table.specs.declared.Life.{Life}
 use Rattle.table.specs.declared.State.{State}
@@ -77,7 +77,7 @@ module _ {v v' : View} {K : ℕ → Bool} (f : Facts v) (w : Tree v v' K) where
 
     pub name_stays : (n : ℕ) → So (K n) → name v' s n ≡ name v s n
     unfolding name
-    name_stays n hn = ap (λ y. if eqb n no_slot then no_name else y) (ap (name_by v' s n) (lives n hn) ∙ by_stays n hn (v.life n) refl)
+    name_stays n hn = ap (λ y. when eqb n no_slot then no_name else y) (ap (name_by v' s n) (lives n hn) ∙ by_stays n hn (v.life n) refl)
 
 -- ---- processes
 
@@ -116,7 +116,7 @@ module _ {v v' : View} {K Q : ℕ → Bool} (f : Facts v) (w : Places v v' K Q) 
 
   pub pid_in_remain : (n i : ℕ) → So (K n) → So (Q i) → pid_in v' n i ≡ pid_in v n i
   unfolding pid_in
-  pid_in_remain n i k h = ap₂ (λ (b : Bool) (x : ℕ). if b then x else 0) (seen_remain n i h) (pid_remain n i k h)
+  pid_in_remain n i k h = ap₂ (λ (b : Bool) (x : ℕ). when b then x else 0) (seen_remain n i h) (pid_remain n i k h)
 
   -- the numbers that a row shows
   pub pids_remain : (s i : ℕ) → So (K s) → So (Q i) → values (v'.pid i) (levels - v'.level s) (v'.level s) ≡ values (v.pid i) (levels - v.level s) (v.level s)
@@ -168,7 +168,7 @@ module _ {v v' : View} {K Q : ℕ → Bool} (f : Facts v) (w : Remain v v' K Q) 
   name_remain s n hs = name_stays f w.places.tree w.lives s (λ m k. pid_in_remain f w.places s (init v m) hs (w.inits m k)) n
 
   -- the row of one that remains, but for what may change
-  pub row_remain : (s i : ℕ) → So (K s) → So (Q i) → So (taken v i) → row v' s i ≡ lit v s i (v'.state i) (v'.traits i) (pid_in v' s (v'.parent i)) (values (λ k. name v' s (v'.hold i k)) hold_slots 0) (if is_init v i then v'.last (v.own i) else 0)
+  pub row_remain : (s i : ℕ) → So (K s) → So (Q i) → So (taken v i) → row v' s i ≡ lit v s i (v'.state i) (v'.traits i) (pid_in v' s (v'.parent i)) (values (λ k. name v' s (v'.hold i k)) hold_slots 0) (when is_init v i then v'.last (v.own i) else 0)
   unfolding row is_init
   row_remain s i hs h ht =
       let own = w.places.owns i h in
@@ -180,7 +180,7 @@ module _ {v v' : View} {K Q : ℕ → Bool} (f : Facts v) (w : Remain v v' K Q) 
         parent = pid_in v' s (v'.parent i);
         own = (ap (name v' s) own ∙ name_remain s (v.own i) hs kept) k;
         holds = values (λ k. name v' s (v'.hold i k)) hold_slots 0;
-        last = (ap (λ (n : ℕ). if eqb (init v' n) i then v'.last n else 0) own ∙ ap (λ (x : Life). if eqb (init_of x) i then v'.last (v.own i) else 0) (w.lives (v.own i) kept)) k;
+        last = (ap (λ (n : ℕ). when eqb (init v' n) i then v'.last n else 0) own ∙ ap (λ (x : Life). when eqb (init_of x) i then v'.last (v.own i) else 0) (w.lives (v.own i) kept)) k;
       }
 
 -- what may change is the same for a pair of twins that remain
@@ -189,7 +189,7 @@ pub record Lit (v u v' u' : View) (s r i j : ℕ) : Type 0 where
   pub traitss : v'.traits i ≡ u'.traits j
   pub parents : pid_in v' s (v'.parent i) ≡ pid_in u' r (u'.parent j)
   pub holds : Named v' u' s r i j
-  pub lasts : (if is_init v i then v'.last (v.own i) else 0) ≡ (if is_init u j then u'.last (u.own j) else 0)
+  pub lasts : (when is_init v i then v'.last (v.own i) else 0) ≡ (when is_init u j then u'.last (u.own j) else 0)
 
 -- two tables that were the same to S still are, if what may change is the same
 pub same_remain : {v u v' u' : View} {s r : ℕ} (w : Pair v u s r) {K Q K' Q' : ℕ → Bool} (a : Remain v v' K Q) (b : Remain u u' K' Q') → So (K s) → So (K' r) → ((i j : ℕ) → Twin v u s r i j → Q i ≡ Q' j) → ((i j : ℕ) → Twin v u s r i j → So (Q i) → Lit v u v' u' s r i j) → Same v' u' s r

@@ -13,7 +13,7 @@ use Rattle.table.specs.Limits.{levels, process_slots}
 use Rattle.rules.specs.Read.{View, all_seen, namespace_taken, pid_seen, seen, pid_in, is_init}
 use Rattle.sameness.specs.Sheet.{Row, row, sheet, name}
 use Rattle.sameness.proofs.Names.{Named, getD_values, names_alike}
-use Rattle.table.specs.Tests.{values, if◌then◌else◌}
+use Rattle.table.specs.Tests.{values, when◌then◌else◌}
 
 -- its level, and each row of one is a row of the other
 pub record Same (v u : View) (s r : ℕ) : Type 0 where
@@ -77,7 +77,7 @@ sheets_of_same {v} {u} {s} {r} h g hs hr w =
     }
 
 -- a row by its parts
-pub row_by : (v u : View) (s r i j : ℕ) → values (v.pid i) (levels - v.level s) (v.level s) ≡ values (u.pid j) (levels - u.level r) (u.level r) → v.state i ≡ u.state j → v.traits i ≡ u.traits j → pid_in v s (v.parent i) ≡ pid_in u r (u.parent j) → name v s (v.own i) ≡ name u r (u.own j) → Named v u s r i j → (if is_init v i then v.last (v.own i) else 0) ≡ (if is_init u j then u.last (u.own j) else 0) → row v s i ≡ row u r j
+pub row_by : (v u : View) (s r i j : ℕ) → values (v.pid i) (levels - v.level s) (v.level s) ≡ values (u.pid j) (levels - u.level r) (u.level r) → v.state i ≡ u.state j → v.traits i ≡ u.traits j → pid_in v s (v.parent i) ≡ pid_in u r (u.parent j) → name v s (v.own i) ≡ name u r (u.own j) → Named v u s r i j → (when is_init v i then v.last (v.own i) else 0) ≡ (when is_init u j then u.last (u.own j) else 0) → row v s i ≡ row u r j
 unfolding row
 row_by v u s r i j a b c f g h z =
     λ k. record { pids = a k; state = b k; traits = c k; parent = f k; own = g k; holds = names_alike v u s r i j h k; last = z k }

@@ -38,7 +38,7 @@ use Rattle.sameness.specs.Sheet.{Row, Sheet, row, sheet}
 use Rattle.sameness.specs.Touches.{allowed, untouched}
 use Rattle.table.specs.Limits.{levels, process_slots}
 use Rattle.table.specs.Slots.{is_alive, is_dead, is_ended, is_running, is_unborn, no_pid, pid_at, process}
-use Rattle.table.specs.Tests.{◌or◌, if◌then◌else◌}
+use Rattle.table.specs.Tests.{◌or◌, when◌then◌else◌}
 use Rattle.table.specs.declared.Call.TheVariants.{Clone, CloneNew, Unshare, Setns, Kill, Exit, Wait, Getpid, Getppid, Handle, Poll}
 use Rattle.table.specs.declared.Call.{Call}
 use Rattle.table.specs.declared.End.{End}
@@ -311,7 +311,7 @@ module _ (t : Table) (h : SoundTable t) (s : ℕ) (w : HoldsOn t s) where
   unfolding happens table_after KeepsSound
   sound_inside k c = go (eqb (slot_of t (at s) k) process_slots)
     where
-      go : (b : Bool) → SoundTable (table_after t (if b then none else some (step t (slot_of t (at s) k) c)))
+      go : (b : Bool) → SoundTable (table_after t (when b then none else some (step t (slot_of t (at s) k) c)))
       go true = h
       go false = keeps_sound t (slot_of t (at s) k) c h
 

@@ -23,7 +23,7 @@ use Rattle.rules.specs.Read.{View, below, init, is_init, living, namespace_taken
 use Rattle.rules.proofs.Laws.Holds.{each_index}
 use Rattle.sameness.specs.Sheet.{name, row}
 use Rattle.sameness.proofs.Names.{values_same}
-use Rattle.table.specs.Tests.{◌or◌, if◌then◌else◌, values}
+use Rattle.table.specs.Tests.{◌or◌, when◌then◌else◌, values}
 use Rattle.table.specs.declared.Life.{Life}
 use Rattle.table.specs.declared.Process.{Process}
 use Rattle.table.specs.declared.State.{State}
@@ -88,7 +88,7 @@ module _ {v v' : View} {s : ℕ} (f : Facts v) (w : Still v v' s) where
   pub pid_in_still : (i : ℕ) → pid_in v' s i ≡ pid_in v s i
   unfolding pid_in pid_seen
   pid_in_still i =
-      by_test (seen v s i) (λ k. λ z. if w.seens i z then (ap (v'.pid i) level ∙ w.pids i (v.level s) k) z else 0)
+      by_test (seen v s i) (λ k. λ z. when w.seens i z then (ap (v'.pid i) level ∙ w.pids i (v.level s) k) z else 0)
       (λ k. rw (w.seens i ∙ k, k))
 
   name_still : (n : ℕ) → So (near v s n) → name v' s n ≡ name v s n
@@ -107,7 +107,7 @@ module _ {v v' : View} {s : ℕ} (f : Facts v) (w : Still v v' s) where
         parent = (pid_in_still (v'.parent i) ∙ w.parents i q) k;
         own = (ap (λ (l : Look). name v' s l.own) e ∙ name_still (v.own i) near_own) k;
         holds = (values_same _ _ hold_slots 0 (λ j a b. ap (λ (l : Look). name v' s (l.holds j)) e ∙ child j (omega arith))) k;
-        last = (ap (λ (l : Look). if eqb (init v' l.own) i then v'.last l.own else 0) e ∙ ap₂ (λ (x : Life) (z : ℕ). if eqb (init_of x) i then z else 0) (w.lives (v.own i) near_own) (w.lasts i q)) k;
+        last = (ap (λ (l : Look). when eqb (init v' l.own) i then v'.last l.own else 0) e ∙ ap₂ (λ (x : Life) (z : ℕ). when eqb (init_of x) i then z else 0) (w.lives (v.own i) near_own) (w.lasts i q)) k;
       }
 
   -- so the sheet stays

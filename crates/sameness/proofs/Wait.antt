@@ -36,7 +36,7 @@ use Rattle.table.specs.Slots.{is_ended, no_process, put}
 use Rattle.rules.specs.Read.{init, living, pid_in, taken, View, child_of, seen, view, namespace_taken, children}
 use Rattle.sameness.specs.Sheet.{Row, name, row, sheet}
 use Rattle.rules.specs.Sound.{SoundTable}
-use Rattle.table.specs.Tests.{◌and◌, if◌then◌else◌, any}
+use Rattle.table.specs.Tests.{◌and◌, when◌then◌else◌, any}
 use Rattle.sameness.specs.Touches.{removes_from, touched}
 use Rattle.sameness.proofs.Names.{named_rows, children_named}
 use Rattle.table.specs.declared.Answer.TheVariants.{Reaped}
@@ -96,8 +96,8 @@ module _ {v u : View} {s r : ℕ} (w : Pair v u s r) {x y : ℕ} (k : Twin v u s
       let rows = twin_rows w m in
       let slot = twin_eqb w m k in
       record {
-        states = λ z. if slot z then Running else (rows z).state;
-        traitss = λ z. if slot z then no_traits else (rows z).traits;
+        states = λ z. when slot z then Running else (rows z).state;
+        traitss = λ z. when slot z then no_traits else (rows z).traits;
         parents = reap_parent w.facts_v x (taken_v k) ex s i (taken_v m) q ∙ ap (λ (o : Row). o.parent) rows ∙ sym (reap_parent w.facts_u y (taken_u k) ey r j (taken_u m) q');
         holds = children_named _ _ s r i j (reap_children w.facts_v x (taken_v k) ex s i q ∙ named_rows v u s r i j rows 0 (omega arith) ∙ sym (reap_children w.facts_u y (taken_u k) ey r j q'));
         lasts = ap (λ (o : Row). o.last) rows;

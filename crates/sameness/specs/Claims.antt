@@ -7,7 +7,7 @@ use Rattle.sameness.specs.Events.{Place, at, Event, inside, outside, sheet_of, i
 use Rattle.rules.specs.Read.{view, namespace_taken, alive, dead, seen, pid_seen}
 use Rattle.sameness.specs.Sheet.{Sheet, sheet}
 use Rattle.rules.specs.Sound.{SoundTable}
-use Rattle.table.specs.Tests.{◌and◌, ◌or◌, if◌then◌else◌}
+use Rattle.table.specs.Tests.{◌and◌, ◌or◌, when◌then◌else◌}
 use Rattle.sameness.specs.Touches.{allowed, untouched}
 use Rattle.table.specs.declared.Call.{Call}
 use Rattle.table.specs.declared.Table.{Table}
@@ -43,7 +43,7 @@ unfoldable pub Agree : List Observed → List Observed → Type 0
 Agree [] [] = Unit {0}
 Agree [] (q ∷ qs) = ⊥
 Agree (o ∷ os) [] = ⊥
-Agree (o ∷ os) (q ∷ qs) = if lacks_room o or lacks_room q then Unit {0} else ((o ≡ q) × Agree os qs)
+Agree (o ∷ os) (q ∷ qs) = when lacks_room o or lacks_room q then Unit {0} else ((o ≡ q) × Agree os qs)
 
 -- Two sound tables, in each a living namespace, the two with equal sheets: the same inside calls give the same answers
 -- and equal sheets on both, whatever untouching outside calls stand between, up to the first "no room".

@@ -6,7 +6,7 @@ use Rattle.rules.specs.Answers.{Shown, shown}
 use Rattle.rules.specs.Read.{view, namespace_taken, below, seen, find}
 use Rattle.sameness.specs.Sheet.{Sheet, sheet}
 use Rattle.rules.specs.Step.{step}
-use Rattle.table.specs.Tests.{if◌then◌else◌}
+use Rattle.table.specs.Tests.{when◌then◌else◌}
 use Rattle.table.specs.declared.Call.{Call}
 use Rattle.table.specs.declared.Outcome.{Outcome}
 use Rattle.table.specs.declared.Table.{Table}
@@ -21,7 +21,7 @@ pub data Place : Type 0 where
 -- Where S is after a call that took the table t to u. (A call that frees a slot gives none away, so a slot that is
 -- taken before and after is the same namespace's.)
 unfoldable pub follow : Table → Table → Place → Place
-follow t u (at s) = if namespace_taken (view u) s then at s else gone ((view t).level s)
+follow t u (at s) = when namespace_taken (view u) s then at s else gone ((view t).level s)
 follow t u (gone l) = gone l
 
 -- Once S is freed its sheet is its level and no rows for good, whatever takes its slot later.
@@ -60,7 +60,7 @@ inside_calls (outside i c ∷ es) = inside_calls es
 
 -- The host puts in that process's slot. A number that no row has makes no call.
 unfoldable pub happens : Table → Place → Event → Option Outcome
-happens t p (inside k c) = if eqb (slot_of t p k) process_slots then none else some (step t (slot_of t p k) c)
+happens t p (inside k c) = when eqb (slot_of t p k) process_slots then none else some (step t (slot_of t p k) c)
 happens t p (outside i c) = some (step t i c)
 
 -- the table then; where no call is made, it stays

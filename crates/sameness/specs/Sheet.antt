@@ -3,7 +3,7 @@ use Rattle.std.specs.Prelude.{ℕ, zero, suc, ◌-◌, true, false, List, map, e
 use Rattle.table.specs.Limits.{levels, hold_slots, no_slot}
 use Rattle.table.specs.Slots.{is_alive}
 use Rattle.rules.specs.Read.{View, init, is_init, pid_in, all_seen}
-use Rattle.table.specs.Tests.{if◌then◌else◌, values}
+use Rattle.table.specs.Tests.{when◌then◌else◌, values}
 use Rattle.table.specs.declared.Life.{Life}
 use Rattle.table.specs.declared.Life.TheVariants.{Unborn, Alive, Dead}
 use Rattle.table.specs.declared.State.{State}
@@ -52,7 +52,7 @@ name_by v s n Dead = dead_at (v.level n) (pid_in v s (init v (nearest_alive v (v
 
 -- likewise, or "unborn" or "none".
 unfoldable pub name : View → ℕ → ℕ → Name
-name v s n = if eqb n no_slot then no_name else name_by v s n (v.life n)
+name v s n = when eqb n no_slot then no_name else name_by v s n (v.life n)
 
 -- the row of the process at slot i; the last number is 0 but for a living init
 unfoldable pub row : View → ℕ → ℕ → Row
@@ -64,7 +64,7 @@ row v s i =
       parent = pid_in v s (v.parent i);
       own = name v s (v.own i);
       holds = values (λ k. name v s (v.hold i k)) hold_slots 0;
-      last = if is_init v i then v.last (v.own i) else 0;
+      last = when is_init v i then v.last (v.own i) else 0;
     }
 
 -- A row for each process in the subtree, ended ones too, by ascending number in S.

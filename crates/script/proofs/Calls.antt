@@ -12,15 +12,15 @@ use Rattle.script.specs.Texts.{bytes}
 use Rattle.script.specs.declared.Number.{Number}
 use Rattle.script.specs.declared.Request.{Request}
 use Rattle.table.proofs.Chains.{facts, if_yes, if_no}
-use Rattle.table.specs.Tests.{if◌then◌else◌}
+use Rattle.table.specs.Tests.{when◌then◌else◌}
 use Rattle.table.specs.declared.Call.TheVariants.{Setns, Kill, Exit, Handle}
 
 -- ---- a word and a number
 
 abbrev choose : List ℕ → ℤ → Request
 choose w n =
-    if same w (bytes "setns") then Request.Is (Setns n) else
-    if same w (bytes "exit") then Request.Is (Exit n) else
+    when same w (bytes "setns") then Request.Is (Setns n) else
+    when same w (bytes "exit") then Request.Is (Exit n) else
     Request.Bad
 
 pub number_none : (w : List ℕ) (a : Number) → a ≡ Number.Bad → Request.Bad ≡ with_number w a
@@ -66,8 +66,8 @@ pub ruleset kill_laws = (kill_none, kill_half, kill_taken)
 
 abbrev turn : ℤ → List ℕ → Request
 turn s b =
-    if same b (bytes "1") then Request.Is (Handle s true) else
-    if same b (bytes "0") then Request.Is (Handle s false) else
+    when same b (bytes "1") then Request.Is (Handle s true) else
+    when same b (bytes "0") then Request.Is (Handle s false) else
     Request.Bad
 
 pub handle_none : (a : Number) (b : List ℕ) → a ≡ Number.Bad → Request.Bad ≡ handle_call a b

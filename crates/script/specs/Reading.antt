@@ -7,7 +7,7 @@ use Rattle.script.specs.declared.Natural.{Natural}
 use Rattle.script.specs.declared.Number.{Number}
 use Rattle.script.specs.declared.Request.{Request}
 use Rattle.script.specs.declared.Parsed.{Parsed}
-use Rattle.table.specs.Tests.{◌and◌, if◌then◌else◌}
+use Rattle.table.specs.Tests.{◌and◌, when◌then◌else◌}
 use Rattle.table.specs.declared.Call.TheVariants.{Clone, CloneNew, Unshare, Setns, Kill, Exit, Wait, Getpid, Getppid, Handle, Poll}
 
 -- ---- words
@@ -47,26 +47,26 @@ natural_from n (b ∷ bs) = elim (is_digit b) [ true ↦ natural_from (n * 10 + 
 -- one to ten digits, and 0 comes first only where it stands alone
 unfoldable pub read_natural : List ℕ → Natural
 read_natural l =
-    if eqb (length l) 0 then Natural.Bad else
-    if ltb most_digits (length l) then Natural.Bad else
-    if eqb (get_or l 0 0) digit_0 then (if eqb (length l) 1 then Natural.Is 0 else Natural.Bad) else
+    when eqb (length l) 0 then Natural.Bad else
+    when ltb most_digits (length l) then Natural.Bad else
+    when eqb (get_or l 0 0) digit_0 then (when eqb (length l) 1 then Natural.Is 0 else Natural.Bad) else
     natural_from 0 l
 
 -- a number from 0
 unfoldable pub from_zero : Natural → Number
 from_zero Natural.Bad = Number.Bad
-from_zero (Natural.Is n) = if ltb n past_32_bit then Number.Is (pos n) else Number.Bad
+from_zero (Natural.Is n) = when ltb n past_32_bit then Number.Is (pos n) else Number.Bad
 
 -- a number below 0, by what follows its sign
 unfoldable pub below_zero : Natural → Number
 below_zero Natural.Bad = Number.Bad
 below_zero (Natural.Is n) =
-    if eqb n 0 then Number.Bad else if ltb past_32_bit n then Number.Bad else Number.Is (neg_ℤ (pos n))
+    when eqb n 0 then Number.Bad else when ltb past_32_bit n then Number.Bad else Number.Is (neg_ℤ (pos n))
 
 unfoldable pub read_number : List ℕ → Number
 read_number l =
-    if eqb (length l) 0 then Number.Bad else
-    if eqb (get_or l 0 0) minus_sign then below_zero (read_natural (drop 1 l)) else
+    when eqb (length l) 0 then Number.Bad else
+    when eqb (get_or l 0 0) minus_sign then below_zero (read_natural (drop 1 l)) else
     from_zero (read_natural l)
 
 -- ---- calls
@@ -74,30 +74,30 @@ read_number l =
 -- a question of the caller about itself
 unfoldable pub own_call : List ℕ → Request
 own_call w =
-    if same w (bytes "getpid") then Request.Is Getpid else
-    if same w (bytes "getppid") then Request.Is Getppid else
-    if same w (bytes "poll") then Request.Is Poll else
+    when same w (bytes "getpid") then Request.Is Getpid else
+    when same w (bytes "getppid") then Request.Is Getppid else
+    when same w (bytes "poll") then Request.Is Poll else
     Request.Bad
 
 -- a call of one word
 unfoldable pub plain_call : List ℕ → Request
 plain_call w =
-    if same w (bytes "clone") then Request.Is Clone else
-    if same w (bytes "unshare") then Request.Is Unshare else
-    if same w (bytes "wait") then Request.Is Wait else
+    when same w (bytes "clone") then Request.Is Clone else
+    when same w (bytes "unshare") then Request.Is Unshare else
+    when same w (bytes "wait") then Request.Is Wait else
     own_call w
 
 unfoldable pub with_number : List ℕ → Number → Request
 with_number w Number.Bad = Request.Bad
 with_number w (Number.Is n) =
-    if same w (bytes "setns") then Request.Is (Setns n) else
-    if same w (bytes "exit") then Request.Is (Exit n) else
+    when same w (bytes "setns") then Request.Is (Setns n) else
+    when same w (bytes "exit") then Request.Is (Exit n) else
     Request.Bad
 
 -- a call of a word and an argument
 unfoldable pub call_with : List ℕ → List ℕ → Request
 call_with w a =
-    if same w (bytes "clone") then (if same a (bytes "new") then Request.Is CloneNew else Request.Bad) else
+    when same w (bytes "clone") then (when same a (bytes "new") then Request.Is CloneNew else Request.Bad) else
     with_number w (read_number a)
 
 unfoldable pub kill_call : Number → Number → Request
@@ -108,22 +108,22 @@ kill_call (Number.Is n) (Number.Is s) = Request.Is (Kill n s)
 unfoldable pub handle_call : Number → List ℕ → Request
 handle_call Number.Bad b = Request.Bad
 handle_call (Number.Is s) b =
-    if same b (bytes "1") then Request.Is (Handle s true) else
-    if same b (bytes "0") then Request.Is (Handle s false) else
+    when same b (bytes "1") then Request.Is (Handle s true) else
+    when same b (bytes "0") then Request.Is (Handle s false) else
     Request.Bad
 
 -- a call of a word and two arguments
 unfoldable pub call_with_two : List ℕ → List ℕ → List ℕ → Request
 call_with_two w a b =
-    if same w (bytes "kill") then kill_call (read_number a) (read_number b) else
-    if same w (bytes "handle") then handle_call (read_number a) b else
+    when same w (bytes "kill") then kill_call (read_number a) (read_number b) else
+    when same w (bytes "handle") then handle_call (read_number a) b else
     Request.Bad
 
 -- a call and its arguments
 unfoldable pub read_call : List ℕ → Request
 read_call l =
-    if one_word l then plain_call l else
-    if one_word (later_words l) then call_with (first_word l) (later_words l) else
+    when one_word l then plain_call l else
+    when one_word (later_words l) then call_with (first_word l) (later_words l) else
     call_with_two (first_word l) (first_word (later_words l)) (later_words (later_words l))
 
 -- ---- lines
@@ -134,11 +134,11 @@ asked_by n (Request.Is c) = Parsed.Good (record { 0 = n }) c
 
 unfoldable pub after_slot : Natural → List ℕ → Parsed
 after_slot Natural.Bad l = Parsed.Bad
-after_slot (Natural.Is n) l = if ltb greatest_slot n then Parsed.Bad else asked_by n (read_call l)
+after_slot (Natural.Is n) l = when ltb greatest_slot n then Parsed.Bad else asked_by n (read_call l)
 
 -- a line without its line feed
 unfoldable pub read_line : List ℕ → Parsed
 read_line l =
-    if ltb line_bytes (length l) then Parsed.Bad else
-    if one_word l then Parsed.Bad else
+    when ltb line_bytes (length l) then Parsed.Bad else
+    when one_word l then Parsed.Bad else
     after_slot (read_natural (first_word l)) (later_words l)

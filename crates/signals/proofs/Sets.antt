@@ -13,7 +13,7 @@ use lib.Pow.{shr-shr, shl_exact, pow_pos, pow-lt}
 use Rattle.table.proofs.Chains.{pick_yes}
 use Rattle.table.specs.Limits.{signals}
 use Rattle.table.specs.SignalSets.{has, with_signal, without_signal, lowest_signal}
-use Rattle.table.specs.Tests.{if◌then◌else◌, lowest}
+use Rattle.table.specs.Tests.{when◌then◌else◌, lowest}
 
 -- ---- shifts and masks
 
@@ -59,7 +59,7 @@ without_is w m s h l = ap (λ b. bit_and m (2 ^ w - 1 - b)) (one_bit w s l) ∙ 
 
 -- ---- a signal that has a bit: r is what `with_signal` gives
 
-pub with_fitting : (m s r : ℕ) → s < signals → r ≡ (if ltb s signals then with_signal m s else m) → r ≡ with_signal m s
+pub with_fitting : (m s r : ℕ) → s < signals → r ≡ (when ltb s signals then with_signal m s else m) → r ≡ with_signal m s
 with_fitting m s r l e = e ∙ pick_yes (ltb s signals) _ m (lt-ltb s signals l)
 
 -- ---- from w on a set of w bits has no signal

@@ -5,7 +5,7 @@ ghost use Rattle.std.specs.Prelude.{◌≡◌, ltb};
 ghost use Rattle.rules.specs.Delivery.{default_action};
 ghost use Rattle.table.specs.Limits.{signals};
 ghost use Rattle.table.specs.SignalSets.{has, with_signal, without_signal, lowest_signal};
-ghost use Rattle.table.specs.Tests.{if◌then◌else◌};
+ghost use Rattle.table.specs.Tests.{when◌then◌else◌};
 
 use table::{Action, SIGNALS};
 
@@ -23,7 +23,7 @@ pub fn has_signal(set: u32, s: u8) -> bool
 
 // A signal from 32 on has no bit to set.
 pub fn with_signal(set: u32, s: u8) -> u32
-    ensures { result ≡ (if ltb s signals then with_signal set s else set) }
+    ensures { result ≡ (when ltb s signals then with_signal set s else set) }
 {
     if s < SIGNALS {
         return set | 1u32 << s;

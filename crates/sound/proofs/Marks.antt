@@ -14,7 +14,7 @@ use Rattle.table.specs.Limits.{process_slots, namespace_slots}
 use Rattle.table.specs.Slots.{no_namespace}
 use Rattle.rules.specs.Read.{View, view, taken, namespace_taken, children}
 use Rattle.rules.specs.Sound.{held}
-use Rattle.table.specs.Tests.{◌and◌, ◌or◌, if◌then◌else◌, any}
+use Rattle.table.specs.Tests.{◌and◌, ◌or◌, when◌then◌else◌, any}
 use Rattle.table.specs.declared.Namespace.{Namespace}
 use Rattle.table.specs.declared.Table.{Table}
 use Rattle.sound.specs.Quick.{mark_namespace, namespace_row, held_by_processes, held_by_children}
@@ -22,7 +22,7 @@ use Rattle.rules.proofs.Laws.OneHold.{holds_one}
 
 -- the turn of the process at i, and of the namespace at i
 abbrev pub process_turn : View → ℕ → List Bool → List Bool
-process_turn v i m = if taken v i then set (set m (v.own i) true) (children v i) true else m
+process_turn v i m = when taken v i then set (set m (v.own i) true) (children v i) true else m
 
 abbrev pub namespace_turn : List Namespace → ℕ → List Bool → List Bool
 namespace_turn s i m = mark_namespace m i (namespace_row i (get_or s i no_namespace))

@@ -19,7 +19,7 @@ use Rattle.table.specs.Slots.{is_alive, is_unborn}
 use Rattle.rules.specs.Read.{View, taken, namespace_taken, alive, dead, unborn, init, below, climb, above_at, up_by, pid_seen, children}
 use Rattle.rules.specs.Sound.{sound_view, zero_process, zero_namespace, reaches_root, kept_end, held}
 use Rattle.rules.specs.Sound as S
-use Rattle.table.specs.Tests.{◌and◌, if◌then◌else◌, all}
+use Rattle.table.specs.Tests.{◌and◌, when◌then◌else◌, all}
 use Rattle.table.specs.declared.Life.{Life}
 use Rattle.table.specs.declared.Life.TheVariants.{Unborn, Alive, Dead}
 use Rattle.table.specs.Traits.{traits_ok, bare_traits}
@@ -35,7 +35,7 @@ use Rattle.tree.specs.Tree.{is_blank_namespace}
 pid_cases : (v : View) (i l : ℕ) → pid_ok v i l → (v.pid i l ≡ 0) ⊎ ((l ≤ v.level (v.own i)) × (v.pid i l ≤ greatest_pid))
 pid_cases v i l h = go (leb l (v.level (v.own i))) refl h
   where
-    go : (b : Bool) → leb l (v.level (v.own i)) ≡ b → So (if b then leb 1 (v.pid i l) and leb (v.pid i l) greatest_pid else eqb (v.pid i l) 0) → (v.pid i l ≡ 0) ⊎ ((l ≤ v.level (v.own i)) × (v.pid i l ≤ greatest_pid))
+    go : (b : Bool) → leb l (v.level (v.own i)) ≡ b → So (when b then leb 1 (v.pid i l) and leb (v.pid i l) greatest_pid else eqb (v.pid i l) 0) → (v.pid i l ≡ 0) ⊎ ((l ≤ v.level (v.own i)) × (v.pid i l ≤ greatest_pid))
     go true e h = inr (leb-true l _ e, leb-true _ _ (right _ _ h))
     go false e h = inl (eqb-true _ 0 h)
 

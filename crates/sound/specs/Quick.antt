@@ -6,7 +6,7 @@ use Rattle.table.specs.Limits.{process_slots, namespace_slots, levels, deepest, 
 use Rattle.table.specs.Slots.{no_namespace, pid_at, is_running, is_ended, is_unborn, is_alive, is_dead, init_of}
 use Rattle.rules.specs.Read.{View, taken, namespace_taken, climb, children}
 use Rattle.rules.specs.Sound.{root_process, root_namespace, reaches_root, kept_end, holds, held}
-use Rattle.table.specs.Tests.{◌and◌, ◌or◌, ◌implies◌, agree, if◌then◌else◌, all, any}
+use Rattle.table.specs.Tests.{◌and◌, ◌or◌, ◌implies◌, agree, when◌then◌else◌, all, any}
 use Rattle.table.specs.declared.Life.{Life}
 use Rattle.table.specs.declared.Namespace.{Namespace}
 use Rattle.table.specs.declared.ProcSlot.{ProcSlot}
@@ -85,7 +85,7 @@ state_ok up p home inner = (p.ended implies ended_ok p) and (p.ended or living_o
 
 -- numbers up to the own level, and none beyond
 abbrev pub pid_ok : ℕ → ℕ → ℕ → Bool
-pid_ok pid l level = if leb l level then leb 1 pid and leb pid greatest_pid else eqb pid 0
+pid_ok pid l level = when leb l level then leb 1 pid and leb pid greatest_pid else eqb pid 0
 
 unfoldable pub pids_ok : (ℕ → ℕ) → ℕ → Bool
 pids_ok pid level = all levels (λ l. pid_ok (pid l) l level)
@@ -161,7 +161,7 @@ namespaces_ok v =
 -- ---- which namespaces something holds, as marks
 
 abbrev pub mark_namespace : List Bool → ℕ → NamespaceRow → List Bool
-mark_namespace m n s = if not (eqb n 0) and s.taken then set m s.up true else m
+mark_namespace m n s = when not (eqb n 0) and s.taken then set m s.up true else m
 
 -- the root is held, and what a process has as its own namespace or for its children
 unfoldable pub held_by_processes : View → ℕ → Bool
@@ -187,17 +187,17 @@ differ key = all process_slots (differs_at key)
 
 -- the unborn namespace that a process holds
 unfoldable pub unborn_key : ProcessRow → NamespaceRow → ℕ
-unborn_key p inner = if p.taken and inner.taken and is_unborn inner.life then p.children else 0
+unborn_key p inner = when p.taken and inner.taken and is_unborn inner.life then p.children else 0
 
 abbrev pub unborn_keys : View → ℕ → ℕ
 unborn_keys v i = unborn_key (process_at v i) (namespace_at v (children v i))
 
 -- each namespace itself, and those below a level one up
 unfoldable pub itself : ℕ → ℕ
-itself n = if ltb n namespace_slots then n else 0
+itself n = when ltb n namespace_slots then n else 0
 
 unfoldable pub raised : (ℕ → ℕ) → (ℕ → ℕ) → ℕ → (ℕ → ℕ) → ℕ → ℕ
-raised up level l top n = if ltb l (level n) then up (top n) else top n
+raised up level l top n = when ltb l (level n) then up (top n) else top n
 
 -- The namespace at the level levels - k that is n or above it, where n is at most at the deepest level: at each turn
 -- those below the next level go one up.
@@ -207,7 +207,7 @@ top up level (suc k) = raised up level (deepest - k) (top up level k)
 
 -- the namespace at a level and the number there as one key
 unfoldable pub pid_key : (ℕ → ℕ) → ℕ → ProcessRow → ℕ
-pid_key top l p = if eqb (p.pid l) 0 then 0 else top p.own * pid_values + p.pid l
+pid_key top l p = when eqb (p.pid l) 0 then 0 else top p.own * pid_values + p.pid l
 
 abbrev pub pid_keys : View → ℕ → ℕ → ℕ
 pid_keys v k i = pid_key (top v.up v.level (suc k)) (deepest - k) (process_at v i)

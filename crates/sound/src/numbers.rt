@@ -2,7 +2,7 @@
 ghost use Rattle.std.specs.Prelude.{◌≡◌, ◌<◌, ltb};
 ghost use Rattle.table.specs.Limits.{levels as level_count, process_slots};
 ghost use Rattle.rules.specs.Read.{view};
-ghost use Rattle.table.specs.Tests.{if◌then◌else◌, all};
+ghost use Rattle.table.specs.Tests.{when◌then◌else◌, all};
 ghost use Rattle.tree.specs.Tree.{slot_in, level_in};
 ghost use Rattle.sound.specs.Quick.{process_row, process_at, key_in, differs_at, differ, raised, itself, pid_key, pid_keys};
 
@@ -48,7 +48,7 @@ pub(crate) fn all_differ(keys: [u32; PROCESS_SLOTS]) -> bool
 
 // Who is below a level goes one up.
 fn raise_one(up: [NsSlot; NAMESPACE_SLOTS], top: NsSlot, own: u8, level: u8) -> NsSlot
-    ensures { result.0 ≡ (if ltb level own then slot_in up top.0 else top.0) }
+    ensures { result.0 ≡ (when ltb level own then slot_in up top.0 else top.0) }
 {
     if level < own {
         return parent_of(up, top);

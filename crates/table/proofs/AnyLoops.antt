@@ -8,7 +8,7 @@ use native.Mathlib.Nat.{eq-or-lt_of_le, le_of_suc-le-suc}
 use native.Mathlib.Numerals.{add-one}
 use native.Mathlib.Omega.{arith}
 use Rattle.table.proofs.Chains.{by_bool, pick_yes, pick_no}
-use Rattle.table.specs.Tests.{◌or◌, if◌then◌else◌, any}
+use Rattle.table.specs.Tests.{◌or◌, when◌then◌else◌, any}
 
 pub record Unmet (n : ℕ) (f : ℕ → Bool) (i : ℕ) : Type 0 where
   pub within : i ≤ n
@@ -69,9 +69,9 @@ pub ruleset any_loops_by = (any_starts, any_steps, any_none, any_true, any_here,
 pub any_or : (n : ℕ) (f g : ℕ → Bool) → any n (λ i. f i or g i) ≡ any n f or any n g
 unfolding any ◌or◌
 any_or zero f g = refl
-any_or (suc n) f g = ap (λ x. if f n or g n then true else x) (any_or n f g) ∙ go (f n) (g n) (any n f) (any n g)
+any_or (suc n) f g = ap (λ x. when f n or g n then true else x) (any_or n f g) ∙ go (f n) (g n) (any n f) (any n g)
   where
-    go : (a b x y : Bool) → (if a or b then true else (x or y)) ≡ (if a then true else x) or (if b then true else y)
+    go : (a b x y : Bool) → (when a or b then true else (x or y)) ≡ (when a then true else x) or (when b then true else y)
     go true b x y = refl
     go false true true y = refl
     go false true false y = refl

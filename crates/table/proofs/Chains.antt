@@ -6,7 +6,7 @@ use mathlib.Core.Path.{◌≡◌, refl, sym, ◌∙◌}
 use native.Mathlib.Omega.{arith}
 use lib.Dec.{eqb, ltb, leb}
 use borrow.Author.Tests.{not-true, not-false, eq-eqb, ne_eqb, lt-ltb, le-ltb, le-leb, lt-leb}
-use Rattle.table.specs.Tests.{◌and◌, ◌or◌, ◌implies◌, agree, if◌then◌else◌}
+use Rattle.table.specs.Tests.{◌and◌, ◌or◌, ◌implies◌, agree, when◌then◌else◌}
 
 -- by the two values of a test, each with its equation
 pub by_bool {ℓ} : {A : Type ℓ} (b : Bool) → (b ≡ true → A) → (b ≡ false → A) → A
@@ -15,18 +15,18 @@ by_bool false f g = g refl
 
 -- ---- a choice
 
-pub pick_yes : {A : Type 0} (b : Bool) (x y : A) → b ≡ true → (if b then x else y) ≡ x
+pub pick_yes : {A : Type 0} (b : Bool) (x y : A) → b ≡ true → (when b then x else y) ≡ x
 pick_yes true x y e = refl
 pick_yes false x y e = absurd (false≢true e)
 
-pub pick_no : {A : Type 0} (b : Bool) (x y : A) → b ≡ false → (if b then x else y) ≡ y
+pub pick_no : {A : Type 0} (b : Bool) (x y : A) → b ≡ false → (when b then x else y) ≡ y
 pick_no true x y e = absurd (true≢false e)
 pick_no false x y e = refl
 
-pub if_yes : {A : Type 0} (b : Bool) (r x y : A) → b ≡ true → r ≡ x → r ≡ (if b then x else y)
+pub if_yes : {A : Type 0} (b : Bool) (r x y : A) → b ≡ true → r ≡ x → r ≡ (when b then x else y)
 if_yes b r x y e p = p ∙ sym (pick_yes b x y e)
 
-pub if_no : {A : Type 0} (b : Bool) (r x y : A) → b ≡ false → r ≡ y → r ≡ (if b then x else y)
+pub if_no : {A : Type 0} (b : Bool) (r x y : A) → b ≡ false → r ≡ y → r ≡ (when b then x else y)
 if_no b r x y e p = p ∙ sym (pick_no b x y e)
 
 -- ---- what a joined test comes to

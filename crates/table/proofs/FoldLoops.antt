@@ -7,7 +7,7 @@ use mathlib.Core.Path.{◌≡◌, refl, ap, ap₂, subst, ◌∙◌}
 use lib.Dec.{eqb, ltb}
 use native.Mathlib.Numerals.{add-one}
 use native.Mathlib.Omega.{arith}
-use Rattle.table.specs.Tests.{◌and◌, ◌or◌, if◌then◌else◌, least}
+use Rattle.table.specs.Tests.{◌and◌, ◌or◌, when◌then◌else◌, least}
 
 -- the turns at the numbers below n, each on what the one before left
 unfoldable pub turns : {A : Type 0} → ℕ → (ℕ → A → A) → A → A
@@ -39,7 +39,7 @@ pub ruleset fold_loops = (fold_starts, fold_goes_on, fold_done)
 
 -- the better of b, the best below i, and i
 abbrev pub better : (ℕ → Bool) → (ℕ → ℕ) → ℕ → ℕ → ℕ → ℕ
-better p f d i b = if p i and (eqb b d or ltb (f i) (f b)) then i else b
+better p f d i b = when p i and (eqb b d or ltb (f i) (f b)) then i else b
 
 pub least_by_turns : (p : ℕ → Bool) (f : ℕ → ℕ) (d n : ℕ) → turns n (better p f d) d ≡ least p f d n
 unfolding turns least
@@ -49,9 +49,9 @@ least_by_turns p f d (suc n) = ap (better p f d n) (least_by_turns p f d n)
 -- The loop keeps beside the best slot its key, so that no turn reads the table for it: u is made of both.
 module _ {A : Type 0} (make : ℕ → ℕ → A) (slot key : A → ℕ) (p : ℕ → Bool) (f : ℕ → ℕ) (d : ℕ) where
   abbrev pub better_with_key : ℕ → A → A
-  better_with_key i u = if p i and (eqb (slot u) d or ltb (f i) (key u)) then make i (f i) else u
+  better_with_key i u = when p i and (eqb (slot u) d or ltb (f i) (key u)) then make i (f i) else u
 
-  chosen : (b : Bool) (x y : ℕ) → (if b then make x (f x) else make y (f y)) ≡ make (if b then x else y) (f (if b then x else y))
+  chosen : (b : Bool) (x y : ℕ) → (when b then make x (f x) else make y (f y)) ≡ make (when b then x else y) (f (when b then x else y))
   chosen true x y = refl
   chosen false x y = refl
 
@@ -61,5 +61,5 @@ module _ {A : Type 0} (make : ℕ → ℕ → A) (slot key : A → ℕ) (p : ℕ
   least_with_key s k (suc n) =
       let b : ℕ = least p f d n in
       ap (better_with_key n) (least_with_key s k n)
-      ∙ ap₂ (λ (x y : ℕ). if p n and (eqb x d or ltb (f n) y) then make n (f n) else make b (f b)) (s b (f b)) (k b (f b))
+      ∙ ap₂ (λ (x y : ℕ). when p n and (eqb x d or ltb (f n) y) then make n (f n) else make b (f b)) (s b (f b)) (k b (f b))
       ∙ chosen (p n and (eqb b d or ltb (f n) (f b))) n b

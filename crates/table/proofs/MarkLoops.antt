@@ -12,7 +12,7 @@ use lib.Dec.{eqb}
 use lib.ListN.{length, get_or, set, replicate, length-set, length-replicate, get_or-replicate}
 use lib.Seq.{get_or-set_same, get_or-set_other}
 use Rattle.table.proofs.FoldLoops.{turns}
-use Rattle.table.specs.Tests.{◌and◌, ◌or◌, if◌then◌else◌, any}
+use Rattle.table.specs.Tests.{◌and◌, ◌or◌, when◌then◌else◌, any}
 
 pub record Marks (n : ℕ) (m : List Bool) (f : ℕ → Bool) : Type 0 where
   pub long : length m ≡ n
@@ -39,13 +39,13 @@ module _ (n : ℕ) where
           get_or-set_other m x k true false (λ e. o (sym e)) ∙ w.says k h ∙ sym (ap (λ b. b or f k) (ne_eqb x k o))
 
   -- nothing, unless a test b holds
-  pub mark_if : (b : Bool) (x : ℕ) (m : List Bool) (f : ℕ → Bool) → Marks n m f → Marks n (if b then set m x true else m) (λ k. (b and eqb x k) or f k)
+  pub mark_if : (b : Bool) (x : ℕ) (m : List Bool) (f : ℕ → Bool) → Marks n m f → Marks n (when b then set m x true else m) (λ k. (b and eqb x k) or f k)
   unfolding ◌or◌ ◌and◌
   mark_if true x m f w = one_mark x m f w
   mark_if false x m f w = w
 
   -- the same with two places
-  pub marks_if : (b : Bool) (x y : ℕ) (m : List Bool) (f : ℕ → Bool) → Marks n m f → Marks n (if b then set (set m x true) y true else m) (λ k. ((b and eqb x k) or (b and eqb y k)) or f k)
+  pub marks_if : (b : Bool) (x y : ℕ) (m : List Bool) (f : ℕ → Bool) → Marks n m f → Marks n (when b then set (set m x true) y true else m) (λ k. ((b and eqb x k) or (b and eqb y k)) or f k)
   unfolding ◌or◌ ◌and◌
   marks_if true x y m f w = marks_like _ _ _ (one_mark y _ _ (one_mark x m f w)) (λ k. turned (eqb x k) (eqb y k) (f k))
     where
@@ -63,7 +63,7 @@ module _ (n : ℕ) where
     marked zero m f w = w
     marked (suc c) m f w = marks_like _ _ _ (marks c _ _ (marked c m f w)) (λ k. go (g c k) (any c (λ i. g i k)) (f k))
       where
-        go : (a b d : Bool) → a or (b or d) ≡ (if a then true else b) or d
+        go : (a b d : Bool) → a or (b or d) ≡ (when a then true else b) or d
         go true b d = refl
         go false b d = refl
 

@@ -4,7 +4,7 @@ use Rattle.std.specs.Prelude.{ℕ, zero, suc, Bool, true, false, not, List, [], 
 infixl 35 ◌and◌
 infixl 30 ◌or◌
 infixr 20 ◌implies◌
-infix 10 if◌then◌else◌
+infix 10 when◌then◌else◌
 -- ---- connectives; each is shut, so that a proof sees which parts a test is made of
 
 unfoldable pub ◌and◌ : Bool → Bool → Bool
@@ -24,8 +24,8 @@ unfoldable pub agree : Bool → Bool → Bool
 agree true b = b
 agree false b = not b
 
-abbrev pub if◌then◌else◌ {ℓ} : {A : Type ℓ} → Bool → A → A → A
-if b then x else y = elim b [ true ↦ x | false ↦ y ]
+abbrev pub when◌then◌else◌ {ℓ} : {A : Type ℓ} → Bool → A → A → A
+when b then x else y = elim b [ true ↦ x | false ↦ y ]
 
 -- ---- over the numbers below n
 
@@ -53,7 +53,7 @@ lowest f (suc n) k = elim (f k) [ true ↦ k | false ↦ lowest f n (suc k) ]
 -- the number below n of which p holds and at which f is lowest, or d
 unfoldable pub least : (ℕ → Bool) → (ℕ → ℕ) → ℕ → ℕ → ℕ
 least p f d zero = d
-least p f d (suc n) = let b = least p f d n in if p n and (eqb b d or ltb (f n) (f b)) then n else b
+least p f d (suc n) = let b = least p f d n in when p n and (eqb b d or ltb (f n) (f b)) then n else b
 
 -- ---- lists
 

@@ -7,7 +7,7 @@ use lib.Dec.{eqb}
 use Rattle.rules.proofs.Laws.ReadAt.{ReadAt}
 use Rattle.table.specs.Slots.{process, pid_at}
 use Rattle.rules.specs.Read.{View, view, taken, climb, below, seen, pid_seen, pid_in}
-use Rattle.table.specs.Tests.{◌and◌, if◌then◌else◌}
+use Rattle.table.specs.Tests.{◌and◌, when◌then◌else◌}
 use Rattle.table.specs.declared.NsSlot.{NsSlot}
 use Rattle.table.specs.declared.Process.{Process}
 use Rattle.table.specs.declared.Table.{Table}
@@ -29,7 +29,7 @@ module _ (v : View) (up : List NsSlot) (levels : List ℕ) (n i : ℕ) (p : Proc
   pub pid_in_read : pid_from (slot_in up) (level_in levels) n p ≡ pid_in v n i
   unfolding pid_in pid_seen
   pid_in_read =
-      ap₂ (λ (b : Bool) (k : ℕ). if b then k else 0) seen_read
+      ap₂ (λ (b : Bool) (k : ℕ). when b then k else 0) seen_read
       (ap (λ (f : ℕ → ℕ). pid_at p (f n)) l ∙ at.pid (v.level n))
 
   -- m is the callee's result for the level of n

@@ -3,7 +3,7 @@
 use Rattle.std.specs.Prelude.{ℕ, Bool, true, not, List, eqb, get_or, set}
 use Rattle.table.specs.Slots.{no_namespace, pid_at, is_unborn}
 use Rattle.rules.specs.Read.{climb}
-use Rattle.table.specs.Tests.{◌and◌, ◌or◌, if◌then◌else◌}
+use Rattle.table.specs.Tests.{◌and◌, ◌or◌, when◌then◌else◌}
 use Rattle.table.specs.declared.Namespace.{Namespace}
 use Rattle.table.specs.declared.NsSlot.{NsSlot}
 use Rattle.table.specs.declared.Process.{Process}
@@ -30,7 +30,7 @@ seen_from up level n p = not (eqb (pid_at p 0) 0) and climb up (level p.own.0) p
 
 -- its number in n, or 0 where it is not seen
 abbrev pub pid_from : (ℕ → ℕ) → (ℕ → ℕ) → ℕ → Process → ℕ
-pid_from up level n p = if seen_from up level n p then pid_at p (level n) else 0
+pid_from up level n p = when seen_from up level n p then pid_at p (level n) else 0
 
 -- it is seen from n, and its number at the level l is k
 abbrev pub named_from : (ℕ → ℕ) → (ℕ → ℕ) → ℕ → ℕ → ℕ → Process → Bool
@@ -46,4 +46,4 @@ is_blank_namespace s = eqb s.parent.0 0 and eqb s.level 0 and eqb s.last.0 0 and
 
 -- marks of namespaces with those of one process, if it is there: its own, and the one for its children
 abbrev pub mark_process : List Bool → Process → List Bool
-mark_process m p = if not (eqb (pid_at p 0) 0) then set (set m p.own.0 true) p.children.0 true else m
+mark_process m p = when not (eqb (pid_at p 0) 0) then set (set m p.own.0 true) p.children.0 true else m

@@ -15,7 +15,7 @@ use Rattle.rules.specs.Step.{runs, step}
 use Rattle.table.proofs.Chains.{and_false, pick_yes, pick_no}
 use Rattle.table.specs.Limits.{process_slots, no_slot}
 use Rattle.table.specs.Slots.{no_process, pid_at}
-use Rattle.table.specs.Tests.{◌and◌, if◌then◌else◌}
+use Rattle.table.specs.Tests.{◌and◌, when◌then◌else◌}
 use Rattle.table.specs.declared.Call.{Call}
 use Rattle.table.specs.declared.Outcome.{Outcome}
 use Rattle.table.specs.declared.Process.{Process}
@@ -28,10 +28,10 @@ unfolding runs taken
 runs_past t c h =
     and_false _ _ (ap (λ (p : Process). not (eqb (pid_at p 0) 0)) (get_or-eq_default t.processes no_process {n = c} h))
 
-step_past : (t : Table) (c : ℕ) (call : Call) → length t.processes ≤ c → step t c call ≡ (if sound t then refused t NotRunning else refused t Unsound)
+step_past : (t : Table) (c : ℕ) (call : Call) → length t.processes ≤ c → step t c call ≡ (when sound t then refused t NotRunning else refused t Unsound)
 unfolding step
 step_past t c call h =
-    ap (λ (o : Outcome). if sound t then o else refused t Unsound) (pick_no (runs (view t) c) _ (refused t NotRunning) (runs_past t c h))
+    ap (λ (o : Outcome). when sound t then o else refused t Unsound) (pick_no (runs (view t) c) _ (refused t NotRunning) (runs_past t c h))
 
 slot_within : (c : ℕ) → c < process_slots → slot_of c ≡ c
 unfolding slot_of

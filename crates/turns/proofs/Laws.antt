@@ -15,7 +15,7 @@ use Rattle.rules.specs.Answers.{is_refused}
 use Rattle.rules.specs.Step.{step}
 use Rattle.table.proofs.Chains.{pick_yes, pick_no}
 use Rattle.table.specs.Limits.{process_slots}
-use Rattle.table.specs.Tests.{if◌then◌else◌}
+use Rattle.table.specs.Tests.{when◌then◌else◌}
 use Rattle.table.specs.declared.Call.{Call}
 use Rattle.table.specs.declared.Outcome.{Outcome}
 use Rattle.table.specs.declared.ProcSlot.{ProcSlot}

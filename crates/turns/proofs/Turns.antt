@@ -18,7 +18,7 @@ use Rattle.rules.proofs.Open.{everything}
 use Rattle.rules.specs.Sound.{sound}
 use Rattle.rules.specs.Step.{step}
 use Rattle.table.proofs.Chains.{by_bool, pick_yes, pick_no}
-use Rattle.table.specs.Tests.{if◌then◌else◌}
+use Rattle.table.specs.Tests.{when◌then◌else◌}
 use Rattle.table.specs.declared.Call.{Call}
 use Rattle.table.specs.declared.Outcome.{Outcome}
 use Rattle.table.specs.declared.Refusal.TheVariants.{Unsound}

@@ -10,7 +10,7 @@ use Rattle.requests.specs.declared.Told.{Told}
 use Rattle.rules.specs.Answers.{is_refused}
 use Rattle.rules.specs.Step.{step}
 use Rattle.table.specs.Limits.{process_slots, no_slot}
-use Rattle.table.specs.Tests.{if◌then◌else◌}
+use Rattle.table.specs.Tests.{when◌then◌else◌}
 use Rattle.table.specs.declared.Outcome.{Outcome}
 use Rattle.table.specs.declared.Table.{Table}
 use Rattle.turns.specs.declared.Done.{Done}
@@ -18,7 +18,7 @@ use Rattle.turns.specs.declared.Done.{Done}
 -- What the host is told, and what it holds then: after a refusal what it held, to the last bit.
 unfoldable pub given_back : Mirror → Outcome → Done
 given_back m o =
-    record { told = told_of o.reply; mirror = if is_refused o.reply.answer then m else mirror_of o.table }
+    record { told = told_of o.reply; mirror = when is_refused o.reply.answer then m else mirror_of o.table }
 
 -- The call that is asked for, made by document 01's `step` on the table that the mirror reads as. The caller is any
 -- number: past the table's end it is nobody.
@@ -62,4 +62,4 @@ steps_after t (r ∷ rs) = steps_after (asked_after t r.0 (asked_by r.1)) rs
 -- ---- how the code names the caller: a slot is a byte
 
 unfoldable pub slot_of : ℕ → ℕ
-slot_of c = if ltb c process_slots then c else no_slot
+slot_of c = when ltb c process_slots then c else no_slot

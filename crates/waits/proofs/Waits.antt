@@ -30,7 +30,7 @@ use Rattle.table.specs.Fresh.{empty_process}
 use Rattle.table.specs.Limits.{process_slots}
 use Rattle.table.specs.Slots.{process, pid_at, is_ended, put}
 use Rattle.rules.specs.Read.{view, pid_seen, taken, child_of}
-use Rattle.table.specs.Tests.{◌and◌, ◌or◌, if◌then◌else◌, any, least}
+use Rattle.table.specs.Tests.{◌and◌, ◌or◌, when◌then◌else◌, any, least}
 use Rattle.table.specs.declared.Answer.TheVariants.{Reaped}
 use Rattle.table.specs.declared.End.{End}
 use Rattle.table.specs.declared.End.TheVariants.{Exited}
@@ -48,7 +48,7 @@ use Rattle.waits.specs.Exits.{exit_by_gives, exit_by, Exits}
 
 -- ---- exit, whose argument is z
 
-pub may_exit_is : (c : ℕ) (r : Verdict) → r ≡ (if eqb c 0 then Refused Ebusy else Granted) → r ≡ verdict (exit_refusals c)
+pub may_exit_is : (c : ℕ) (r : Verdict) → r ≡ (when eqb c 0 then Refused Ebusy else Granted) → r ≡ verdict (exit_refusals c)
 may_exit_is c r a = a
 
 -- v is the verdict of `may_exit`
@@ -140,7 +140,7 @@ module _ (t : Table) (c l : ℕ) where
 -- ---- wait itself
 
 -- b is what `has_child` gives
-pub may_wait_is : (t : Table) (c : ℕ) (b : Bool) (r : Verdict) → b ≡ any process_slots (child_of (view t) c) → r ≡ (if not b then Refused Echild else Granted) → r ≡ verdict (wait_refusals (view t) c)
+pub may_wait_is : (t : Table) (c : ℕ) (b : Bool) (r : Verdict) → b ≡ any process_slots (child_of (view t) c) → r ≡ (when not b then Refused Echild else Granted) → r ≡ verdict (wait_refusals (view t) c)
 may_wait_is t c b r e a = one_more Echild _ _ Granted _ r a (ap not e) refl
 
 -- v is the verdict of `may_wait`

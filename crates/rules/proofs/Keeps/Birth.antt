@@ -24,7 +24,7 @@ use Rattle.table.specs.Slots.{init_of, is_alive, is_dead, is_ended, is_unborn, n
 use Rattle.rules.specs.Read.{View, find, pid_seen, unborn, above_at, alive, below, dead, init, living, namespace_taken, seen, taken, view}
 use Rattle.rules.specs.Sound.{reaches_root, zero_namespace, zero_process, shaped}
 use Rattle.rules.proofs.Laws.Traits.{born_ok, born_shaped}
-use Rattle.table.specs.Tests.{if◌then◌else◌, lowest, ◌and◌}
+use Rattle.table.specs.Tests.{when◌then◌else◌, lowest, ◌and◌}
 use Rattle.table.specs.declared.Life.TheVariants.{Alive}
 use Rattle.table.specs.declared.Namespace.{Namespace}
 use Rattle.table.specs.declared.Process.{Process}
@@ -92,7 +92,7 @@ module _ (v : View) (n : ℕ) where
       below_end : again < suc greatest_pid
       below_end = ⊎_elim (λ l. l) (λ o. absurd (crowded (λ j a b. q.none_before j a (omega arith)))) (less again (suc greatest_pid))
 
-      go : (b : Bool) → leb low greatest_pid ≡ b → Fresh v n (if b then low else again)
+      go : (b : Bool) → leb low greatest_pid ≡ b → Fresh v n (when b then low else again)
       go true e = let l : low ≤ greatest_pid = leb-true low greatest_pid e in record { above = omega (arith, r.from); within = l; free = r.holds (omega (arith, r.from)) }
       go false e = record { above = omega (arith, q.from); within = omega (arith, below_end); free = q.holds (omega (arith, below_end)) }
 
@@ -118,17 +118,17 @@ module _ (v : View) (p : Facts v) (n : ℕ) (s : Stands v n) where
 abbrev pub with_born : View → ℕ → ℕ → ℕ → View
 with_born v c n k =
     record {
-      own = λ i. if eqb i k then n else v.own i;
-      hold = λ i j. if eqb i k then with_hold (λ j. no_slot) 0 n j else v.hold i j;
-      parent = λ i. if eqb i k then c else v.parent i;
-      state = λ i. if eqb i k then Running else v.state i;
-      ended = λ i. if eqb i k then false else v.ended i;
-      traits = λ i. if eqb i k then born_traits (v.traits c) else v.traits i;
-      pid = λ i l. if eqb i k then (if leb l (v.level n) then next_pid v (above_at v n l) else 0) else v.pid i l;
+      own = λ i. when eqb i k then n else v.own i;
+      hold = λ i j. when eqb i k then with_hold (λ j. no_slot) 0 n j else v.hold i j;
+      parent = λ i. when eqb i k then c else v.parent i;
+      state = λ i. when eqb i k then Running else v.state i;
+      ended = λ i. when eqb i k then false else v.ended i;
+      traits = λ i. when eqb i k then born_traits (v.traits c) else v.traits i;
+      pid = λ i l. when eqb i k then (when leb l (v.level n) then next_pid v (above_at v n l) else 0) else v.pid i l;
       up = v.up;
       level = v.level;
-      last = λ m. if below v n m then next_pid v m else v.last m;
-      life = λ m. if below v n m then (if unborn v m then Alive (record { 0 = k }) else v.life m) else v.life m;
+      last = λ m. when below v n m then next_pid v m else v.last m;
+      life = λ m. when below v n m then (when unborn v m then Alive (record { 0 = k }) else v.life m) else v.life m;
     }
 
 module _ (v : View) (f : Facts v) (c n k : ℕ) (c_lives : Lives v c) (here : Stands v n) (n_below : Below v n (v.own c)) (not_dead : So (dead v n) → ⊥) (k_low : k < process_slots) (k_free : Taken v k → ⊥) (up_own : So (unborn v n) → v.own c ≡ v.up n) where
@@ -259,7 +259,7 @@ module _ (v : View) (f : Facts v) (c n k : ℕ) (c_lives : Lives v c) (here : St
   last_w : (m : ℕ) → m < namespace_slots → w.last m ≤ greatest_pid
   last_w m l = ⊎_elim (λ (b : Below v n m). rw b (fresh m b).within) (λ (b : below v n m ≡ false). rw b (f.last_pids m l)) (yes_or_no (below v n m))
 
-  pids_k : (l : ℕ) → So (if leb l (v.level n) then leb 1 (if leb l (v.level n) then next_pid v (above_at v n l) else 0) and leb (if leb l (v.level n) then next_pid v (above_at v n l) else 0) greatest_pid else eqb (if leb l (v.level n) then next_pid v (above_at v n l) else 0) 0)
+  pids_k : (l : ℕ) → So (when leb l (v.level n) then leb 1 (when leb l (v.level n) then next_pid v (above_at v n l) else 0) and leb (when leb l (v.level n) then next_pid v (above_at v n l) else 0) greatest_pid else eqb (when leb l (v.level n) then next_pid v (above_at v n l) else 0) 0)
   pids_k l =
       ⊎_elim
       (λ (b : So (leb l (v.level n))). let g = fresh _ (above_is v f n l here (leb-true _ _ b)).1 in rw b (both _ _ (le-leb 1 _ g.above) (le-leb _ greatest_pid g.within)))
@@ -295,7 +295,7 @@ module _ (v : View) (f : Facts v) (c n k : ℕ) (c_lives : Lives v c) (here : St
   unfolding namespace_taken below
   born_facts =
       record {
-        ended_is = λ i. ap (λ (b : Bool). if eqb i k then false else b) (f.ended_is i) ∙ sym (pick is_ended (eqb i k) Running (v.state i));
+        ended_is = λ i. ap (λ (b : Bool). when eqb i k then false else b) (f.ended_is i) ∙ sym (pick is_ended (eqb i k) Running (v.state i));
         in_range = range_w;
         in_namespace = f.in_namespace;
         root_init = ap init_of root_life ∙ f.root_init;
@@ -392,16 +392,16 @@ module _ (t : Table) (g : So (shaped t)) (f : Facts (view t)) (c n : ℕ) (here 
   no_pids l h = lt-leb l (v.level n) (omega (arith, level_deepest v f n here))
 
   -- the number at a level
-  pids_are : (l : ℕ) → pid_at x l ≡ (if leb l (v.level n) then next_pid v (above_at v n l) else 0)
+  pids_are : (l : ℕ) → pid_at x l ≡ (when leb l (v.level n) then next_pid v (above_at v n l) else 0)
   unfolding newborn new_pids
   pids_are l =
-      ap (λ p. p.0) (changed_at (λ l p. if leb l (v.level n) then to_pid (next_pid v (above_at v n l)) else p) no_pid levels (replicate levels no_pid) refl (λ l h. rw (no_pids l h)) l)
-      ∙ ap (λ p. (if leb l (v.level n) then to_pid (next_pid v (above_at v n l)) else p).0) (get_d_replicate no_pid levels l)
+      ap (λ p. p.0) (changed_at (λ l p. when leb l (v.level n) then to_pid (next_pid v (above_at v n l)) else p) no_pid levels (replicate levels no_pid) refl (λ l h. rw (no_pids l h)) l)
+      ∙ ap (λ p. (when leb l (v.level n) then to_pid (next_pid v (above_at v n l)) else p).0) (get_d_replicate no_pid levels l)
       ∙ pick (λ p. p.0) (leb l (v.level n)) (to_pid (next_pid v (above_at v n l))) no_pid
 
   x_shaped : So (process_shaped x)
   unfolding newborn new_pids
-  x_shaped = both _ _ (eq-eqb _ _ (length_changed (λ l p. if leb l (v.level n) then to_pid (next_pid v (above_at v n l)) else p) no_pid levels (replicate levels no_pid))) (born_shaped _ (traits_shape t g c))
+  x_shaped = both _ _ (eq-eqb _ _ (length_changed (λ l p. when leb l (v.level n) then to_pid (next_pid v (above_at v n l)) else p) no_pid levels (replicate levels no_pid))) (born_shaped _ (traits_shape t g c))
 
   mid_shaped : So (shaped mid)
   mid_shaped = shaped_put t g k x low x_shaped
@@ -409,12 +409,12 @@ module _ (t : Table) (g : So (shaped t)) (f : Facts (view t)) (c n : ℕ) (here 
   out : (m : ℕ) → namespace_slots ≤ m → below v n m ≡ false
   out m l = isnt_so (λ b. omega (arith, f.in_namespace m (below_taken v f n m here b)))
 
-  kept_of : {B : Type 0} (r : Namespace → B) (b : Bool) (y s : Namespace) → r y ≡ r s → r (if b then y else s) ≡ r s
+  kept_of : {B : Type 0} (r : Namespace → B) (b : Bool) (y s : Namespace) → r y ≡ r s → r (when b then y else s) ≡ r s
   kept_of r true y s h = h
   kept_of r false y s h = refl
 
   abbrev new : (m : ℕ) → Namespace → Namespace
-  new m s = with_life (with_last s (next_pid v m)) (if is_unborn s.life then Alive (record { 0 = k }) else s.life)
+  new m s = with_life (with_last s (next_pid v m)) (when is_unborn s.life then Alive (record { 0 = k }) else s.life)
 
   -- what is read of the table of a birth
   pub birth_view : view (birth t c n) ≡ with_born v c n k
@@ -424,12 +424,12 @@ module _ (t : Table) (g : So (shaped t)) (f : Facts (view t)) (c n : ℕ) (here 
       ∙ ap (λ (u : View). record { own = u.own; hold = u.hold; parent = u.parent; state = u.state; ended = u.ended; traits = u.traits; pid = u.pid; up = λ m. (joined v k n m (namespace t m)).parent.0; level = λ m. (joined v k n m (namespace t m)).level; last = λ m. (joined v k n m (namespace t m)).last.0; life = λ m. (joined v k n m (namespace t m)).life }) (view_put t g k x low)
       ∙ (λ j. record {
         own = λ i. pick (λ p. p.own.0) (eqb i k) x (process t i) j;
-        hold = λ i a. (pick (λ p. hold_at p a) (eqb i k) x (process t i) ∙ ap (λ z. if eqb i k then z else v.hold i a) (born_holds v c n a)) j;
+        hold = λ i a. (pick (λ p. hold_at p a) (eqb i k) x (process t i) ∙ ap (λ z. when eqb i k then z else v.hold i a) (born_holds v c n a)) j;
         parent = λ i. pick (λ p. p.parent.0) (eqb i k) x (process t i) j;
         state = λ i. pick (λ p. p.state) (eqb i k) x (process t i) j;
         ended = λ i. pick (λ p. is_ended p.state) (eqb i k) x (process t i) j;
         traits = λ i. pick (λ p. p.traits) (eqb i k) x (process t i) j;
-        pid = λ i l. (pick (λ p. pid_at p l) (eqb i k) x (process t i) ∙ ap (λ z. if eqb i k then z else v.pid i l) (pids_are l)) j;
+        pid = λ i l. (pick (λ p. pid_at p l) (eqb i k) x (process t i) ∙ ap (λ z. when eqb i k then z else v.pid i l) (pids_are l)) j;
         up = λ m. kept_of (λ s. s.parent.0) (below v n m) (new m (namespace t m)) (namespace t m) refl j;
         level = λ m. kept_of (λ s. s.level) (below v n m) (new m (namespace t m)) (namespace t m) refl j;
         last = λ m. pick (λ s. s.last.0) (below v n m) (new m (namespace t m)) (namespace t m) j;

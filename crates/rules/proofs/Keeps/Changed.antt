@@ -15,7 +15,7 @@ use Rattle.table.specs.Slots.{is_ended, namespace, no_namespace, no_process, pid
 use Rattle.rules.specs.Read.{View, view}
 use Rattle.rules.specs.Sound.{shaped}
 use Rattle.rules.proofs.Laws.Traits.{none_shaped}
-use Rattle.table.specs.Tests.{◌and◌, changed_to, if◌then◌else◌}
+use Rattle.table.specs.Tests.{◌and◌, changed_to, when◌then◌else◌}
 use Rattle.table.specs.declared.Namespace.{Namespace}
 use Rattle.table.specs.declared.Process.{Process}
 use Rattle.table.specs.declared.Table.{Table}
@@ -101,20 +101,20 @@ module _ (t : Table) (f : ℕ → Process → Process) (g : ℕ → Namespace �
 
 -- ---- one slot
 
-pub pick : {A B : Type 0} (r : A → B) (b : Bool) (x y : A) → r (if b then x else y) ≡ (if b then r x else r y)
+pub pick : {A B : Type 0} (r : A → B) (b : Bool) (x y : A) → r (when b then x else y) ≡ (when b then r x else r y)
 pick r true x y = refl
 pick r false x y = refl
 
-pub stored : {A : Type 0} (l : List A) (k : ℕ) (x d : A) → k < length l → (i : ℕ) → get_or (set l k x) i d ≡ (if eqb i k then x else get_or l i d)
+pub stored : {A : Type 0} (l : List A) (k : ℕ) (x d : A) → k < length l → (i : ℕ) → get_or (set l k x) i d ≡ (when eqb i k then x else get_or l i d)
 stored l k x d h i = go (ℕ_discrete i k)
   where
-    go : Dec (i ≡ k) → get_or (set l k x) i d ≡ (if eqb i k then x else get_or l i d)
+    go : Dec (i ≡ k) → get_or (set l k x) i d ≡ (when eqb i k then x else get_or l i d)
     go (yes e) = rw (eq-eqb i k e, e) (get_or-set_same l k x d h)
     go (no o) = rw (ne_eqb i k o) (get_or-set_other l k i x d o)
 
 module _ (t : Table) (h : So (shaped t)) (k : ℕ) where
   -- what is read of a table with one record put
-  pub view_put : (x : Process) → k < process_slots → view (put t k x) ≡ view_of (λ i. if eqb i k then x else process t i) (namespace t)
+  pub view_put : (x : Process) → k < process_slots → view (put t k x) ≡ view_of (λ i. when eqb i k then x else process t i) (namespace t)
   view_put x l = ap₂ view_of (fun_ext (stored t.processes k x no_process (omega (arith, process_count t h)))) refl
 
   pub shaped_put : (x : Process) → k < process_slots → So (process_shaped x) → So (shaped (put t k x))
@@ -123,11 +123,11 @@ module _ (t : Table) (h : So (shaped t)) (k : ℕ) where
       both _ _ (both _ _ (eq-eqb _ _ (length-set t.processes k x ∙ process_count t h)) (right _ _ (left _ _ h)))
       (all_intro _ _ (λ i b. subst (λ p. So (process_shaped p)) (sym (stored t.processes k x no_process (omega (arith, process_count t h)) i)) (go i (eqb i k) (all_elim _ _ (right _ _ h) i b))))
     where
-      go : (i : ℕ) (b : Bool) → So (process_shaped (process t i)) → So (process_shaped (if b then x else process t i))
+      go : (i : ℕ) (b : Bool) → So (process_shaped (process t i)) → So (process_shaped (when b then x else process t i))
       go i true g = s
       go i false g = g
 
-  pub view_put_namespace : (x : Namespace) → k < namespace_slots → view (put_namespace t k x) ≡ view_of (process t) (λ n. if eqb n k then x else namespace t n)
+  pub view_put_namespace : (x : Namespace) → k < namespace_slots → view (put_namespace t k x) ≡ view_of (process t) (λ n. when eqb n k then x else namespace t n)
   view_put_namespace x l = ap (view_of (process t)) (fun_ext (stored t.namespaces k x no_namespace (omega (arith, namespace_count t h))))
 
   pub shaped_put_namespace : (x : Namespace) → So (shaped (put_namespace t k x))
@@ -147,9 +147,9 @@ module _ (t : Table) (h : So (shaped t)) (k : ℕ) where
       go (no o) = subst (λ (p : Process). So (traits_shaped p.traits)) (sym (get_or-eq_default t.processes no_process (omega (arith, process_count t h)))) none_shaped
 
   -- what is read alike of the stored and of the old is unchanged
-  pub pick_same : {B : Type 0} (r : Process → B) (x : Process) → r x ≡ r (process t k) → (i : ℕ) → r (if eqb i k then x else process t i) ≡ r (process t i)
+  pub pick_same : {B : Type 0} (r : Process → B) (x : Process) → r x ≡ r (process t k) → (i : ℕ) → r (when eqb i k then x else process t i) ≡ r (process t i)
   pick_same r x e i = go (ℕ_discrete i k)
     where
-      go : Dec (i ≡ k) → r (if eqb i k then x else process t i) ≡ r (process t i)
+      go : Dec (i ≡ k) → r (when eqb i k then x else process t i) ≡ r (process t i)
       go (yes q) = rw (eq-eqb i k q) (e ∙ ap (λ j. r (process t j)) (sym q))
       go (no o) = rw (ne_eqb i k o)

@@ -36,7 +36,7 @@ use Rattle.table.specs.SignalSets.{has, lowest_signal}
 use Rattle.rules.specs.Sound.{SoundTable, kept_end}
 use Rattle.rules.specs.Step.{make, runs}
 use Rattle.rules.proofs.Laws.Traits.{Fine, pend_fine, on_fine, off_fine, poll_fine}
-use Rattle.table.specs.Tests.{◌or◌, if◌then◌else◌}
+use Rattle.table.specs.Tests.{◌or◌, when◌then◌else◌}
 use Rattle.table.specs.declared.Action.TheVariants.{Finish, Nothing, Pend, Resume, Stop}
 use Rattle.table.specs.declared.Action.{Action}
 use Rattle.table.specs.declared.Call.TheVariants.{Clone, CloneNew, Unshare, Setns, Kill, Exit, Wait, Getpid, Getppid, Handle, Poll}
@@ -183,7 +183,7 @@ module _ (t : Table) (c : ℕ) (h : SoundTable t) (r : So (runs (view t) c)) whe
   reaped Stopped e = nothing_done
   reaped (Ended x) e = freed_after _ (more start (reaps (first_ended v c) (ap is_ended e)))
 
-  handled : (s : ℕ) → 1 ≤ s → s < signals → (s ≡ sigkill → ⊥) → (s ≡ sigstop → ⊥) → (b : Bool) → Made t (put t c (if b then handle_on (process t c) s else handle_off (process t c) s))
+  handled : (s : ℕ) → 1 ≤ s → s < signals → (s ≡ sigkill → ⊥) → (s ≡ sigstop → ⊥) → (b : Bool) → Made t (put t c (when b then handle_on (process t c) s else handle_off (process t c) s))
   unfolding handle_on handle_off
   handled s x y n m true = altered c lives _ (on_fine _ fine s x y n m)
   handled s x y n m false = altered c lives _ (off_fine _ fine s)

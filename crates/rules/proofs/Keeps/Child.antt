@@ -21,7 +21,7 @@ use Rattle.rules.specs.Read.{View, alive, below, init, pid_seen, unborn, view}
 use Rattle.rules.proofs.Laws.Traits.{born_signals}
 use Rattle.table.specs.Limits.{process_slots}
 use Rattle.table.specs.Slots.{no_process, process, put}
-use Rattle.table.specs.Tests.{if◌then◌else◌}
+use Rattle.table.specs.Tests.{when◌then◌else◌}
 use Rattle.table.specs.declared.Process.{Process}
 use Rattle.table.specs.declared.Table.{Table}
 
@@ -64,7 +64,7 @@ module _ (t : Table) (s : Sane t) (c n : ℕ) (m : MayBear (view t) c n) where
   there = subst (λ u. Taken u k) (sym read) (k_taken v s.facts c n k m.lives m.namespace m.below m.not_dead low free m.up_own)
 
   -- each record
-  at : (i : ℕ) → process (birth t c n) i ≡ (if eqb i k then newborn v c n else process t i)
+  at : (i : ℕ) → process (birth t c n) i ≡ (when eqb i k then newborn v c n else process t i)
   unfolding birth
   at i =
       changed_at (λ i p. p) no_process process_slots (put t k (newborn v c n)).processes (length-set t.processes k (newborn v c n) ∙ process_count t s.shape_of) (λ i l. refl) i

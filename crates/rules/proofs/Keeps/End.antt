@@ -19,7 +19,7 @@ use Rattle.table.specs.Slots.{is_ended, namespace, no_pid, pid_at, process, no_p
 use Rattle.rules.specs.Read.{View, below, is_init, seen, view, child_of, init, taken}
 use Rattle.rules.specs.Sound.{kept_end, shaped}
 use Rattle.rules.proofs.Laws.Traits.{none_shaped, bare_stay, ended_shaped}
-use Rattle.table.specs.Tests.{◌and◌, if◌then◌else◌}
+use Rattle.table.specs.Tests.{◌and◌, when◌then◌else◌}
 use Rattle.table.specs.declared.End.TheVariants.{Signaled}
 use Rattle.table.specs.declared.End.{End}
 use Rattle.table.specs.declared.Life.TheVariants.{Dead}
@@ -33,7 +33,7 @@ use Rattle.table.specs.Traits.{ended_traits}
 module _ (e : End) (q : Process) where
   -- what no end changes
   plain : {B : Type 0} (r : Process → B) (a b c d : Bool) → ((x : End) → r (as_ended q x) ≡ r q)
-      → r (if not a then q else (if b then empty_process else (if c then as_ended q e else (if d then q else as_ended q (Signaled sigkill))))) ≡ (if a and b then r empty_process else r q)
+      → r (when not a then q else (when b then empty_process else (when c then as_ended q e else (when d then q else as_ended q (Signaled sigkill))))) ≡ (when a and b then r empty_process else r q)
   unfolding ◌and◌
   plain r false b c d h = refl
   plain r true true c d h = refl
@@ -43,7 +43,7 @@ module _ (e : End) (q : Process) where
 
   -- what an end clears
   cleared : {B : Type 0} (r : Process → B) (x : B) (a b c d : Bool) → ((y : End) → r (as_ended q y) ≡ x) → (So a → So d → r q ≡ x)
-      → r (if not a then q else (if b then empty_process else (if c then as_ended q e else (if d then q else as_ended q (Signaled sigkill))))) ≡ (if a and b then r empty_process else (if a then x else r q))
+      → r (when not a then q else (when b then empty_process else (when c then as_ended q e else (when d then q else as_ended q (Signaled sigkill))))) ≡ (when a and b then r empty_process else (when a then x else r q))
   unfolding ◌and◌
   cleared r x false b c d h k = refl
   cleared r x true true c d h k = refl
@@ -52,8 +52,8 @@ module _ (e : End) (q : Process) where
   cleared r x true false false false h k = h (Signaled sigkill)
 
   stated : (a b c d : Bool)
-      → (if not a then q else (if b then empty_process else (if c then as_ended q e else (if d then q else as_ended q (Signaled sigkill))))).state
-      ≡ (if a and b then empty_process.state else (if a then (if c then Ended e else (if d then q.state else Ended (Signaled sigkill))) else q.state))
+      → (when not a then q else (when b then empty_process else (when c then as_ended q e else (when d then q else as_ended q (Signaled sigkill))))).state
+      ≡ (when a and b then empty_process.state else (when a then (when c then Ended e else (when d then q.state else Ended (Signaled sigkill))) else q.state))
   unfolding ◌and◌
   stated false b c d = refl
   stated true true c d = refl
@@ -61,7 +61,7 @@ module _ (e : End) (q : Process) where
   stated true false false true = refl
   stated true false false false = refl
 
-  shaped_cased : (a b c d : Bool) → So (process_shaped q) → So (process_shaped (if not a then q else (if b then empty_process else (if c then as_ended q e else (if d then q else as_ended q (Signaled sigkill))))))
+  shaped_cased : (a b c d : Bool) → So (process_shaped q) → So (process_shaped (when not a then q else (when b then empty_process else (when c then as_ended q e else (when d then q else as_ended q (Signaled sigkill))))))
   shaped_cased false b c d h = h
   shaped_cased true true c d h = both _ _ refl none_shaped
   shaped_cased true false true d h = both _ _ (left _ _ h) (ended_shaped _ (right _ _ h))
@@ -70,7 +70,7 @@ module _ (e : End) (q : Process) where
 
 -- the view once the process at p has ended
 abbrev pub ended_view : View → ℕ → End → View
-ended_view v p e = if is_init v p then subtree_gone v (v.own p) p e else member_gone v p (init v (v.own p)) e
+ended_view v p e = when is_init v p then subtree_gone v (v.own p) p e else member_gone v p (init v (v.own p)) e
 
 module _ (t : Table) (s : Sane t) (p : ℕ) (e : End) (here : Taken (view t) p) where
   abbrev v : View
@@ -91,18 +91,18 @@ module _ (t : Table) (s : Sane t) (p : ℕ) (e : End) (here : Taken (view t) p) 
   after_member = changed t (member_ends v p e) (λ n s. s)
 
   -- what is read of the three cases
-  three : {B : Type 0} (r : Process → B) (a b : Bool) (x : Process) → r (if a then as_ended x e else (if b then with_parent x q else x)) ≡ (if a then r (as_ended x e) else (if b then r (with_parent x q) else r x))
+  three : {B : Type 0} (r : Process → B) (a b : Bool) (x : Process) → r (when a then as_ended x e else (when b then with_parent x q else x)) ≡ (when a then r (as_ended x e) else (when b then r (with_parent x q) else r x))
   three r true b x = refl
   three r false true x = refl
   three r false false x = refl
 
   -- the same where the second case is as the third
-  two : {B : Type 0} (r : Process → B) (a b : Bool) (x : Process) → r (with_parent x q) ≡ r x → r (if a then as_ended x e else (if b then with_parent x q else x)) ≡ (if a then r (as_ended x e) else r x)
+  two : {B : Type 0} (r : Process → B) (a b : Bool) (x : Process) → r (with_parent x q) ≡ r x → r (when a then as_ended x e else (when b then with_parent x q else x)) ≡ (when a then r (as_ended x e) else r x)
   two r true b x h = refl
   two r false true x h = h
   two r false false x h = refl
 
-  none_of : {B : Type 0} (r : Process → B) (a b : Bool) (x : Process) → r (as_ended x e) ≡ r x → r (with_parent x q) ≡ r x → r (if a then as_ended x e else (if b then with_parent x q else x)) ≡ r x
+  none_of : {B : Type 0} (r : Process → B) (a b : Bool) (x : Process) → r (as_ended x e) ≡ r x → r (with_parent x q) ≡ r x → r (when a then as_ended x e else (when b then with_parent x q else x)) ≡ r x
   none_of r true b x h k = h
   none_of r false true x h k = k
   none_of r false false x h k = refl
@@ -126,7 +126,7 @@ module _ (t : Table) (s : Sane t) (p : ℕ) (e : End) (here : Taken (view t) p) 
       view_changed t (member_ends v p e) (λ n s. s) g member_out (λ n l. refl)
       ∙ (λ j. record {
         own = λ i. none_of (λ x. x.own.0) (eqb i p) (child_of v p i) (process t i) refl refl j;
-        hold = λ i k. (two (λ x. hold_at x k) (eqb i p) (child_of v p i) (process t i) (parent_holds (process t i) q k) ∙ ap (λ z. if eqb i p then z else v.hold i k) (ended_none (process t i) e k)) j;
+        hold = λ i k. (two (λ x. hold_at x k) (eqb i p) (child_of v p i) (process t i) (parent_holds (process t i) q k) ∙ ap (λ z. when eqb i p then z else v.hold i k) (ended_none (process t i) e k)) j;
         parent = λ i. three (λ x. x.parent.0) (eqb i p) (child_of v p i) (process t i) j;
         state = λ i. two (λ x. x.state) (eqb i p) (child_of v p i) (process t i) refl j;
         ended = λ i. two (λ x. is_ended x.state) (eqb i p) (child_of v p i) (process t i) refl j;
@@ -142,7 +142,7 @@ module _ (t : Table) (s : Sane t) (p : ℕ) (e : End) (here : Taken (view t) p) 
   unfolding member_ends
   member_shape = shaped_changed t (member_ends v p e) (λ n s. s) g (λ i x h. still (eqb i p) (child_of v p i) x h)
     where
-      still : (a b : Bool) (x : Process) → So (process_shaped x) → So (process_shaped (if a then as_ended x e else (if b then with_parent x q else x)))
+      still : (a b : Bool) (x : Process) → So (process_shaped x) → So (process_shaped (when a then as_ended x e else (when b then with_parent x q else x)))
       still true b x h = both _ _ (left _ _ h) (ended_shaped _ (right _ _ h))
       still false true x h = h
       still false false x h = h
@@ -155,11 +155,11 @@ module _ (t : Table) (s : Sane t) (p : ℕ) (e : End) (here : Taken (view t) p) 
   abbrev after_init : Table
   after_init = changed t (init_ends v p e) (namespace_dies v n)
 
-  dying : {B : Type 0} (r : Namespace → B) (b : Bool) (s : Namespace) → r (with_life s Dead) ≡ r s → r (if b then with_life s Dead else s) ≡ r s
+  dying : {B : Type 0} (r : Namespace → B) (b : Bool) (s : Namespace) → r (with_life s Dead) ≡ r s → r (when b then with_life s Dead else s) ≡ r s
   dying r true s h = h
   dying r false s h = refl
 
-  dies : (b : Bool) (s : Namespace) → (if b then with_life s Dead else s).life ≡ (if b then Dead else s.life)
+  dies : (b : Bool) (s : Namespace) → (when b then with_life s Dead else s).life ≡ (when b then Dead else s.life)
   dies true s = refl
   dies false s = refl
 
@@ -191,7 +191,7 @@ module _ (t : Table) (s : Sane t) (p : ℕ) (e : End) (here : Taken (view t) p) 
         state = λ i. stated e (process t i) (seen v n i) (seen v n (v.parent i)) (eqb i p) (v.ended i) j;
         ended = λ i. cleared e (process t i) (λ x. is_ended x.state) true (seen v n i) (seen v n (v.parent i)) (eqb i p) (v.ended i) (λ x. refl) (λ s d. d) j;
         traits = λ i. cleared e (process t i) (λ x. x.traits) (ended_traits (v.traits i)) (seen v n i) (seen v n (v.parent i)) (eqb i p) (v.ended i) (λ x. refl) (λ s d. sym (bare_stay _ (f.ended_traits i (seen_taken v n i s) d))) j;
-        pid = λ i l. (plain e (process t i) (λ x. pid_at x l) (seen v n i) (seen v n (v.parent i)) (eqb i p) (v.ended i) (λ x. refl) ∙ ap (λ z. if seen v n i and seen v n (v.parent i) then z else v.pid i l) (ap (λ x. x.0) (get_d_replicate no_pid levels l))) j;
+        pid = λ i l. (plain e (process t i) (λ x. pid_at x l) (seen v n i) (seen v n (v.parent i)) (eqb i p) (v.ended i) (λ x. refl) ∙ ap (λ z. when seen v n i and seen v n (v.parent i) then z else v.pid i l) (ap (λ x. x.0) (get_d_replicate no_pid levels l))) j;
         up = λ m. dying (λ s. s.parent.0) (below v m n) (namespace t m) refl j;
         level = λ m. dying (λ s. s.level) (below v m n) (namespace t m) refl j;
         last = λ m. dying (λ s. s.last.0) (below v m n) (namespace t m) refl j;
@@ -207,7 +207,7 @@ module _ (t : Table) (s : Sane t) (p : ℕ) (e : End) (here : Taken (view t) p) 
   -- what is read of the table of an end
   pub end_view : view (end t p e) ≡ ended_view v p e
   unfolding end
-  end_view = pick view (is_init v p) after_init after_member ∙ ap₂ (λ (x y : View). if is_init v p then x else y) subtree_view member_view
+  end_view = pick view (is_init v p) after_init after_member ∙ ap₂ (λ (x y : View). when is_init v p then x else y) subtree_view member_view
 
   end_shape : So (shaped (end t p e))
   unfolding end

@@ -27,7 +27,7 @@ use Rattle.rules.specs.Read.{View, is_init, seen, taken, view}
 use Rattle.table.specs.Slots.{process}
 use Rattle.rules.specs.Sound.{SoundTable, kept_end}
 use Rattle.rules.specs.Step.{make, runs, step}
-use Rattle.table.specs.Tests.{◌and◌, ◌or◌, if◌then◌else◌}
+use Rattle.table.specs.Tests.{◌and◌, ◌or◌, when◌then◌else◌}
 use Rattle.table.specs.declared.Action.TheVariants.{Finish}
 use Rattle.table.specs.declared.Call.TheVariants.{Exit, Kill}
 use Rattle.table.specs.declared.End.TheVariants.{Exited, Signaled}
@@ -40,7 +40,7 @@ use Rattle.table.specs.declared.Table.{Table}
 abbrev Fallen : View → ℕ → ℕ → End → View → Type 0
 Fallen v n c e u =
     ((i : ℕ) → Taken v i → (Taken u i → ⊥) ↔ (Seen v n i × Seen v n (v.parent i)))
-    × ((i : ℕ) → Seen v n i → (Seen v n (v.parent i) → ⊥) → u.state i ≡ (if eqb i c then Ended e else (if v.ended i then v.state i else Ended (Signaled sigkill))))
+    × ((i : ℕ) → Seen v n i → (Seen v n (v.parent i) → ⊥) → u.state i ≡ (when eqb i c then Ended e else (when v.ended i then v.state i else Ended (Signaled sigkill))))
 
 gone_removed : (v : View) (n c : ℕ) (e : End) → Fallen v n c e (subtree_gone v n c e)
 unfolding taken gone

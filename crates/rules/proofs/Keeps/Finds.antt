@@ -22,7 +22,7 @@ use Rattle.table.specs.Limits.{process_slots}
 use Rattle.table.specs.Slots.{no_process, process}
 use Rattle.rules.specs.Read.{View, find, pid_seen, seen, all_seen}
 use Rattle.rules.specs.Sound.{shaped}
-use Rattle.table.specs.Tests.{if◌then◌else◌, ◌and◌, some_of}
+use Rattle.table.specs.Tests.{when◌then◌else◌, ◌and◌, some_of}
 use Rattle.table.specs.declared.Table.{Table}
 
 module _ (v : View) (f : Facts v) (c : ℕ) (here : Taken v c) where
@@ -49,12 +49,12 @@ module _ (v : View) (f : Facts v) (c : ℕ) (here : Taken v c) where
   unfolding targets meant numbered others all_seen
   targets_meant (pos n) i = (λ h. there (eqb (named v c (pos n)) process_slots) refl (some_of_in i _ h), λ h. back h)
     where
-      there : (b : Bool) → eqb (named v c (pos n)) process_slots ≡ b → In i (if b then [] else named v c (pos n) ∷ []) → So (seen v (v.own c) i and eqb (pid_to v c i) n)
+      there : (b : Bool) → eqb (named v c (pos n)) process_slots ≡ b → In i (when b then [] else named v c (pos n) ∷ []) → So (seen v (v.own c) i and eqb (pid_to v c i) n)
       there true e h = absurd h
       there false e (inl q) = let (s, k) = named_meant n i (eqb-false _ process_slots e) q in both _ _ s (eq-eqb _ n k)
       there false e (inr h) = absurd h
 
-      back : So (seen v (v.own c) i and eqb (pid_to v c i) n) → So (some_of (eqb i) (if eqb (named v c (pos n)) process_slots then [] else named v c (pos n) ∷ []))
+      back : So (seen v (v.own c) i and eqb (pid_to v c i) n) → So (some_of (eqb i) (when eqb (named v c (pos n)) process_slots then [] else named v c (pos n) ∷ []))
       back h =
           let s = left _ _ h in
           let e = meant_named n i s (eqb-true _ n (right _ _ h)) in

@@ -29,7 +29,7 @@ use Rattle.table.specs.Slots.{is_alive, is_dead, is_unborn, init_of}
 use Rattle.rules.specs.Read.{View, is_init, taken, view, namespace_taken, alive, dead, unborn, init, below, climb, children}
 use Rattle.rules.specs.Sound.{SoundTable, kept_end}
 use Rattle.rules.specs.Step.{make}
-use Rattle.table.specs.Tests.{if◌then◌else◌}
+use Rattle.table.specs.Tests.{when◌then◌else◌}
 use Rattle.table.specs.declared.End.{End}
 use Rattle.table.specs.declared.Life.TheVariants.{Unborn, Alive, Dead}
 use Rattle.table.specs.declared.Life.{Life}
@@ -134,7 +134,7 @@ end_stays t s p e lives =
     subst (Stay (view t)) (sym (end_view t s p e (lives_taken (view t) p lives)))
     (choose (Stay (view t)) (is_init (view t) p) (λ i m h. (h, (refl, refl, λ o. by (below (view t) m ((view t).own p)) ((view t).life m)))) (λ i m h. (h, (refl, refl, λ o. inl refl))))
   where
-    by : (b : Bool) (l : Life) → ((if b then Dead else l) ≡ l) ⊎ So (is_dead (if b then Dead else l))
+    by : (b : Bool) (l : Life) → ((when b then Dead else l) ≡ l) ⊎ So (is_dead (when b then Dead else l))
     by true l = inr refl
     by false l = inl refl
 
@@ -163,7 +163,7 @@ birth_stays t s c n m =
     subst (Stay (view t)) (sym (birth_view t s.shape_of s.facts c n m.namespace (K.free_slot_is (view t) m.room).0))
     (λ a h. (h, (refl, refl, λ o. inl (by (below (view t) n a) ((view t).life a) o))))
   where
-    by : (b : Bool) (l : Life) → (So (is_unborn l) → ⊥) → (if b then (if is_unborn l then Alive (record { 0 = free_slot (view t) }) else l) else l) ≡ l
+    by : (b : Bool) (l : Life) → (So (is_unborn l) → ⊥) → (when b then (when is_unborn l then Alive (record { 0 = free_slot (view t) }) else l) else l) ≡ l
     by false l o = refl
     by true Unborn o = absurd (o refl)
     by true (Alive i) o = refl

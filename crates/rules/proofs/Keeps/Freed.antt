@@ -17,7 +17,7 @@ use Rattle.table.specs.Limits.{greatest_pid, hold_slots, namespace_slots}
 use Rattle.table.specs.Slots.{init_of, is_alive, is_dead, is_unborn, namespace, no_namespace}
 use Rattle.rules.specs.Read.{View, alive, below, climb, living, namespace_taken, pid_seen, seen, taken, unborn, view, children}
 use Rattle.rules.specs.Sound.{zero_namespace, zero_process, SoundTable, shaped}
-use Rattle.table.specs.Tests.{◌and◌, ◌or◌, if◌then◌else◌}
+use Rattle.table.specs.Tests.{◌and◌, ◌or◌, when◌then◌else◌}
 use Rattle.table.specs.declared.Life.TheVariants.{Unborn}
 use Rattle.table.specs.declared.Namespace.{Namespace}
 use Rattle.table.specs.declared.Table.{Table}
@@ -73,17 +73,17 @@ restrict k v =
       ended = v.ended;
       traits = v.traits;
       pid = v.pid;
-      up = λ n. if k n then v.up n else 0;
-      level = λ n. if k n then v.level n else 0;
-      last = λ n. if k n then v.last n else 0;
-      life = λ n. if k n then v.life n else Unborn;
+      up = λ n. when k n then v.up n else 0;
+      level = λ n. when k n then v.level n else 0;
+      last = λ n. when k n then v.last n else 0;
+      life = λ n. when k n then v.life n else Unborn;
     }
 
 module _ (v : View) (p : Facts v) where
   abbrev w : View
   w = restrict (kept v) v
 
-  at : {A : Type 0} (n : ℕ) → So (kept v n) → (x y : A) → (if kept v n then x else y) ≡ x
+  at : {A : Type 0} (n : ℕ) → So (kept v n) → (x y : A) → (when kept v n then x else y) ≡ x
   at n k x y = rw k
 
   up_at : (n : ℕ) → So (kept v n) → w.up n ≡ v.up n
@@ -166,7 +166,7 @@ module _ (v : View) (p : Facts v) where
         unborn_own = λ n s u i x e. let (k, t) = stayed n s in p.unborn_own n t (was_unborn n k u) i x e ∙ sym (up_at n k);
         unborn_one = λ n s u. let (k, t) = stayed n s in p.unborn_one n t (was_unborn n k u);
         last_pids = λ n l. low n (kept v n) (p.last_pids n l);
-        pid_range = λ i t l b. subst (λ x. So (if leb l x then leb 1 (v.pid i l) and leb (v.pid i l) greatest_pid else eqb (v.pid i l) 0)) (sym (level_at _ (kept_own v p i t))) (p.pid_range i t l b);
+        pid_range = λ i t l b. subst (λ x. So (when leb l x then leb 1 (v.pid i l) and leb (v.pid i l) greatest_pid else eqb (v.pid i l) 0)) (sym (level_at _ (kept_own v p i t))) (p.pid_range i t l b);
         differ = λ n s i j a b e. let (k, t) = stayed n s in p.differ n t i j (was_seen n i a) (was_seen n j b) (sym (same_pid n i k) ∙ e ∙ same_pid n j k);
         first = λ n s a i b. let (k, t) = stayed n s in let (f, g) = p.first n t (sym (ap is_alive (life_at n k)) ∙ a) i (was_seen n i b) in (λ e. f (sym (same_pid n i k) ∙ e) ∙ sym (ap init_of (life_at n k)), λ e. same_pid n i k ∙ g (e ∙ ap init_of (life_at n k)));
         members = λ i t. let k = kept_own v p i t in let ((s, d), u) = p.members i t in ((stays _ k s, λ x. d (sym (ap is_dead (life_at _ k)) ∙ x)), λ x. u (was_unborn _ k x));
@@ -179,7 +179,7 @@ module _ (v : View) (p : Facts v) where
         ends_kept = p.ends_kept;
       }
     where
-      low : (n : ℕ) (b : Bool) → v.last n ≤ greatest_pid → (if b then v.last n else 0) ≤ greatest_pid
+      low : (n : ℕ) (b : Bool) → v.last n ≤ greatest_pid → (when b then v.last n else 0) ≤ greatest_pid
       low n true h = h
       low n false h = omega arith
 
@@ -219,22 +219,22 @@ module _ (v : View) (p : Facts v) where
 -- ---- a table with the facts is sound once freed
 
 -- past the last slot there is nothing to free
-none_freed : (b : Bool) → (if b then no_namespace else empty_namespace) ≡ no_namespace
+none_freed : (b : Bool) → (when b then no_namespace else empty_namespace) ≡ no_namespace
 none_freed true = refl
 none_freed false = refl
 
 -- what stands at a slot then
-pub freed_space : (t : Table) → So (shaped t) → (n : ℕ) → namespace (freed t) n ≡ (if kept (view t) n then namespace t n else empty_namespace)
+pub freed_space : (t : Table) → So (shaped t) → (n : ℕ) → namespace (freed t) n ≡ (when kept (view t) n then namespace t n else empty_namespace)
 unfolding freed
 freed_space t h =
-    changed_at (λ n s. if kept (view t) n then s else empty_namespace) no_namespace namespace_slots t.namespaces (namespace_count t h)
+    changed_at (λ n s. when kept (view t) n then s else empty_namespace) no_namespace namespace_slots t.namespaces (namespace_count t h)
     (λ n l. none_freed (kept (view t) n))
 
 -- what is read then
 pub freed_view : (t : Table) → So (shaped t) → view (freed t) ≡ restrict (kept (view t)) (view t)
 unfolding freed
 freed_view t h =
-    view_changed t (λ i p. p) (λ n s. if kept (view t) n then s else empty_namespace) h (λ i l. refl) (λ n l. none_freed (kept (view t) n))
+    view_changed t (λ i p. p) (λ n s. when kept (view t) n then s else empty_namespace) h (λ i l. refl) (λ n l. none_freed (kept (view t) n))
     ∙ (λ i. record {
       own = (view t).own;
       hold = (view t).hold;
@@ -249,7 +249,7 @@ freed_view t h =
       life = λ n. read (λ s. s.life) (kept (view t) n) (namespace t n) i;
     })
   where
-    read : {B : Type 0} (g : Namespace → B) (b : Bool) (s : Namespace) → g (if b then s else empty_namespace) ≡ (if b then g s else g empty_namespace)
+    read : {B : Type 0} (g : Namespace → B) (b : Bool) (s : Namespace) → g (when b then s else empty_namespace) ≡ (when b then g s else g empty_namespace)
     read g true s = refl
     read g false s = refl
 
@@ -257,5 +257,5 @@ freed_view t h =
 pub freed_keeps : (t : Table) → So (shaped t) → Facts (view t) → SoundTable (freed t)
 unfolding freed
 freed_keeps t h p =
-    sound_from (freed t) (shaped_changed t (λ i p. p) (λ n s. if kept (view t) n then s else empty_namespace) h (λ i q k. k))
+    sound_from (freed t) (shaped_changed t (λ i p. p) (λ n s. when kept (view t) n then s else empty_namespace) h (λ i q k. k))
     (subst Facts (sym (freed_view t h)) (freed_facts (view t) p)) (subst Held (sym (freed_view t h)) (freed_held (view t) p))

@@ -26,7 +26,7 @@ use Rattle.table.specs.Limits.{deepest, namespace_slots, greatest_pid, restart_p
 use Rattle.rules.specs.Pids.{free_pid, free_namespace_slot, free_slot, next_pid}
 use Rattle.rules.specs.Read.{View, below, dead, living, pid_seen, seen, taken, unborn, view}
 use Rattle.rules.specs.Sound.{SoundTable, zero_namespace}
-use Rattle.table.specs.Tests.{if◌then◌else◌}
+use Rattle.table.specs.Tests.{when◌then◌else◌}
 use Rattle.table.specs.declared.Table.{Table}
 
 -- ---- the number that the search gives
@@ -55,7 +55,7 @@ next_rule v f n =
     beyond e (yes l) = l
     beyond e (no o) = absurd (no_so e (le-leb (low v n) greatest_pid (omega arith)))
 
-    go : (b : Bool) → leb (low v n) greatest_pid ≡ b → Rule (if b then low v n else again v n)
+    go : (b : Bool) → leb (low v n) greatest_pid ≡ b → Rule (when b then low v n else again v n)
     go true e = inl (omega (arith, r.from), λ j x y. held j (r.none_before j (omega arith) y))
     go false e = let l = beyond e (dec_lt greatest_pid (low v n)) in inr (λ j x y. held j (r.none_before j (omega arith) (omega arith)), q.from, λ j x y. held j (q.none_before j x y))
 

@@ -18,7 +18,7 @@ use Rattle.table.specs.Slots.{init_of, is_alive, is_ended, hold_at}
 use Rattle.rules.specs.Read.{View, alive, below, dead, init, is_init, living, namespace_taken, pid_seen, seen, taken, unborn}
 use Rattle.rules.specs.Sound.{kept_end, reaches_root, zero_namespace, zero_process}
 use Rattle.rules.proofs.Laws.Traits.{none_are_blank, ended_are_bare, ended_ok}
-use Rattle.table.specs.Tests.{◌and◌, if◌then◌else◌}
+use Rattle.table.specs.Tests.{◌and◌, when◌then◌else◌}
 use Rattle.table.specs.declared.End.TheVariants.{Signaled}
 use Rattle.table.specs.declared.End.{End}
 use Rattle.table.specs.declared.Life.TheVariants.{Dead}
@@ -33,17 +33,17 @@ gone v n i = seen v n i and seen v n (v.parent i)
 abbrev pub subtree_gone : View → ℕ → ℕ → End → View
 subtree_gone v n p e =
     record {
-      own = λ i. if gone v n i then 0 else v.own i;
-      hold = λ i k. if gone v n i then hold_at empty_process k else (if seen v n i then no_slot else v.hold i k);
-      parent = λ i. if gone v n i then 0 else v.parent i;
-      state = λ i. if gone v n i then Running else (if seen v n i then (if eqb i p then Ended e else (if v.ended i then v.state i else Ended (Signaled sigkill))) else v.state i);
-      ended = λ i. if gone v n i then false else (if seen v n i then true else v.ended i);
-      traits = λ i. if gone v n i then no_traits else (if seen v n i then ended_traits (v.traits i) else v.traits i);
-      pid = λ i l. if gone v n i then 0 else v.pid i l;
+      own = λ i. when gone v n i then 0 else v.own i;
+      hold = λ i k. when gone v n i then hold_at empty_process k else (when seen v n i then no_slot else v.hold i k);
+      parent = λ i. when gone v n i then 0 else v.parent i;
+      state = λ i. when gone v n i then Running else (when seen v n i then (when eqb i p then Ended e else (when v.ended i then v.state i else Ended (Signaled sigkill))) else v.state i);
+      ended = λ i. when gone v n i then false else (when seen v n i then true else v.ended i);
+      traits = λ i. when gone v n i then no_traits else (when seen v n i then ended_traits (v.traits i) else v.traits i);
+      pid = λ i l. when gone v n i then 0 else v.pid i l;
       up = v.up;
       level = v.level;
       last = v.last;
-      life = λ m. if below v m n then Dead else v.life m;
+      life = λ m. when below v m n then Dead else v.life m;
     }
 
 module _ (v : View) (f : Facts v) (p : ℕ) (e : End) (lives : Lives v p) (its_init : So (is_init v p)) (p_other : Other p) (ok : So (kept_end (Ended e))) where
@@ -137,10 +137,10 @@ module _ (v : View) (f : Facts v) (p : ℕ) (e : End) (lives : Lives v p) (its_i
   unfolding seen taken below
   was_seen m i h = let (g, t) = stays i (left _ _ h) in both _ _ t (rw g at (right _ _ h))
 
-  traits_w : (i : ℕ) → Taken v i → So (traits_ok (if seen v n i then ended_traits (v.traits i) else v.traits i))
+  traits_w : (i : ℕ) → Taken v i → So (traits_ok (when seen v n i then ended_traits (v.traits i) else v.traits i))
   traits_w i t = ⊎_elim (λ s. rw s (ended_ok _ (f.traits i t))) (λ o. rw o (f.traits i t)) (yes_or_no (seen v n i))
 
-  ended_kept : (i : ℕ) → Taken v i → (a b c : Bool) → So (kept_end (if a then (if b then Ended e else (if c then v.state i else Ended (Signaled sigkill))) else v.state i))
+  ended_kept : (i : ℕ) → Taken v i → (a b c : Bool) → So (kept_end (when a then (when b then Ended e else (when c then v.state i else Ended (Signaled sigkill))) else v.state i))
   ended_kept i t true true c = ok
   ended_kept i t true false true = f.ends_kept i t
   ended_kept i t true false false = both _ _ refl refl
@@ -164,17 +164,17 @@ module _ (v : View) (f : Facts v) (p : ℕ) (e : End) (lives : Lives v p) (its_i
   holder_w m i s g (k, l, x) =
       ⊎_elim (λ (z : So (seen v n i)). absurd (omega (arith, f.in_namespace m s, sym (rw (g, z) at x)))) (λ (o : seen v n i ≡ false). (k, l, rw (g, o) at x)) (yes_or_no (seen v n i))
 
-  ended_w : (i : ℕ) → Taken v i → Below v (v.own i) n ⊎ So (v.ended i) → So (if seen v n i then true else v.ended i)
+  ended_w : (i : ℕ) → Taken v i → Below v (v.own i) n ⊎ So (v.ended i) → So (when seen v n i then true else v.ended i)
   ended_w i t (inl b) = rw (is_seen v n i t b)
   ended_w i t (inr d) = ⊎_elim (λ s. rw s) (λ o. rw o d) (yes_or_no (seen v n i))
 
-  holds_w : (i : ℕ) → Taken v i → So (if seen v n i then true else v.ended i) → (k : ℕ) → k < hold_slots → (if seen v n i then no_slot else v.hold i k) ≡ no_slot
+  holds_w : (i : ℕ) → Taken v i → So (when seen v n i then true else v.ended i) → (k : ℕ) → k < hold_slots → (when seen v n i then no_slot else v.hold i k) ≡ no_slot
   holds_w i t = ⊎_elim (λ s. rw s (λ h k l. refl)) (λ o. rw o (f.ended_holds i t)) (yes_or_no (seen v n i))
 
-  bare_w : (i : ℕ) → Taken v i → So (if seen v n i then true else v.ended i) → So (bare_traits (if seen v n i then ended_traits (v.traits i) else v.traits i))
+  bare_w : (i : ℕ) → Taken v i → So (when seen v n i then true else v.ended i) → So (bare_traits (when seen v n i then ended_traits (v.traits i) else v.traits i))
   bare_w i t = ⊎_elim (λ s. rw s (λ h. ended_are_bare _)) (λ o. rw o (f.ended_traits i t)) (yes_or_no (seen v n i))
 
-  ended_as : (a b c : Bool) (i : ℕ) (d : Bool) → v.ended i ≡ d → (if a then false else (if b then true else v.ended i)) ≡ is_ended (if a then Running else (if b then (if c then Ended e else (if d then v.state i else Ended (Signaled sigkill))) else v.state i))
+  ended_as : (a b c : Bool) (i : ℕ) (d : Bool) → v.ended i ≡ d → (when a then false else (when b then true else v.ended i)) ≡ is_ended (when a then Running else (when b then (when c then Ended e else (when d then v.state i else Ended (Signaled sigkill))) else v.state i))
   ended_as true b c i d h = refl
   ended_as false false c i d h = f.ended_is i
   ended_as false true true i d h = refl

@@ -17,7 +17,7 @@ use Rattle.rules.specs.Read.{View, init, is_init, living, seen, taken, view}
 use Rattle.rules.proofs.Laws.Traits.{ended_again}
 use Rattle.table.specs.Fresh.{empty_process}
 use Rattle.table.specs.Slots.{is_ended, pid_at, process}
-use Rattle.table.specs.Tests.{◌and◌, if◌then◌else◌}
+use Rattle.table.specs.Tests.{◌and◌, when◌then◌else◌}
 use Rattle.table.specs.declared.End.TheVariants.{Signaled}
 use Rattle.table.specs.declared.End.{End}
 use Rattle.table.specs.declared.Process.{Process}
@@ -55,7 +55,7 @@ module _ (k from : ℕ) (P : ℕ → Type 0) (u : Table) (s : Sane u) (j : ℕ) 
   unfolding init_ends
   left_at i a b = init_ended_at u s j (Signaled k) here yes_init i ∙ rw (a, b, nine) (⊎_elim (λ e. self e) (λ e. rw e) (same_or i j))
     where
-      self : i ≡ j → (if eqb i j then as_ended (process u i) (Signaled sigkill) else over sigkill (process u i)) ≡ over sigkill (process u i)
+      self : i ≡ j → (when eqb i j then as_ended (process u i) (Signaled sigkill) else over sigkill (process u i)) ≡ over sigkill (process u i)
       self e = let d : is_ended (process u i).state ≡ false = isnt_so (not_ended v i (subst (Lives v) (sym e) l)) in rw (eq-eqb i j e, d)
 
   -- the three cases
@@ -69,14 +69,14 @@ module _ (k from : ℕ) (P : ℕ → Type 0) (u : Table) (s : Sane u) (j : ℕ) 
   over_field : {B : Type 0} (r : Process → B) (q : Process) → ((e : End) → r (as_ended q e) ≡ r q) → r (over k q) ≡ r q
   over_field r q a = go (is_ended q.state)
     where
-      go : (b : Bool) → r (if b then q else as_ended q (Signaled k)) ≡ r q
+      go : (b : Bool) → r (when b then q else as_ended q (Signaled k)) ≡ r q
       go true = refl
       go false = a (Signaled k)
 
   over_ended : (q : Process) → So (is_ended (over k q).state)
   over_ended q = go (is_ended q.state) refl
     where
-      go : (b : Bool) → is_ended q.state ≡ b → So (is_ended (if b then q else as_ended q (Signaled k)).state)
+      go : (b : Bool) → is_ended q.state ≡ b → So (is_ended (when b then q else as_ended q (Signaled k)).state)
       go true e = e
       go false e = refl
 

@@ -35,7 +35,7 @@ use Rattle.rules.specs.Sound.{SoundTable}
 use Rattle.rules.specs.Step.{runs, step}
 use Rattle.table.specs.Limits.{process_slots, signals, sigkill}
 use Rattle.table.specs.Slots.{is_ended, pid_at, process}
-use Rattle.table.specs.Tests.{◌and◌, if◌then◌else◌}
+use Rattle.table.specs.Tests.{◌and◌, when◌then◌else◌}
 use Rattle.table.specs.declared.Action.TheVariants.{Finish}
 use Rattle.table.specs.declared.Call.TheVariants.{Kill}
 use Rattle.table.specs.declared.End.TheVariants.{Signaled}
@@ -51,7 +51,7 @@ targets_distinct : (v : View) → Facts v → (c : ℕ) → Taken v c → (n : �
 unfolding targets others all_seen
 targets_distinct v f c here (pos n) = go (eqb (named v c (pos n)) process_slots)
   where
-    go : (b : Bool) → Distinct {A = ℕ} (if b then [] else named v c (pos n) ∷ [])
+    go : (b : Bool) → Distinct {A = ℕ} (when b then [] else named v c (pos n) ∷ [])
     go true = tt
     go false = (λ h. h, tt)
 targets_distinct v f c here (negsuc n) =
@@ -192,19 +192,19 @@ module _ (t : Table) (c : ℕ) (h : SoundTable t) (r : So (runs (view t) c)) (n 
 
   parent_after_then : (i : ℕ) → parent_after t u i ≡ parent_after t w i
   unfolding parent_after living taken
-  parent_after_then i = ap (λ (q : Process). let p = v.parent i in if living v p and not (not (eqb (pid_at q 0) 0) and not (is_ended q.state)) then init v (v.own p) else p) (at (v.parent i))
+  parent_after_then i = ap (λ (q : Process). let p = v.parent i in when living v p and not (not (eqb (pid_at q 0) 0) and not (is_ended q.state)) then init v (v.own p) else p) (at (v.parent i))
 
   as_then : (i : ℕ) (q : Process) → process w i ≡ with_parent q (parent_after t w i) → process u i ≡ with_parent q (parent_after t u i)
   as_then i q e = at i ∙ e ∙ ap (with_parent q) (sym (parent_after_then i))
 
   abbrev swept_by : ℕ → Process
-  swept_by i = if v.ended i then process t i else as_ended (process t i) (Signaled sigkill)
+  swept_by i = when v.ended i then process t i else as_ended (process t i) (Signaled sigkill)
 
   swept_as : (i j : ℕ) → So (ends_init v c n s j) → Seen v (v.own j) i → Taken (view w) i → process w i ≡ with_parent (swept_by i) (parent_after t w i)
   unfolding ends_init
   swept_as i j d b y =
       let e : k ≡ sigkill = eqb-true k sigkill (right _ _ d) in
-      x.ended i y (fallen i (v.own j, ends_init_fell j d, b)) ∙ ap (λ (z : ℕ). with_parent (if v.ended i then process t i else as_ended (process t i) (Signaled z)) ((view w).parent i)) e
+      x.ended i y (fallen i (v.own j, ends_init_fell j d, b)) ∙ ap (λ (z : ℕ). with_parent (when v.ended i then process t i else as_ended (process t i) (Signaled z)) ((view w).parent i)) e
       ∙ ap (with_parent (swept_by i)) (x.parents i y)
 
   pub signal_done : SignalDone t (freed w) c n s

@@ -12,7 +12,7 @@ use Rattle.rules.proofs.Laws.Tests.{same_or, isnt_so}
 use Rattle.table.specs.Slots.{is_ended}
 use Rattle.rules.specs.Read.{View, below, living, namespace_taken, pid_seen, seen, taken, unborn, children}
 use Rattle.rules.specs.Sound.{kept_end, zero_namespace, zero_process}
-use Rattle.table.specs.Tests.{if◌then◌else◌}
+use Rattle.table.specs.Tests.{when◌then◌else◌}
 use Rattle.table.specs.declared.State.{State}
 use Rattle.table.specs.Traits.{traits_ok}
 use Rattle.table.specs.declared.Traits.{Traits}
@@ -22,11 +22,11 @@ abbrev pub with_lights : View → ℕ → State → Traits → ℕ → View
 with_lights v c s x m =
     record {
       own = v.own;
-      hold = λ i k. if eqb i c then with_hold (v.hold c) 0 m k else v.hold i k;
+      hold = λ i k. when eqb i c then with_hold (v.hold c) 0 m k else v.hold i k;
       parent = v.parent;
-      state = λ i. if eqb i c then s else v.state i;
+      state = λ i. when eqb i c then s else v.state i;
       ended = v.ended;
-      traits = λ i. if eqb i c then x else v.traits i;
+      traits = λ i. when eqb i c then x else v.traits i;
       pid = v.pid;
       up = v.up;
       level = v.level;

@@ -27,7 +27,7 @@ use Rattle.rules.specs.Read.{View, namespace_taken, taken, view}
 use Rattle.rules.specs.Refusals.{numbered, meant, not_running, einval, enosys, esrch, ebusy, echild, enospc, enomem, eagain, rows, first}
 use Rattle.rules.specs.Sound.{SoundTable, sound}
 use Rattle.rules.specs.Step.{make, runs, step}
-use Rattle.table.specs.Tests.{◌and◌, ◌or◌, all, any, if◌then◌else◌, lowest, some_of}
+use Rattle.table.specs.Tests.{◌and◌, ◌or◌, all, any, when◌then◌else◌, lowest, some_of}
 use Rattle.table.specs.declared.Call.TheVariants.{Clone, CloneNew, Unshare, Setns, Kill, Exit, Wait, Getpid, Getppid, Handle, Poll}
 use Rattle.table.specs.declared.Call.{Call}
 use Rattle.table.specs.declared.Refusal.TheVariants.{Unsound, NotRunning}
@@ -156,11 +156,11 @@ pub answers_listed : AnswersListed
 unfolding AnswersListed step rows first refusal_number
 answers_listed t c call g = by_check (sound t) refl
   where
-    by_caller : (h : SoundTable t) (b : Bool) → runs (view t) c ≡ b → told (if b then make t c call else refused t NotRunning) ≡ first ((minus 1001, not b) ∷ later (view t) c call)
+    by_caller : (h : SoundTable t) (b : Bool) → runs (view t) c ≡ b → told (when b then make t c call else refused t NotRunning) ≡ first ((minus 1001, not b) ∷ later (view t) c call)
     by_caller h true r = make_told t c h r call
     by_caller h false r = told_refused t NotRunning
 
-    by_check : (b : Bool) → sound t ≡ b → told (if b then (if runs (view t) c then make t c call else refused t NotRunning) else refused t Unsound) ≡ first ((minus 1000, not b) ∷ (minus 1001, not_running (view t) c) ∷ later (view t) c call)
+    by_check : (b : Bool) → sound t ≡ b → told (when b then (when runs (view t) c then make t c call else refused t NotRunning) else refused t Unsound) ≡ first ((minus 1000, not b) ∷ (minus 1001, not_running (view t) c) ∷ later (view t) c call)
     by_check true e =
         let h : SoundTable t = record { shape = g; rules = e } in
         by_caller h (runs (view t) c) refl ∙ ap (λ b. first ((minus 1001, b) ∷ later (view t) c call)) (sym (caller t h c))

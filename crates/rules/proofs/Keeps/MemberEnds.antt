@@ -18,7 +18,7 @@ use Rattle.table.specs.Slots.{is_ended}
 use Rattle.rules.specs.Read.{View, alive, below, child_of, init, is_init, living, namespace_taken, pid_seen, seen, taken}
 use Rattle.rules.specs.Sound.{kept_end, reaches_root, zero_namespace, zero_process}
 use Rattle.rules.proofs.Laws.Traits.{ended_are_bare, ended_ok}
-use Rattle.table.specs.Tests.{if◌then◌else◌}
+use Rattle.table.specs.Tests.{when◌then◌else◌}
 use Rattle.table.specs.declared.End.{End}
 use Rattle.table.specs.declared.State.TheVariants.{Ended}
 use Rattle.table.specs.Traits.{ended_traits}
@@ -28,11 +28,11 @@ abbrev pub member_gone : View → ℕ → ℕ → End → View
 member_gone v p q e =
     record {
       own = v.own;
-      hold = λ i k. if eqb i p then no_slot else v.hold i k;
-      parent = λ i. if eqb i p then v.parent i else (if child_of v p i then q else v.parent i);
-      state = λ i. if eqb i p then Ended e else v.state i;
-      ended = λ i. if eqb i p then true else v.ended i;
-      traits = λ i. if eqb i p then ended_traits (v.traits i) else v.traits i;
+      hold = λ i k. when eqb i p then no_slot else v.hold i k;
+      parent = λ i. when eqb i p then v.parent i else (when child_of v p i then q else v.parent i);
+      state = λ i. when eqb i p then Ended e else v.state i;
+      ended = λ i. when eqb i p then true else v.ended i;
+      traits = λ i. when eqb i p then ended_traits (v.traits i) else v.traits i;
       pid = v.pid;
       up = v.up;
       level = v.level;
@@ -169,7 +169,7 @@ module _ (v : View) (f : Facts v) (p : ℕ) (e : End) (lives : Lives v p) (no_in
   unfolding taken living namespace_taken below seen pid_seen zero_namespace
   member_facts =
       record {
-        ended_is = λ i. ap (λ (b : Bool). if eqb i p then true else b) (f.ended_is i) ∙ sym (pick is_ended (eqb i p) (Ended e) (v.state i));
+        ended_is = λ i. ap (λ (b : Bool). when eqb i p then true else b) (f.ended_is i) ∙ sym (pick is_ended (eqb i p) (Ended e) (v.state i));
         in_range = f.in_range;
         in_namespace = f.in_namespace;
         root_init = f.root_init;

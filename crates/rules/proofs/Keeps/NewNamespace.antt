@@ -14,7 +14,7 @@ use Rattle.table.specs.Limits.{deepest, namespace_slots}
 use Rattle.rules.specs.Pids.{free_slot}
 use Rattle.rules.specs.Read.{View, below, climb, dead, living, namespace_taken, pid_seen, seen, taken, unborn}
 use Rattle.rules.specs.Sound.{zero_namespace, zero_process}
-use Rattle.table.specs.Tests.{if◌then◌else◌}
+use Rattle.table.specs.Tests.{when◌then◌else◌}
 use Rattle.table.specs.declared.Life.TheVariants.{Unborn}
 
 -- the view with an unborn namespace at j below a
@@ -28,10 +28,10 @@ with_namespace v a j =
       ended = v.ended;
       traits = v.traits;
       pid = v.pid;
-      up = λ m. if eqb m j then a else v.up m;
-      level = λ m. if eqb m j then suc (v.level a) else v.level m;
-      last = λ m. if eqb m j then 0 else v.last m;
-      life = λ m. if eqb m j then Unborn else v.life m;
+      up = λ m. when eqb m j then a else v.up m;
+      level = λ m. when eqb m j then suc (v.level a) else v.level m;
+      last = λ m. when eqb m j then 0 else v.last m;
+      life = λ m. when eqb m j then Unborn else v.life m;
     }
 
 -- a view in which c may have a child in n, or hold it for its children; k is the slot of the next child

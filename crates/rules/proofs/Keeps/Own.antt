@@ -31,7 +31,7 @@ use Rattle.table.specs.Fresh.{empty_namespace}
 use Rattle.table.specs.Limits.{namespace_slots, process_slots, signals}
 use Rattle.table.specs.SignalSets.{lowest_signal}
 use Rattle.table.specs.Slots.{is_unborn, namespace, no_namespace, no_process, pid_at, process, put}
-use Rattle.table.specs.Tests.{◌and◌, if◌then◌else◌}
+use Rattle.table.specs.Tests.{◌and◌, when◌then◌else◌}
 use Rattle.table.specs.declared.Call.TheVariants.{Unshare, Setns, Handle, Poll}
 use Rattle.table.specs.declared.Namespace.{Namespace}
 use Rattle.table.specs.declared.Outcome.{Outcome}
@@ -46,7 +46,7 @@ module _ (t : Table) (h : SoundTable t) (c : ℕ) (lives : Lives (view t) c) whe
   here : Taken (view t) c
   here = lives_taken (view t) c lives
 
-  at : (x : Process) (i : ℕ) → process (put t c x) i ≡ (if eqb i c then x else process t i)
+  at : (x : Process) (i : ℕ) → process (put t c x) i ≡ (when eqb i c then x else process t i)
   at x = stored t.processes c x no_process (omega (arith, process_count t h.shape, (facts t h).in_range c here))
 
   self : (x : Process) → process (put t c x) c ≡ x
@@ -76,7 +76,7 @@ handled : (t : Table) (c : ℕ) (s : ℤ) (on : Bool) → SoundTable t → So (r
 unfolding answers granted refused handle_on handle_off
 handled t c s on h r = made_is (Signals t c) t c (Handle s on) (λ e. as_it_was t c) (λ n q. by_switch on)
   where
-    by_switch : (b : Bool) → OwnSignals t (put t c (if b then handle_on (process t c) (natural s) else handle_off (process t c) (natural s))) c
+    by_switch : (b : Bool) → OwnSignals t (put t c (when b then handle_on (process t c) (natural s) else handle_off (process t c) (natural s))) c
     by_switch true = own_signals t h c (runs_lives t c r) _ refl
     by_switch false = own_signals t h c (runs_lives t c r) _ refl
 
@@ -111,7 +111,7 @@ module _ (t w : Table) (g : So (shaped w)) (f : Facts (view w)) (c n : ℕ) (her
         namespaces = λ m o. by_kept (kept (view w) m) m o (freed_space w g m);
       }
     where
-      by_kept : (b : Bool) (m : ℕ) → (m ≡ n → ⊥) → namespace (freed w) m ≡ (if b then namespace w m else empty_namespace)
+      by_kept : (b : Bool) (m : ℕ) → (m ≡ n → ⊥) → namespace (freed w) m ≡ (when b then namespace w m else empty_namespace)
           → (namespace (freed w) m ≡ namespace t m) ⊎ (namespace (freed w) m ≡ empty_namespace)
       by_kept true m o e = inl (e ∙ spaces m o)
       by_kept false m o e = inr e

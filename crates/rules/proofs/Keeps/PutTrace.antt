@@ -15,7 +15,7 @@ use Rattle.rules.proofs.Laws.Tests.{isnt_so}
 use Rattle.rules.specs.Read.{living, namespace_taken, taken, view}
 use Rattle.table.specs.Limits.{process_slots}
 use Rattle.table.specs.Slots.{is_ended, no_pid, no_process, pid_at, process, put}
-use Rattle.table.specs.Tests.{◌and◌, if◌then◌else◌}
+use Rattle.table.specs.Tests.{◌and◌, when◌then◌else◌}
 use Rattle.table.specs.declared.Process.{Process}
 use Rattle.table.specs.declared.Table.{Table}
 use Rattle.table.specs.Records.{with_parent}
@@ -32,7 +32,7 @@ module _ (k from : ℕ) (P : ℕ → Type 0) (u : Table) (s : Sane u) (j : ℕ) 
   low : j < process_slots
   low = s.facts.in_range j (lives_taken (view u) j l)
 
-  at : (i : ℕ) → process w i ≡ (if eqb i j then x else process u i)
+  at : (i : ℕ) → process w i ≡ (when eqb i j then x else process u i)
   at = stored u.processes j x no_process (omega (arith, process_count u s.shape_of, low))
 
   field : {B : Type 0} (r : Process → B) → r x ≡ r (process u j) → (i : ℕ) → r (process w i) ≡ r (process u i)

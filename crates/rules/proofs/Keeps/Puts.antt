@@ -21,7 +21,7 @@ use Rattle.table.specs.Slots.{is_ended, namespace, no_pid, no_process, pid_at, p
 use Rattle.rules.specs.Read.{view, children}
 use Rattle.rules.specs.Sound.{kept_end, shaped}
 use Rattle.rules.proofs.Laws.Traits.{Fine, none_shaped}
-use Rattle.table.specs.Tests.{if◌then◌else◌}
+use Rattle.table.specs.Tests.{when◌then◌else◌}
 use Rattle.table.specs.declared.Life.TheVariants.{Unborn}
 use Rattle.table.specs.declared.Namespace.{Namespace}
 use Rattle.table.specs.declared.Process.{Process}
@@ -48,7 +48,7 @@ module _ (t : Table) (sane : Sane t) (c : ℕ) (c_lives : Lives (view t) c) (s :
       view_put t sane.shape_of c y low_c
       ∙ (λ j. record {
         own = λ i. pick_same t sane.shape_of c (λ p. p.own.0) y refl i j;
-        hold = λ i k. (pick (λ p. hold_at p k) (eqb i c) y (process t i) ∙ ap (λ z. if eqb i c then z else (view t).hold i k) (turned_holds (process t c) s x m k)) j;
+        hold = λ i k. (pick (λ p. hold_at p k) (eqb i c) y (process t i) ∙ ap (λ z. when eqb i c then z else (view t).hold i k) (turned_holds (process t c) s x m k)) j;
         parent = λ i. pick_same t sane.shape_of c (λ p. p.parent.0) y refl i j;
         state = λ i. pick (λ p. p.state) (eqb i c) y (process t i) j;
         ended = λ i. pick_same t sane.shape_of c (λ p. is_ended p.state) y (runs ∙ sym (isnt_so (not_ended (view t) c c_lives))) i j;
@@ -105,7 +105,7 @@ module _ (t : Table) (sane : Sane t) (d : ℕ) (over : So ((view t).ended d)) wh
         state = λ i. pick (λ p. p.state) (eqb i d) empty_process (process t i) j;
         ended = λ i. pick (λ p. is_ended p.state) (eqb i d) empty_process (process t i) j;
         traits = λ i. pick (λ p. p.traits) (eqb i d) empty_process (process t i) j;
-        pid = λ i l. (pick (λ p. pid_at p l) (eqb i d) empty_process (process t i) ∙ ap (λ z. if eqb i d then z else (view t).pid i l) (ap (λ p. p.0) (get_d_replicate no_pid levels l))) j;
+        pid = λ i l. (pick (λ p. pid_at p l) (eqb i d) empty_process (process t i) ∙ ap (λ z. when eqb i d then z else (view t).pid i l) (ap (λ p. p.0) (get_d_replicate no_pid levels l))) j;
         up = (view t).up;
         level = (view t).level;
         last = (view t).last;

@@ -17,7 +17,7 @@ use Rattle.table.specs.Slots.{is_ended, hold_at}
 use Rattle.rules.specs.Read.{View, below, living, namespace_taken, pid_seen, seen, taken}
 use Rattle.rules.specs.Sound.{reaches_root, zero_namespace, zero_process}
 use Rattle.rules.proofs.Laws.Traits.{none_are_blank}
-use Rattle.table.specs.Tests.{if◌then◌else◌}
+use Rattle.table.specs.Tests.{when◌then◌else◌}
 use Rattle.table.specs.declared.State.TheVariants.{Running}
 use Rattle.table.specs.Traits.{no_traits}
 
@@ -25,13 +25,13 @@ use Rattle.table.specs.Traits.{no_traits}
 abbrev pub without : View → ℕ → View
 without v d =
     record {
-      own = λ i. if eqb i d then 0 else v.own i;
-      hold = λ i k. if eqb i d then hold_at empty_process k else v.hold i k;
-      parent = λ i. if eqb i d then 0 else v.parent i;
-      state = λ i. if eqb i d then Running else v.state i;
-      ended = λ i. if eqb i d then false else v.ended i;
-      traits = λ i. if eqb i d then no_traits else v.traits i;
-      pid = λ i l. if eqb i d then 0 else v.pid i l;
+      own = λ i. when eqb i d then 0 else v.own i;
+      hold = λ i k. when eqb i d then hold_at empty_process k else v.hold i k;
+      parent = λ i. when eqb i d then 0 else v.parent i;
+      state = λ i. when eqb i d then Running else v.state i;
+      ended = λ i. when eqb i d then false else v.ended i;
+      traits = λ i. when eqb i d then no_traits else v.traits i;
+      pid = λ i l. when eqb i d then 0 else v.pid i l;
       up = v.up;
       level = v.level;
       last = v.last;
@@ -93,7 +93,7 @@ module _ (v : View) (f : Facts v) (d : ℕ) (over : So (v.ended d)) where
   unfolding namespace_taken below zero_namespace
   reaped_facts =
       record {
-        ended_is = λ i. ap (λ (b : Bool). if eqb i d then false else b) (f.ended_is i) ∙ sym (pick is_ended (eqb i d) Running (v.state i));
+        ended_is = λ i. ap (λ (b : Bool). when eqb i d then false else b) (f.ended_is i) ∙ sym (pick is_ended (eqb i d) Running (v.state i));
         in_range = λ i t. f.in_range i (stays i t).1;
         in_namespace = f.in_namespace;
         root_init = f.root_init;

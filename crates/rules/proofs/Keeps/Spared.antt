@@ -28,7 +28,7 @@ use Rattle.rules.specs.Step.{runs, step}
 use Rattle.table.specs.Fresh.{empty_namespace}
 use Rattle.table.specs.Limits.{deepest, namespace_slots, process_slots, sigkill}
 use Rattle.table.specs.Slots.{is_unborn, namespace, no_namespace, no_process}
-use Rattle.table.specs.Tests.{◌and◌, ◌or◌, if◌then◌else◌}
+use Rattle.table.specs.Tests.{◌and◌, ◌or◌, when◌then◌else◌}
 use Rattle.table.specs.declared.Action.TheVariants.{Nothing}
 use Rattle.table.specs.declared.Call.TheVariants.{Kill}
 use Rattle.table.specs.declared.Life.TheVariants.{Unborn, Alive, Dead}
@@ -69,18 +69,18 @@ module _ (t : Table) (h : SoundTable t) where
   stays (suc k) n l s =
       held_kept n ((held_in t h).held_by n s) (λ m x o e. stays k m (omega (arith, (f.tree m x o).0.1, ap v.level e)) x)
 
-  unfreed : (n : ℕ) → (if kept v n then namespace t n else empty_namespace) ≡ namespace t n
+  unfreed : (n : ℕ) → (when kept v n then namespace t n else empty_namespace) ≡ namespace t n
   unfolding zero_namespace
   unfreed n = ⊎_elim taken free (yes_or_no (namespace_taken v n))
     where
-      taken : Stands v n → (if kept v n then namespace t n else empty_namespace) ≡ namespace t n
+      taken : Stands v n → (when kept v n then namespace t n else empty_namespace) ≡ namespace t n
       taken s = rw (stays deepest n (omega arith) s)
 
-      either : (b : Bool) (x y : Namespace) → x ≡ y → (if b then x else y) ≡ x
+      either : (b : Bool) (x y : Namespace) → x ≡ y → (when b then x else y) ≡ x
       either true x y e = refl
       either false x y e = sym e
 
-      free : namespace_taken v n ≡ false → (if kept v n then namespace t n else empty_namespace) ≡ namespace t n
+      free : namespace_taken v n ≡ false → (when kept v n then namespace t n else empty_namespace) ≡ namespace t n
       free o =
           let z = f.empty_namespace n (no_so o) in
           let a = left _ _ z in
@@ -98,7 +98,7 @@ module _ (t : Table) (h : SoundTable t) where
 
       same_namespaces : (freed t).namespaces ≡ t.namespaces
       same_namespaces =
-          ext_get_or no_namespace _ _ (length_changed (λ n s. if kept v n then s else empty_namespace) no_namespace namespace_slots t.namespaces)
+          ext_get_or no_namespace _ _ (length_changed (λ n s. when kept v n then s else empty_namespace) no_namespace namespace_slots t.namespaces)
           (λ n l. freed_space t h.shape n ∙ unfreed n)
 
 -- ---- an init and its own signal 9

@@ -14,7 +14,7 @@ use Rattle.rules.proofs.Laws.Tests.{yes_or_no, no_so, isnt_so, left, right, both
 use Rattle.rules.specs.Claims.{parent_after}
 use Rattle.rules.specs.Read.{View, alive, below, climb, init, is_init, living, taken, view}
 use Rattle.table.specs.Slots.{init_of, is_alive, is_ended, is_unborn, no_pid, process}
-use Rattle.table.specs.Tests.{◌and◌, if◌then◌else◌}
+use Rattle.table.specs.Tests.{◌and◌, when◌then◌else◌}
 use Rattle.table.specs.declared.End.TheVariants.{Signaled}
 use Rattle.table.specs.declared.NsSlot.{NsSlot}
 use Rattle.table.specs.declared.Pid.{Pid}
@@ -27,7 +27,7 @@ use Rattle.table.specs.Limits.{no_slot, sigkill}
 
 -- the record of one that has ended, by signal k if not before
 abbrev pub over : ℕ → Process → Process
-over k q = if is_ended q.state then q else as_ended q (Signaled k)
+over k q = when is_ended q.state then q else as_ended q (Signaled k)
 
 -- n fell on the way from t to u: it was alive, and its init has ended
 abbrev pub Fell : Table → Table → ℕ → Type 0
@@ -146,8 +146,8 @@ over_twice : (k : ℕ) (q : Process) (p p' : ℕ) → with_parent (over k (with_
 over_twice k q p p' = go (is_ended q.state) refl
   where
     go : (b : Bool) → is_ended q.state ≡ b
-        → (let y = if b then q else as_ended q (Signaled k) in with_parent (if is_ended y.state then with_parent y p else as_ended (with_parent y p) (Signaled k)) p')
-        ≡ with_parent (if b then q else as_ended q (Signaled k)) p'
+        → (let y = when b then q else as_ended q (Signaled k) in with_parent (when is_ended y.state then with_parent y p else as_ended (with_parent y p) (Signaled k)) p')
+        ≡ with_parent (when b then q else as_ended q (Signaled k)) p'
     go true e = rw e
     go false e = refl
 

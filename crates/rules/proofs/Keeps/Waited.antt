@@ -27,7 +27,7 @@ use Rattle.table.specs.Fresh.{empty_process}
 use Rattle.table.specs.Limits.{process_slots, signals}
 use Rattle.table.specs.SignalSets.{lowest_signal}
 use Rattle.table.specs.Slots.{is_ended, no_process, pid_at, process, put}
-use Rattle.table.specs.Tests.{if◌then◌else◌}
+use Rattle.table.specs.Tests.{when◌then◌else◌}
 use Rattle.table.specs.declared.Call.TheVariants.{Clone, CloneNew, Unshare, Setns, Kill, Exit, Wait, Getpid, Getppid, Handle, Poll}
 use Rattle.table.specs.declared.Call.{Call}
 use Rattle.table.specs.declared.End.{End}
@@ -72,7 +72,7 @@ module _ (t : Table) (c : ℕ) (h : SoundTable t) where
     over : So (v.ended d)
     over = ap is_ended e
 
-    at : (i : ℕ) → process u i ≡ (if eqb i d then empty_process else process t i)
+    at : (i : ℕ) → process u i ≡ (when eqb i d then empty_process else process t i)
     at i =
         freed_leaves (put t d empty_process) (reaped_sane t (sane t h) d over).shape_of i
         ∙ stored t.processes d empty_process no_process (omega (arith, process_count t h.shape, ended_low t h.shape d over)) i

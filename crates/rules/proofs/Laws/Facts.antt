@@ -18,7 +18,7 @@ use Rattle.rules.specs.Read.{View, view, taken, namespace_taken, living, childre
 use Rattle.rules.specs.Sound as S
 use Rattle.rules.specs.Sound.{SoundTable, held, holds, kept_end, reaches_root, shaped, zero_namespace, zero_process}
 use Rattle.rules.proofs.Laws.Traits.{none_are_blank}
-use Rattle.table.specs.Tests.{◌and◌, if◌then◌else◌, one}
+use Rattle.table.specs.Tests.{◌and◌, when◌then◌else◌, one}
 use Rattle.table.specs.declared.Namespace.{Namespace}
 use Rattle.table.specs.declared.Process.{Process}
 use Rattle.table.specs.declared.Table.{Table}
@@ -56,7 +56,7 @@ holds_children v i = for_children v i _ refl
 
 -- the number of the process at i at level l is a number, up to its own level, and 0 beyond
 abbrev pub pid_ok : View → ℕ → ℕ → Type 0
-pid_ok v i l = So (if leb l (v.level (v.own i)) then leb 1 (v.pid i l) and leb (v.pid i l) greatest_pid else eqb (v.pid i l) 0)
+pid_ok v i l = So (when leb l (v.level (v.own i)) then leb 1 (v.pid i l) and leb (v.pid i l) greatest_pid else eqb (v.pid i l) 0)
 
 -- an empty process slot, by its parts
 pub record Zero (v : View) (i : ℕ) : Type 0 where

@@ -15,7 +15,7 @@ use Rattle.rules.proofs.Laws.Tests.{left, right, no_so, both, and_false, true_an
 use Rattle.rules.specs.Calls.{named, targets, others}
 use Rattle.table.specs.Limits.{process_slots}
 use Rattle.rules.specs.Read.{View, find, seen, pid_seen, all_seen}
-use Rattle.table.specs.Tests.{lowest, least, ◌and◌, ◌or◌, if◌then◌else◌}
+use Rattle.table.specs.Tests.{lowest, least, ◌and◌, ◌or◌, when◌then◌else◌}
 
 pub record Lowest (f : ℕ → Bool) (n k r : ℕ) : Type 0 where
   pub from : k ≤ r
@@ -53,7 +53,7 @@ least_cases p f d (suc n) l = go (least p f d n) (least_cases p f d n (omega ari
         at (yes e) = subst P (sym e) k
         at (no o) = h i (omega arith)
 
-    go : (b : ℕ) → Least p f d n b → (c : Bool) → p n ≡ c → Least p f d (suc n) (if p n and (eqb b d or ltb (f n) (f b)) then n else b)
+    go : (b : ℕ) → Least p f d n b → (c : Bool) → p n ≡ c → Least p f d (suc n) (when p n and (eqb b d or ltb (f n) (f b)) then n else b)
     go b r false e = rw (e, and_false (eqb b d or ltb (f n) (f b))) (stay b r)
       where
         stay : (b : ℕ) → Least p f d n b → Least p f d (suc n) b
@@ -61,7 +61,7 @@ least_cases p f d (suc n) l = go (least p f d n) (least_cases p f d n (omega ari
         stay b (inr (q, m, h)) = inr (q, omega arith, extend (λ i. So (p i) → f b ≤ f i) h (λ k. absurd (false≢true (sym e ∙ k))))
     go b r true e = test (eqb b d) refl (ltb (f n) (f b)) refl r
       where
-        test : (x : Bool) → eqb b d ≡ x → (y : Bool) → ltb (f n) (f b) ≡ y → Least p f d n b → Least p f d (suc n) (if p n and (eqb b d or ltb (f n) (f b)) then n else b)
+        test : (x : Bool) → eqb b d ≡ x → (y : Bool) → ltb (f n) (f b) ≡ y → Least p f d n b → Least p f d (suc n) (when p n and (eqb b d or ltb (f n) (f b)) then n else b)
         test true ex y ey (inl (q, h)) = rw (e, ex, true_or (ltb (f n) (f b)), true_and) (inr (e, omega arith, extend (λ i. So (p i) → f n ≤ f i) (λ i m k. absurd (false≢true (sym (h i m) ∙ k))) (λ k. omega arith)))
         test true ex y ey (inr (q, m, h)) = absurd (omega (arith, eqb-true b d ex))
         test false ex y ey (inl (q, h)) = absurd (eqb-false b d ex q)
@@ -110,7 +110,7 @@ unfolding targets others all_seen
 targets_seen v c (negsuc k) x h = (ascending_in _ _ process_slots x (only_in _ x _ h).0).1
 targets_seen v c (pos k) x h = go (eqb (named v c (pos k)) process_slots) refl h
   where
-    go : (b : Bool) → eqb (named v c (pos k)) process_slots ≡ b → In x (if b then [] else named v c (pos k) ∷ []) → Seen v (v.own c) x
+    go : (b : Bool) → eqb (named v c (pos k)) process_slots ≡ b → In x (when b then [] else named v c (pos k) ∷ []) → Seen v (v.own c) x
     go true e m = absurd m
     go false e (inl q) = subst (Seen v (v.own c)) (sym q) (named_seen v c (pos k) (eqb-false _ _ e))
     go false e (inr m) = absurd m

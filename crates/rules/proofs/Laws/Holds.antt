@@ -10,7 +10,7 @@ use Rattle.rules.specs.Read.{View}
 use Rattle.table.specs.Limits.{hold_slots, no_slot}
 use Rattle.table.specs.Records.{as_ended, blank_process, with_children, with_parent, with_state, with_traits}
 use Rattle.table.specs.Slots.{hold_at}
-use Rattle.table.specs.Tests.{if◌then◌else◌}
+use Rattle.table.specs.Tests.{when◌then◌else◌}
 use Rattle.table.specs.declared.End.{End}
 use Rattle.table.specs.declared.Pid.{Pid}
 use Rattle.table.specs.declared.Process.{Process}
@@ -19,7 +19,7 @@ use Rattle.table.specs.declared.Traits.{Traits}
 
 -- these, but m at the index a
 abbrev pub with_hold : (ℕ → ℕ) → ℕ → ℕ → ℕ → ℕ
-with_hold f a m k = if eqb k a then m else f k
+with_hold f a m k = when eqb k a then m else f k
 
 -- the one index of today
 pub only_index : (k : ℕ) → k < hold_slots → k ≡ 0

@@ -15,7 +15,7 @@ use Rattle.rules.specs.Step.{make}
 use Rattle.table.specs.Limits.{signals}
 use Rattle.table.specs.SignalSets.{lowest_signal}
 use Rattle.table.specs.Slots.{process}
-use Rattle.table.specs.Tests.{if◌then◌else◌}
+use Rattle.table.specs.Tests.{when◌then◌else◌}
 use Rattle.table.specs.declared.Call.TheVariants.{Clone, CloneNew, Unshare, Setns, Kill, Exit, Wait, Getpid, Getppid, Handle, Poll}
 use Rattle.table.specs.declared.Call.{Call}
 use Rattle.table.specs.declared.Outcome.{Outcome}
@@ -42,7 +42,7 @@ place Eagain = 9
 
 -- the test b for the refusal e, and f for the others
 abbrev pub given_if : Refusal → Bool → (Refusal → Bool) → Refusal → Bool
-given_if e b f d = if eqb (place d) (place e) then b else f d
+given_if e b f d = when eqb (place d) (place e) then b else f d
 
 abbrev no_more : Refusal → Bool
 no_more d = false

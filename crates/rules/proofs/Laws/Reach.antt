@@ -9,7 +9,7 @@ use borrow.Author.Tests.{eq-eqb, eqb-true}
 use lib.Dec.{eqb}
 use Rattle.rules.specs.Read.{up_by}
 use Rattle.rules.specs.Sound.{reaches_root}
-use Rattle.table.specs.Tests.{if◌then◌else◌}
+use Rattle.table.specs.Tests.{when◌then◌else◌}
 
 -- ---- of n + 1 numbers below n two are equal
 
@@ -61,7 +61,7 @@ up_by_add g (suc a) b i = let e : suc a + b ≡ suc (a + b) = omega arith in ap 
 
 -- the parents, 0 its own
 abbrev stop : (ℕ → ℕ) → ℕ → ℕ
-stop par i = if eqb i 0 then 0 else par i
+stop par i = when eqb i 0 then 0 else par i
 
 stay : (par : ℕ → ℕ) (k : ℕ) → up_by (stop par) k 0 ≡ 0
 unfolding up_by
@@ -73,7 +73,7 @@ unfolding reaches_root up_by
 reaches_is par zero i = refl
 reaches_is par (suc k) i = go (eqb i 0) refl (reaches_is par k (par i))
   where
-    go : (b : Bool) → eqb i 0 ≡ b → reaches_root par k (par i) ≡ eqb (up_by (stop par) k (par i)) 0 → (elim b as (λ x. Bool) [ true ↦ true | false ↦ reaches_root par k (par i) ]) ≡ eqb (up_by (stop par) k (if b then 0 else par i)) 0
+    go : (b : Bool) → eqb i 0 ≡ b → reaches_root par k (par i) ≡ eqb (up_by (stop par) k (par i)) 0 → (elim b as (λ x. Bool) [ true ↦ true | false ↦ reaches_root par k (par i) ]) ≡ eqb (up_by (stop par) k (when b then 0 else par i)) 0
     go true e r = sym (eq-eqb _ 0 (stay par k))
     go false e r = r
 
@@ -81,7 +81,7 @@ module _ (par : ℕ → ℕ) (n : ℕ) (D : ℕ → Type 0) (low : (i : ℕ) →
   closed : (i : ℕ) → D i → D (stop par i)
   closed i d = go (eqb i 0) refl
     where
-      go : (b : Bool) → eqb i 0 ≡ b → D (if b then 0 else par i)
+      go : (b : Bool) → eqb i 0 ≡ b → D (when b then 0 else par i)
       go true e = subst D (eqb-true i 0 e) d
       go false e = next i d (λ z. false≢true (sym e ∙ eq-eqb i 0 z))
 

@@ -7,7 +7,7 @@ use lib.Dec.{eqb}
 use lib.IntN.{pos, negsuc}
 use Rattle.rules.specs.Answers.{Shown, end_of, number_of, refusal_number, shown}
 use Rattle.table.specs.Records.{to_pid}
-use Rattle.table.specs.Tests.{if◌then◌else◌}
+use Rattle.table.specs.Tests.{when◌then◌else◌}
 use Rattle.table.specs.declared.Answer.TheVariants.{Refused, Number, Reaped}
 use Rattle.table.specs.declared.Answer.{Answer}
 use Rattle.table.specs.declared.Refusal.TheVariants.{Unsound, NotRunning, Einval, Enosys, Esrch, Ebusy, Echild, Enospc, Enomem, Eagain}
@@ -16,15 +16,15 @@ use Rattle.table.specs.declared.Refusal.{Refusal}
 -- the refusal whose number is so far below 0
 refusal_at : ℕ → Refusal
 refusal_at k =
-    if eqb k 1000 then Unsound
-    else (if eqb k 1001 then NotRunning
-    else (if eqb k 22 then Einval
-    else (if eqb k 38 then Enosys
-    else (if eqb k 3 then Esrch
-    else (if eqb k 16 then Ebusy
-    else (if eqb k 10 then Echild
-    else (if eqb k 28 then Enospc
-    else (if eqb k 12 then Enomem
+    when eqb k 1000 then Unsound
+    else (when eqb k 1001 then NotRunning
+    else (when eqb k 22 then Einval
+    else (when eqb k 38 then Enosys
+    else (when eqb k 3 then Esrch
+    else (when eqb k 16 then Ebusy
+    else (when eqb k 10 then Echild
+    else (when eqb k 28 then Enospc
+    else (when eqb k 12 then Enomem
     else Eagain))))))))
 
 -- the answer that is shown so

@@ -9,7 +9,7 @@ use mathlib.Core.Path.{◌≡◌, refl, sym, ◌∙◌, ap}
 use borrow.Author.Tests.{eq-eqb, eqb-true, leb-true, ltb-true, le-leb, lt-ltb, ne_eqb}
 use lib.Dec.{eqb, leb, ltb}
 use Rattle.table.specs.Slots.{is_alive, is_dead, is_unborn}
-use Rattle.table.specs.Tests.{◌and◌, ◌implies◌, ◌or◌, agree, all, any, if◌then◌else◌}
+use Rattle.table.specs.Tests.{◌and◌, ◌implies◌, ◌or◌, agree, all, any, when◌then◌else◌}
 use Rattle.table.specs.declared.Life.TheVariants.{Unborn, Alive, Dead}
 use Rattle.table.specs.declared.Life.{Life}
 
@@ -231,7 +231,7 @@ dead_unborn (Alive i) d u = false≢true d
 dead_unborn Dead d u = false≢true u
 
 -- what holds of each of two holds of the one that a test picks
-pub choose : {A : Type 0} (P : A → Type 0) (b : Bool) {x y : A} → (So b → P x) → (b ≡ false → P y) → P (if b then x else y)
+pub choose : {A : Type 0} (P : A → Type 0) (b : Bool) {x y : A} → (So b → P x) → (b ≡ false → P y) → P (when b then x else y)
 choose P true h k = h refl
 choose P false h k = k refl
 
