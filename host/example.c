@@ -2,7 +2,7 @@
  * The ten lines of document 01, once as a script and once call by call on a table that the program keeps. At the top of
  * the repository:
  *
- *     rt staticlib lampfunnel
+ *     tools/build
  *     cc -Wall -Ihost/include host/example.c -Ltarget/staticlib -llampfunnel -o target/example && target/example
  */
 #include "lampfunnel.h"

@@ -35,7 +35,7 @@ fn link_calls(folder: &str) {
 fn link_before(folder: &str, library: &Path) {
     println!("cargo::rerun-if-changed={}", library.display());
     if !library.is_file() {
-        let advice = format!("set {BEFORE} to a folder where `rt staticlib lampfunnel` wrote it, or to nothing");
+        let advice = format!("set {BEFORE} to a folder where `tools/build` wrote it, or to nothing");
         println!("cargo::error=there is no {}: {advice}", library.display());
         return;
     }

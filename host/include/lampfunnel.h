@@ -1,7 +1,7 @@
 /*
  * Lampfunnel: the table of processes and PID namespaces, as Linux has them, for a program that keeps it and makes one
  * call at a time. The functions are written in Rattle and proved (crates/lampfunnel/src/lib.rt states what each
- * answers, for all inputs); the inline ones only name a call. `rt staticlib lampfunnel` writes the library,
+ * answers, for all inputs); the inline ones only name a call. `tools/build` writes the library,
  * target/staticlib/liblampfunnel.a, for x86-64 Linux.
  *
  *     struct lampfunnel_table t = lampfunnel_fresh();             one process, the root init, at slot 0

@@ -1,5 +1,5 @@
 //! Links the proved library. It is looked for in the folder that `LAMPFUNNEL_LIB_DIR` names (a relative path starts at
-//! this package), or else where `rt staticlib` writes it.
+//! this package), or else where `tools/build` writes it.
 
 use std::env;
 use std::path::{absolute, Path, PathBuf};
@@ -14,7 +14,7 @@ fn main() {
     let library = folder.join("liblampfunnel.a");
     println!("cargo::rerun-if-changed={}", library.display());
     if !library.is_file() {
-        let advice = format!("run `rt staticlib lampfunnel`, or set {PLACE} to the folder that has it");
+        let advice = format!("run `tools/build` at the top of the repository, or set {PLACE} to the folder that has it");
         println!("cargo::error=there is no {}: {advice}", library.display());
     }
     println!("cargo::rustc-link-search=native={}", folder.display());

@@ -1,6 +1,6 @@
 //! The recorder and the reference side by side, in one run.
 //!
-//! At the top of the repository `rt check recorder && rt staticlib lampfunnel`, and then in `host/`
+//! At the top of the repository `tools/build`, and then in `host/`
 //!
 //!     cargo run --release --offline -p bench
 //!
@@ -10,7 +10,7 @@
 //! The search is timed beside a function that searches as the library did before. To time that library itself beside
 //! the one of now, and a clone with it, build it from its commit, and name the folder that it is in as this is built:
 //!
-//!     git worktree add ../before COMMIT && (cd ../before && rt staticlib lampfunnel)
+//!     git worktree add ../before COMMIT && (cd ../before && tools/build)
 //!     (cd host && LAMPFUNNEL_BEFORE_DIR=$PWD/../../before/target/staticlib cargo run --release --offline -p bench)
 
 mod before;

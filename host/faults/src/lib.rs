@@ -87,7 +87,7 @@ pub fn giving(bytes: &[u8]) -> PipeReader {
 /// The recorder before its start. By itself it has no input, and what it writes is kept.
 pub struct Recorder(Command);
 
-/// The recorder at RECORDER, or else the one that `rt check recorder` made.
+/// The recorder at RECORDER, or else the one that `tools/build` made.
 pub fn recorder() -> Recorder {
     let made = concat!(env!("CARGO_MANIFEST_DIR"), "/../../target/bin/recorder");
     let program = std::env::var_os("RECORDER").map_or(made.into(), PathBuf::from);

@@ -110,7 +110,7 @@ pub fn start_without(command: &mut Command, descriptor: c_int) {
     first(command, move || _ = unsafe { close(descriptor) });
 }
 
-/// Starts the program with SIGPIPE ignored; the standard library has it end the program otherwise.
+/// Starts the program with SIGPIPE ignored, as it then ignores it itself.
 pub fn ignore_sigpipe(command: &mut Command) {
     // SAFETY: no handler of ours is set.
     first(command, || _ = unsafe { signal(SIGPIPE, SIG_IGN) });

@@ -6,12 +6,10 @@ use faults::{
 };
 use std::fs::OpenOptions;
 use std::io::{pipe, PipeReader, PipeWriter, Read, Write};
-use std::os::unix::process::ExitStatusExt;
-use std::process::{ExitStatus, Stdio};
+use std::process::Stdio;
 use std::thread::sleep;
 use std::time::{Duration, Instant};
 
-const SIGPIPE: i32 = 13;
 const FAILED: &str = "standard output: Input/output error";
 
 fn run(reads: Plan, writes: Plan) -> Ended {
@@ -25,9 +23,9 @@ fn places() -> impl Iterator<Item = (Vec<i64>, usize)> {
     ways_to_read.into_iter().flat_map(|reads| (0..answers(SCRIPT).len()).map(move |n| (reads.clone(), n)))
 }
 
-/// Ended by SIGPIPE, without a word.
-fn ended_by_sigpipe() -> Ended {
-    Ended { status: ExitStatus::from_raw(SIGPIPE), ..answered(b"") }
+/// Ended by a write that nobody reads. (A program of this toolchain ignores SIGPIPE from its start on, so it is told.)
+fn told_of_no_reader() -> Ended {
+    stopped(b"", "standard output: Broken pipe")
 }
 
 /// A non-blocking pipe without room, and how many bytes stand in it.
@@ -201,12 +199,12 @@ fn a_message_that_nobody_takes_changes_nothing() {
 }
 
 #[test]
-fn sigpipe_ends_it_when_the_reader_is_gone() {
-    assert_eq!(recorder().script(SCRIPT).output(unread()).run(), ended_by_sigpipe());
+fn it_says_so_when_the_reader_is_gone() {
+    assert_eq!(recorder().script(SCRIPT).output(unread()).run(), told_of_no_reader());
 }
 
 #[test]
-fn sigpipe_ends_it_when_the_reader_goes() {
+fn it_says_so_when_the_reader_goes() {
     let mut child = recorder().input(Stdio::piped()).start();
     let mut input = child.stdin.take().unwrap();
     let mut output = child.stdout.take().unwrap();
@@ -214,20 +212,20 @@ fn sigpipe_ends_it_when_the_reader_goes() {
     assert_eq!(next_line(&mut output), answers(b"0 getpid\n"));
     stop_reading(output);
     input.write_all(b"0 getpid\n").unwrap();
-    assert_eq!(end(child), ended_by_sigpipe());
+    assert_eq!(end(child), told_of_no_reader());
 }
 
 #[test]
-fn sigpipe_ends_it_when_the_reader_goes_while_it_waits() {
+fn it_says_so_when_the_reader_goes_while_it_waits() {
     let (reader, writer, _) = full_pipe();
     let child = recorder().script(SCRIPT).output(writer).start();
     sleep(Duration::from_millis(20));
     stop_reading(reader);
-    assert_eq!(end(child), ended_by_sigpipe());
+    assert_eq!(end(child), told_of_no_reader());
 }
 
 #[test]
 fn it_says_so_when_the_reader_is_gone_and_sigpipe_is_ignored() {
     let ended = recorder().script(SCRIPT).output(unread()).ignoring_sigpipe().run();
-    assert_eq!(ended, stopped(b"", "standard output: Broken pipe"));
+    assert_eq!(ended, told_of_no_reader());
 }

@@ -34,7 +34,7 @@
 //! between calls, and any table, any caller and any call have an answer. Tables may be used from several threads, each
 //! by one at a time, as the borrow checker has it; a thread should have [`STACK_BYTES`] of stack.
 //!
-//! To build, run `rt staticlib lampfunnel` at the top of the repository first. Where the library stands elsewhere, set
+//! To build, run `tools/build` at the top of the repository first. Where the library stands elsewhere, set
 //! `LAMPFUNNEL_LIB_DIR` to the folder of `liblampfunnel.a`.
 
 #![deny(missing_docs)]
