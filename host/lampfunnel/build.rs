@@ -14,7 +14,8 @@ fn main() {
     let library = folder.join("liblampfunnel.a");
     println!("cargo::rerun-if-changed={}", library.display());
     if !library.is_file() {
-        let advice = format!("run `tools/build` at the top of the repository, or set {PLACE} to the folder that has it");
+        let advice =
+            format!("run `tools/build` at the top of the repository, or set {PLACE} to the folder that has it");
         println!("cargo::error=there is no {}: {advice}", library.display());
     }
     println!("cargo::rustc-link-search=native={}", folder.display());

@@ -1,6 +1,6 @@
 -- What `Called` comes to on tables that can be computed: what is told is the caller's own, what the host holds then is
 -- the table after the call, and a refusal leaves it. By computation.
-use mathlib.Core.Path.{◌≡◌, ap, ◌∙◌}
+use mathlib.Core.Path.{◌≡◌, ap}
 use lib.IntN.{pos}
 use Rattle.lampfunnel.specs.Held.{Called}
 use Rattle.mirror.specs.Mirror.{table_from}

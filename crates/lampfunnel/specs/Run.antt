@@ -1,5 +1,5 @@
 -- What a host is told of a script that it hands in whole, with a buffer for the answers.
-use Rattle.std.specs.Prelude.{ℕ, ◌*◌, true, false, List, ◌++◌, ltb, length, drop}
+use Rattle.std.specs.Prelude.{ℕ, ◌*◌, List, ◌++◌, ltb, length, drop}
 use Rattle.lines.specs.Runs.{run}
 use Rattle.lines.specs.Splitting.{lines}
 use Rattle.script.specs.Sizes.{answer_bytes}

@@ -1,8 +1,7 @@
 -- A caller past the table's end is nobody, whatever its number. So a byte is enough to name a caller.
 use Prim.Native.Nat.{ℕ, ◌<◌, ◌≤◌}
-use mathlib.Core.Bool.{Bool, true, false, not}
-use mathlib.Core.List.{List, map}
-use mathlib.Core.Path.{◌≡◌, refl, sym, ap, ◌∙◌}
+use mathlib.Core.Bool.{false, not}
+use mathlib.Core.Path.{◌≡◌, sym, ap, ◌∙◌}
 use lib.Dec.{eqb, ltb}
 use lib.ListN.{length, get_or-eq_default}
 use native.Mathlib.Decide.{dec_lt}
@@ -15,7 +14,7 @@ use Rattle.rules.specs.Step.{runs, step}
 use Rattle.table.proofs.Chains.{and_false, pick_yes, pick_no}
 use Rattle.table.specs.Limits.{process_slots, no_slot}
 use Rattle.table.specs.Slots.{no_process, pid_at}
-use Rattle.table.specs.Tests.{◌and◌, when◌then◌else◌}
+use Rattle.table.specs.Tests.{when◌then◌else◌}
 use Rattle.table.specs.declared.Call.{Call}
 use Rattle.table.specs.declared.Outcome.{Outcome}
 use Rattle.table.specs.declared.Process.{Process}

@@ -1,6 +1,5 @@
 -- A few calls on what a host holds, one after the other, and bytes that no writer makes. By computation.
 use Prim.Native.Nat.{ℕ}
-use mathlib.Core.Bool.{true, false}
 use mathlib.Core.List.{List, [], ◌∷◌, map}
 use mathlib.Core.Path.{◌≡◌, refl}
 use lib.IntN.{ℤ, pos}
@@ -9,9 +8,8 @@ use Rattle.mirror.specs.Mirror.{process_row, namespace_row, mirror_of, state_fro
 use Rattle.mirror.specs.declared.Mirror.{Mirror}
 use Rattle.mirror.specs.declared.NamespaceRow.{NamespaceRow}
 use Rattle.mirror.specs.declared.ProcessRow.{ProcessRow}
-use Rattle.requests.specs.Requests.{plain_call, asked_by, told_of, no_call}
+use Rattle.requests.specs.Requests.{plain_call, asked_by, told_of}
 use Rattle.requests.specs.declared.Request.{Request}
-use Rattle.requests.specs.declared.Told.{Told}
 use Rattle.rules.proofs.Open.{everything}
 use Rattle.rules.specs.Answers.{minus}
 use Rattle.table.specs.Fresh.{fresh}

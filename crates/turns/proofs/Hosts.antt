@@ -1,8 +1,7 @@
 -- What is claimed of whole lists of requests, proved.
 use Prim.Native.Nat.{ℕ}
-use mathlib.Core.Bool.{true}
 use mathlib.Core.List.{List, [], ◌∷◌}
-use mathlib.Core.Path.{◌≡◌, refl, sym, ap, ap₂, subst, ◌∙◌}
+use mathlib.Core.Path.{◌≡◌, refl, ap, ap₂, ◌∙◌}
 use Rattle.mirror.proofs.RoundTrip.{mirrors_are_read}
 use Rattle.mirror.specs.Mirror.{table_from, mirror_of}
 use Rattle.mirror.specs.declared.Mirror.{Mirror}
@@ -15,9 +14,7 @@ use Rattle.rules.proofs.Promises.{keeps_sound}
 use Rattle.rules.proofs.Refused.{fresh_sound}
 use Rattle.rules.specs.Claims.{KeepsSound}
 use Rattle.rules.specs.Sound.{sound, SoundTable}
-use Rattle.rules.specs.Step.{step}
 use Rattle.table.specs.Fresh.{fresh}
-use Rattle.table.specs.declared.Call.{Call}
 use Rattle.table.specs.declared.Table.{Table}
 use Rattle.turns.proofs.Turns.{turns_step, others_do_nothing}
 use Rattle.turns.specs.Claims.{HostsGoOn, HostsStaySound}

@@ -1,8 +1,7 @@
 -- What the code's steps say of the definitions.
 use Prim.Native.Nat.{ℕ}
 use mathlib.Core.Bool.{Bool, true, false}
-use mathlib.Core.List.{List, map}
-use mathlib.Core.Path.{◌≡◌, refl, sym, ap, ◌∙◌}
+use mathlib.Core.Path.{◌≡◌, sym, ap, ◌∙◌}
 use lib.ListN.{length}
 use Rattle.mirror.specs.Mirror.{table_from, mirror_of}
 use Rattle.mirror.specs.declared.Mirror.{Mirror}
@@ -15,11 +14,9 @@ use Rattle.rules.specs.Answers.{is_refused}
 use Rattle.rules.specs.Step.{step}
 use Rattle.table.proofs.Chains.{pick_yes, pick_no}
 use Rattle.table.specs.Limits.{process_slots}
-use Rattle.table.specs.Tests.{when◌then◌else◌}
 use Rattle.table.specs.declared.Call.{Call}
 use Rattle.table.specs.declared.Outcome.{Outcome}
 use Rattle.table.specs.declared.ProcSlot.{ProcSlot}
-use Rattle.table.specs.declared.Process.{Process}
 use Rattle.table.specs.declared.Table.{Table}
 use Rattle.turns.proofs.Callers.{by_slot}
 use Rattle.turns.specs.Turns.{slot_of, given_back, turned, turn}

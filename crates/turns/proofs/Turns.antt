@@ -1,15 +1,14 @@
 -- What is claimed of a turn, proved.
 use Prim.Native.Nat.{ℕ}
-use mathlib.Core.Bool.{Bool, true, false, true≢false}
+use mathlib.Core.Bool.{false, true≢false}
 use mathlib.Core.Path.{◌≡◌, refl, sym, ap, ◌∙◌}
 use lib.IntN.{ℤ, pos, negsuc}
 use Rattle.mirror.proofs.RoundTrip.{mirrors_are_read, written_is_kept, others_read_as_empty}
-use Rattle.mirror.specs.Mirror.{is_written, empty_table, table_from, mirror_of}
+use Rattle.mirror.specs.Mirror.{is_written, empty_table, table_from}
 use Rattle.mirror.specs.declared.Mirror.{Mirror}
 use Rattle.requests.specs.Requests.{asked_by, told_of}
 use Rattle.requests.specs.declared.Asked.TheVariants.{Nothing, Makes}
 use Rattle.requests.specs.declared.Asked.{Asked}
-use Rattle.requests.specs.declared.Request.{Request}
 use Rattle.requests.specs.declared.Told.{Told}
 use Rattle.rules.proofs.Promises.{refusal_leaves}
 use Rattle.rules.specs.Answers.{refused, refusal_number, is_refused, number_of}
@@ -17,8 +16,7 @@ use Rattle.rules.specs.Claims.{RefusalLeaves}
 use Rattle.rules.proofs.Open.{everything}
 use Rattle.rules.specs.Sound.{sound}
 use Rattle.rules.specs.Step.{step}
-use Rattle.table.proofs.Chains.{by_bool, pick_yes, pick_no}
-use Rattle.table.specs.Tests.{when◌then◌else◌}
+use Rattle.table.proofs.Chains.{by_bool, pick_no}
 use Rattle.table.specs.declared.Call.{Call}
 use Rattle.table.specs.declared.Outcome.{Outcome}
 use Rattle.table.specs.declared.Refusal.TheVariants.{Unsound}

@@ -1,5 +1,4 @@
 -- `line_count` counts the lines that begin.
-use Prim.Native.Nat.{◌-◌}
 use Rattle.lampfunnel.proofs.Counting.{counted_starts, counted_on, counted_new, counted_all}
 use borrow.Author.Rules.{rules}
 use Rattle.lampfunnel.proofs.line_count.Goals as goal
