@@ -2,7 +2,7 @@
 // in specs/, and goes on in the specs/ of `rules` and `sameness`.
 #![tactic(auto)]
 
-ghost use Rattle.std.specs.Prelude.{◌≡◌, not, eqb, get_or};
+ghost use Rattle.std.specs.Prelude.{◌≡◌, not, eqb, get_or, set};
 ghost use Rattle.table.specs.Fresh.{empty_process, empty_namespace, fresh as fresh_table};
 ghost use Rattle.table.specs.Traits.{no_traits, born_traits, ended_traits, with_signals};
 ghost use Rattle.table.specs.Slots.{namespace, pid_at, is_running, is_ended, is_unborn, is_alive, is_dead, init_of, put, put_namespace};
@@ -47,29 +47,29 @@ pub const STATUSES: u16 = 256;
 
 // The slot of a process. NO_SLOT stands for none.
 #[repr(C)]
-#[derive(Clone, Copy)]
+#[derive(Clone, Copy, PartialEq, Eq, PartialOrd, Ord)]
 pub struct ProcSlot(pub u8);
 
 // The slot of a namespace. NO_SLOT stands for none.
 #[repr(C)]
-#[derive(Clone, Copy)]
+#[derive(Clone, Copy, PartialEq, Eq, PartialOrd, Ord)]
 pub struct NsSlot(pub u8);
 
 // A process number, as one namespace sees it. 0 stands for none.
 #[repr(C)]
-#[derive(Clone, Copy)]
+#[derive(Clone, Copy, PartialEq, Eq, PartialOrd, Ord)]
 pub struct Pid(pub u16);
 
 // ---- the table
 
 // How a process ended: the number it gave at its end, or a signal.
-#[derive(Clone, Copy)]
+#[derive(Clone, Copy, PartialEq, Eq)]
 pub enum End {
     Exited(u8),
     Signaled(u8),
 }
 
-#[derive(Clone, Copy)]
+#[derive(Clone, Copy, PartialEq, Eq)]
 pub enum State {
     Running,
     Stopped,
@@ -77,7 +77,7 @@ pub enum State {
 }
 
 // What a process has and no rule of the tree reads: handled and pending signals, bit s for signal s.
-#[derive(Clone, Copy)]
+#[derive(Clone, Copy, PartialEq, Eq)]
 pub struct Traits {
     pub handled: u32,
     pub pending: u32,
@@ -85,7 +85,7 @@ pub struct Traits {
 
 // Own namespace, fixed at birth; children's namespace; parent; state; traits; and one number for each level from the
 // root's to its own.
-#[derive(Clone, Copy)]
+#[derive(Clone, Copy, PartialEq, Eq)]
 pub struct Process {
     pub own: NsSlot,
     pub children: NsSlot,
@@ -96,14 +96,14 @@ pub struct Process {
 }
 
 // The condition of a namespace: no process yet, alive with its init, or its init ended.
-#[derive(Clone, Copy)]
+#[derive(Clone, Copy, PartialEq, Eq)]
 pub enum Life {
     Unborn,
     Alive(ProcSlot),
     Dead,
 }
 
-#[derive(Clone, Copy)]
+#[derive(Clone, Copy, PartialEq, Eq)]
 pub struct Namespace {
     pub parent: NsSlot,
     pub level: u8,
@@ -120,7 +120,7 @@ pub struct Table {
 // ---- calls and answers
 
 // What a signal does to its target: nothing, make it run, stop it, end it, or become pending.
-#[derive(Clone, Copy)]
+#[derive(Clone, Copy, PartialEq, Eq)]
 pub enum Action {
     Nothing,
     Resume,
@@ -146,7 +146,7 @@ pub enum Call {
 }
 
 // Why a call was refused, in the order in which the reasons are tried. `rules`' specs/Answers.antt gives their numbers.
-#[derive(Clone, Copy)]
+#[derive(Clone, Copy, PartialEq, Eq)]
 pub enum Refusal {
     Unsound,
     NotRunning,
@@ -283,90 +283,82 @@ pub fn fresh() -> Table
     }
 }
 
+// ---- an array by a slot
+
+// What an array has at a slot, and `past` past its end.
+pub fn at<T: Copy, const N: usize>(items: &[T; N], slot: u8, past: T) -> T
+    ensures { result ≡ get_or items.now slot past }
+{
+    match items.get(slot as usize) {
+        Some(item) => *item,
+        None => past,
+    }
+}
+
+// Puts an item at a slot. Past an array's end there is nowhere to put it.
+pub fn set_at<T: Copy, const N: usize>(items: &mut [T; N], slot: u8, item: T)
+    ensures { items.new ≡ set items.old slot item }
+{
+    let i = slot as usize;
+    if i < N {
+        items[i] = item;
+    }
+}
+
 // ---- reading a record
 
 impl Process {
     // Whether the slot holds a process: each has a number at the root's level.
-    pub fn is_taken(self) -> bool
-        ensures { result ≡ not (eqb (pid_at self 0) 0) }
+    pub fn is_taken(&self) -> bool
+        ensures { result ≡ not (eqb (pid_at self.now 0) 0) }
     {
-        self.pids[0].0 != 0
+        self.pids[0] != Pid(0)
     }
 
-    pub fn has_ended(self) -> bool
-        ensures { result ≡ is_ended self.state }
+    pub fn has_ended(&self) -> bool
+        ensures { result ≡ is_ended self.now.state }
     {
-        let state = self.state;
-        match state {
-            State::Running => false,
-            State::Stopped => false, // it can be resumed
-            State::Ended(_) => true,
-        }
+        matches!(self.state, State::Ended(_)) // a stopped one can be resumed
     }
 
-    pub fn is_running(self) -> bool
-        ensures { result ≡ is_running self.state }
+    pub fn is_running(&self) -> bool
+        ensures { result ≡ is_running self.now.state }
     {
-        let state = self.state;
-        match state {
-            State::Running => true,
-            State::Stopped => false, // it waits for signal 18
-            State::Ended(_) => false,
-        }
+        matches!(self.state, State::Running) // a stopped one waits for signal 18
     }
 
     // The number at a level, and none past the deepest.
-    pub fn pid_at(self, level: u8) -> Pid
-        ensures { result.0 ≡ pid_at self level }
+    pub fn pid_at(&self, level: u8) -> Pid
+        ensures { result.0 ≡ pid_at self.now level }
     {
-        let l = level as usize;
-        if l < LEVELS {
-            return self.pids[l];
-        }
-        Pid(0)
+        at(&self.pids, level, Pid(0))
     }
 }
 
 impl Namespace {
-    pub fn is_unborn(self) -> bool
-        ensures { result ≡ is_unborn self.life }
+    pub fn is_unborn(&self) -> bool
+        ensures { result ≡ is_unborn self.now.life }
     {
-        let life = self.life;
-        match life {
-            Life::Unborn => true,
-            Life::Alive(_) => false, // it has an init
-            Life::Dead => false, // it has had one
-        }
+        matches!(self.life, Life::Unborn)
     }
 
-    pub fn is_alive(self) -> bool
-        ensures { result ≡ is_alive self.life }
+    pub fn is_alive(&self) -> bool
+        ensures { result ≡ is_alive self.now.life }
     {
-        let life = self.life;
-        match life {
-            Life::Unborn => false, // it has no init yet
-            Life::Alive(_) => true,
-            Life::Dead => false, // its init has ended
-        }
+        matches!(self.life, Life::Alive(_))
     }
 
-    pub fn is_dead(self) -> bool
-        ensures { result ≡ is_dead self.life }
+    pub fn is_dead(&self) -> bool
+        ensures { result ≡ is_dead self.now.life }
     {
-        let life = self.life;
-        match life {
-            Life::Unborn => false, // a birth may still come
-            Life::Alive(_) => false, // its init is living
-            Life::Dead => true,
-        }
+        matches!(self.life, Life::Dead)
     }
 
     // The init of a living namespace, or none.
-    pub fn init(self) -> ProcSlot
-        ensures { result.0 ≡ init_of self.life }
+    pub fn init(&self) -> ProcSlot
+        ensures { result.0 ≡ init_of self.now.life }
     {
-        let life = self.life;
-        match life {
+        match self.life {
             Life::Unborn => ProcSlot(NO_SLOT),
             Life::Alive(slot) => slot,
             Life::Dead => ProcSlot(NO_SLOT),
@@ -374,39 +366,28 @@ impl Namespace {
     }
 }
 
-// ---- a table by its slots; each of these copies the table, so none is for a loop over slots
+// ---- a table by its slots
 
 impl Table {
     // The process at a slot. What lies past the last slot reads as empty.
-    pub fn process(self, slot: ProcSlot) -> Process
-        ensures { result ≡ get_or self.processes slot.0 empty_process }
+    pub fn process(&self, slot: ProcSlot) -> Process
+        ensures { result ≡ get_or self.now.processes slot.0 empty_process }
     {
-        let i = slot.0 as usize;
-        if i >= PROCESS_SLOTS {
-            return empty_process();
-        }
-        self.processes[i]
+        at(&self.processes, slot.0, empty_process())
     }
 
     // The namespace at a slot. What lies past the last slot reads as empty.
-    pub fn namespace(self, slot: NsSlot) -> Namespace
-        ensures { result ≡ namespace self slot.0 }
+    pub fn namespace(&self, slot: NsSlot) -> Namespace
+        ensures { result ≡ namespace self.now slot.0 }
     {
-        let i = slot.0 as usize;
-        if i >= NAMESPACE_SLOTS {
-            return empty_namespace();
-        }
-        self.namespaces[i]
+        at(&self.namespaces, slot.0, empty_namespace())
     }
 
     // The table with a process put at a slot. Past the last slot there is nowhere to put it.
     pub fn with_process(mut self, slot: ProcSlot, p: Process) -> Table
         ensures { result ≡ put self slot.0 p }
     {
-        let at = slot.0 as usize;
-        if at < PROCESS_SLOTS {
-            self.processes[at] = p;
-        }
+        set_at(&mut self.processes, slot.0, p);
         self
     }
 
@@ -414,10 +395,7 @@ impl Table {
     pub fn with_namespace(mut self, slot: NsSlot, n: Namespace) -> Table
         ensures { result ≡ put_namespace self slot.0 n }
     {
-        let at = slot.0 as usize;
-        if at < NAMESPACE_SLOTS {
-            self.namespaces[at] = n;
-        }
+        set_at(&mut self.namespaces, slot.0, n);
         self
     }
 }
