@@ -4,6 +4,7 @@ pub mod AllLoops
 pub mod AnyLoops
 pub mod FirstLoops
 pub mod SeekLoops
+pub mod IterLaws
 pub mod FoldLoops
 pub mod MapLoops
 pub mod MarkLoops
