@@ -1,11 +1,13 @@
 -- The definitions of `rules` read a view, that is a table by its slots. The code takes a table's parents and levels out
 -- once, as small arrays, and one process at a time: these say the same of such arrays and of a process.
-use Rattle.std.specs.Prelude.{ℕ, Bool, true, not, List, eqb, get_or, set}
+use Rattle.std.specs.Prelude.{ℕ, Bool, true, not, List, Option, Some, None, eqb, get_or, set}
+use Rattle.table.specs.Limits.{process_slots, namespace_slots}
 use Rattle.table.specs.Slots.{no_namespace, pid_at, is_unborn}
 use Rattle.rules.specs.Read.{climb}
 use Rattle.table.specs.Tests.{◌and◌, ◌or◌, when◌then◌else◌}
 use Rattle.table.specs.declared.Namespace.{Namespace}
 use Rattle.table.specs.declared.NsSlot.{NsSlot}
+use Rattle.table.specs.declared.ProcSlot.{ProcSlot}
 use Rattle.table.specs.declared.Process.{Process}
 
 -- ---- the parents and the levels of namespaces, as functions of the slot: in the table, and in an array
@@ -47,3 +49,13 @@ is_blank_namespace s = eqb s.parent.0 0 and eqb s.level 0 and eqb s.last.0 0 and
 -- marks of namespaces with those of one process, if it is there: its own, and the one for its children
 abbrev pub mark_process : List Bool → Process → List Bool
 mark_process m p = when not (eqb (pid_at p 0) 0) then set (set m p.own.0 true) p.children.0 true else m
+
+-- ---- what a search for a slot gives, as the definitions number it: where there is none, the first past the last
+
+abbrev pub process_found : Option ProcSlot → ℕ
+process_found None = process_slots
+process_found (Some s) = s.0
+
+abbrev pub namespace_found : Option NsSlot → ℕ
+namespace_found None = namespace_slots
+namespace_found (Some s) = s.0

@@ -1,253 +1,176 @@
 // The tree of namespaces: what lies below what, who is seen from where and under which number, the lowest free slots,
 // and marks of namespaces. A pass over the table takes the table once; what it does at each slot takes one process, and
 // the parents and levels of the namespaces as small arrays.
-#![tactic(auto)]
+#![tactic(auto, using(table::proofs::Chains::chains))]
 
-ghost use Rattle.std.specs.Prelude.{true, ◌≡◌, set};
+ghost use Rattle.std.specs.Prelude.{true, ◌≡◌, ◌<◌, set, IfSome, unwrap_or};
 ghost use Rattle.rules.specs.Read.{view, climb, find as find_in};
 ghost use Rattle.rules.specs.Pids.{free_slot, free_namespace_slot};
-ghost use Rattle.tree.specs.Tree.{ups_of, levels_of, slot_in, level_in, seen_from, pid_from, named_from, holds_namespace, is_blank_namespace, mark_process};
+ghost use Rattle.table.specs.Limits.{process_slots, namespace_slots};
+ghost use Rattle.tree.specs.Tree.{ups_of, levels_of, slot_in, level_in, seen_from, pid_from, named_from, holds_namespace, is_blank_namespace, mark_process, process_found, namespace_found};
 
-use table::{NAMESPACE_SLOTS, Namespace, NsSlot, PROCESS_SLOTS, Pid, ProcSlot, Process, Table};
+use table::{
+    NAMESPACE_SLOTS, Namespace, NsSlot, PROCESS_SLOTS, Pid, ProcSlot, Process, Table, at, set_at,
+};
 
-// ---- no slot
+// ---- the tree
 
-// What a search for a slot gives where no slot is the one: the first past the last, which reads as empty. A field that
-// holds no slot has NO_SLOT, which is 255.
-pub const NO_PROCESS: u8 = PROCESS_SLOTS as u8;
-
-pub const NO_NAMESPACE: u8 = NAMESPACE_SLOTS as u8;
-
-// ---- the parents and the levels of all namespaces
-
-pub fn ups(namespaces: [Namespace; NAMESPACE_SLOTS]) -> [NsSlot; NAMESPACE_SLOTS]
-    ensures { slot_in result ≡ ups_of namespaces }
-{
-    let mut up = [NsSlot(0); NAMESPACE_SLOTS];
-    let mut child: usize = 0;
-    while child < NAMESPACE_SLOTS {
-        let n = namespaces[child];
-        let parent = n.parent;
-        up[child] = parent;
-        child += 1;
-    }
-    up
+// The parents and the levels of all namespaces: all that a climb reads.
+#[derive(Clone, Copy)]
+pub struct Tree {
+    pub parents: [NsSlot; NAMESPACE_SLOTS],
+    pub levels: [u8; NAMESPACE_SLOTS],
 }
 
-// The parents once more, as plain numbers: such a column can be lent, and then no call copies it.
-pub fn parents(namespaces: [Namespace; NAMESPACE_SLOTS]) -> [u8; NAMESPACE_SLOTS]
-    ensures { level_in result ≡ ups_of namespaces }
-{
-    let mut column = [0u8; NAMESPACE_SLOTS];
-    let mut k: usize = 0;
-    while k < NAMESPACE_SLOTS {
-        let s = namespaces[k];
-        column[k] = s.parent.0;
-        k += 1;
-    }
-    column
-}
-
-pub fn levels(namespaces: [Namespace; NAMESPACE_SLOTS]) -> [u8; NAMESPACE_SLOTS]
-    ensures { level_in result ≡ levels_of namespaces }
-{
-    let mut levels = [0u8; NAMESPACE_SLOTS];
-    let mut n: usize = 0;
-    while n < NAMESPACE_SLOTS {
-        let s = namespaces[n];
-        levels[n] = s.level;
-        n += 1;
-    }
-    levels
-}
-
-// The parent of a namespace; past the last slot 0, as in an empty one.
-pub fn parent_of(up: [NsSlot; NAMESPACE_SLOTS], n: NsSlot) -> NsSlot
-    ensures { result.0 ≡ slot_in up n.0 }
-{
-    let i = n.0 as usize;
-    if i < NAMESPACE_SLOTS {
-        return up[i];
-    }
-    NsSlot(0)
-}
-
-// The level of a namespace; past the last slot 0, as in an empty one.
-pub fn level_of(levels: [u8; NAMESPACE_SLOTS], n: NsSlot) -> u8
-    ensures { result ≡ level_in levels n.0 }
-{
-    let at = n.0 as usize;
-    if at < NAMESPACE_SLOTS {
-        return levels[at];
-    }
-    0
-}
-
-// ---- below
-
-// Whether the climb from a, which has this level, to its parent and so on comes to b. It takes at most as
-// many steps as the level: in a sound table that many come to the root.
-pub fn below(up: [NsSlot; NAMESPACE_SLOTS], a: NsSlot, b: NsSlot, level: u8) -> bool
-    ensures { result ≡ climb (slot_in up) level a.0 b.0 }
-{
-    if a.0 == b.0 {
-        return true;
-    }
-    if level == 0 {
-        return false;
-    }
-    let parent = parent_of(up, a);
-    below(up, parent, b, level - 1)
-}
-
-// ---- who is seen
-
-// Whether a process is in the subtree of n, ended or not.
-pub fn seen(
-    up: [NsSlot; NAMESPACE_SLOTS],
-    levels: [u8; NAMESPACE_SLOTS],
-    n: NsSlot,
-    p: Process,
-) -> bool
-    ensures { result ≡ seen_from (slot_in up) (level_in levels) n.0 p }
-{
-    if p.is_taken() {
-        let own = p.own;
-        return below(up, own, n, level_of(levels, own));
-    }
-    false
-}
-
-// The number of a process in n, or none where it is not seen.
-pub fn pid_in(
-    up: [NsSlot; NAMESPACE_SLOTS],
-    levels: [u8; NAMESPACE_SLOTS],
-    n: NsSlot,
-    p: Process,
-) -> Pid
-    ensures { result.0 ≡ pid_from (slot_in up) (level_in levels) n.0 p }
-{
-    if !seen(up, levels, n, p) {
-        return Pid(0);
-    }
-    p.pid_at(level_of(levels, n))
-}
-
-// Whether a process is seen from n and has a number at a level. The number is compared first: few processes have it,
-// and a climb takes longer.
-pub fn is_named(
-    up: [NsSlot; NAMESPACE_SLOTS],
-    levels: [u8; NAMESPACE_SLOTS],
-    n: NsSlot,
-    level: u8,
-    pid: Pid,
-    p: Process,
-) -> bool
-    ensures { result ≡ named_from (slot_in up) (level_in levels) n.0 level pid.0 p }
-{
-    let number = p.pid_at(level);
-    if number.0 != pid.0 {
-        return false;
-    }
-    seen(up, levels, n, p)
-}
-
-// The slot of the process whose number in n is pid, or NO_PROCESS.
-pub fn find(t: Table, n: NsSlot, pid: Pid) -> ProcSlot
-    ensures { result.0 ≡ find_in (view t) n.0 pid.0 }
-{
-    let namespaces = t.namespaces;
-    let up = ups(namespaces);
-    let levels = levels(namespaces);
-    let level = level_of(levels, n);
-    let mut i: usize = 0;
-    while i < PROCESS_SLOTS {
-        let p = t.processes[i];
-        if is_named(up, levels, n, level, pid, p) {
-            return ProcSlot(i as u8);
+impl Tree {
+    // That of a table with these namespaces.
+    pub fn of(namespaces: &[Namespace; NAMESPACE_SLOTS]) -> Tree
+        ensures parents { slot_in result.parents ≡ ups_of namespaces.now }
+        ensures levels { level_in result.levels ≡ levels_of namespaces.now }
+    {
+        let mut parents = [NsSlot(0); NAMESPACE_SLOTS];
+        let mut levels = [0; NAMESPACE_SLOTS];
+        for (i, n) in namespaces.iter().enumerate() {
+            parents[i] = n.parent;
+            levels[i] = n.level;
         }
-        i += 1;
+        Tree { parents, levels }
     }
-    ProcSlot(NO_PROCESS)
+
+    // The parent of a namespace; past the last slot 0, as in an empty one.
+    pub fn parent(&self, n: NsSlot) -> NsSlot
+        ensures { result.0 ≡ slot_in self.now.parents n.0 }
+    {
+        at(&self.parents, n.0, NsSlot(0))
+    }
+
+    // The level of a namespace; past the last slot 0, as in an empty one.
+    pub fn level(&self, n: NsSlot) -> u8
+        ensures { result ≡ level_in self.now.levels n.0 }
+    {
+        at(&self.levels, n.0, 0)
+    }
+
+    // ---- below
+
+    // Whether the climb from a to its parent and so on comes to b, in so many steps at most. As many as a's level are
+    // enough: in a sound table that many come to the root.
+    pub fn below(&self, a: NsSlot, b: NsSlot, steps: u8) -> bool
+        ensures { result ≡ climb (slot_in self.now.parents) steps a.0 b.0 }
+    {
+        if a == b {
+            return true;
+        }
+        if steps == 0 {
+            return false;
+        }
+        self.below(self.parent(a), b, steps - 1)
+    }
+
+    // ---- who is seen
+
+    // Whether a process is in the subtree of n, ended or not.
+    pub fn sees(&self, n: NsSlot, p: &Process) -> bool
+        ensures { result ≡ seen_from (slot_in self.now.parents) (level_in self.now.levels) n.0 p.now }
+    {
+        p.is_taken() && self.below(p.own, n, self.level(p.own))
+    }
+
+    // The number of a process in n, or none where it is not seen.
+    pub fn pid_in(&self, n: NsSlot, p: &Process) -> Pid
+        ensures { result.0 ≡ pid_from (slot_in self.now.parents) (level_in self.now.levels) n.0 p.now }
+    {
+        if !self.sees(n, p) {
+            return Pid(0);
+        }
+        p.pid_at(self.level(n))
+    }
+
+    // Whether a process is seen from n and has a number at a level. The number is compared first: few processes have
+    // it, and a climb takes longer.
+    pub fn names(&self, n: NsSlot, level: u8, pid: Pid, p: &Process) -> bool
+        ensures { result ≡ named_from (slot_in self.now.parents) (level_in self.now.levels) n.0 level pid.0 p.now }
+    {
+        p.pid_at(level) == pid && self.sees(n, p)
+    }
+}
+
+// ---- what a search for a slot gives: it, or none
+
+// The process whose number in n is pid.
+pub fn find(t: &Table, n: NsSlot, pid: Pid) -> Option<ProcSlot>
+    ensures slot { process_found result ≡ find_in (view t.now) n.0 pid.0 }
+    ensures within { IfSome result (λ s. s.0 < process_slots) }
+{
+    let tree = Tree::of(&t.namespaces);
+    let level = tree.level(n);
+    process_at(
+        t.processes
+            .iter()
+            .position(|p| tree.names(n, level, pid, p)),
+    )
+}
+
+// A place among the processes as a slot.
+fn process_at(place: Option<usize>) -> Option<ProcSlot>
+    requires { IfSome place (λ i. i < process_slots) }
+    ensures slot { process_found result ≡ unwrap_or place process_slots }
+    ensures within { IfSome result (λ s. s.0 < process_slots) }
+{
+    match place {
+        Some(i) => Some(ProcSlot(i as u8)),
+        None => None,
+    }
 }
 
 // ---- free slots
 
-// The lowest free process slot, or NO_PROCESS.
-pub fn free_slot(t: Table) -> ProcSlot
-    ensures { result.0 ≡ free_slot (view t) }
+// The lowest free process slot.
+pub fn free_slot(t: &Table) -> Option<ProcSlot>
+    ensures slot { process_found result ≡ free_slot (view t.now) }
+    ensures within { IfSome result (λ s. s.0 < process_slots) }
 {
-    let mut slot: usize = 0;
-    while slot < PROCESS_SLOTS {
-        let p = t.processes[slot];
-        if !p.is_taken() {
-            return ProcSlot(slot as u8);
-        }
-        slot += 1;
-    }
-    ProcSlot(NO_PROCESS)
+    process_at(t.processes.iter().position(|p| !p.is_taken()))
 }
 
 // Whether a slot with this record holds a namespace: it is the root's, or its level is not 0.
-pub fn holds_namespace(slot: NsSlot, n: Namespace) -> bool
-    ensures { result ≡ holds_namespace slot.0 n }
+pub fn holds_namespace(slot: NsSlot, n: &Namespace) -> bool
+    ensures { result ≡ holds_namespace slot.0 n.now }
 {
-    if slot.0 == 0 {
-        return true;
-    }
-    n.level != 0
+    slot.0 == 0 || n.level != 0
 }
 
 // Whether nothing stands at a namespace slot with this record: all zero, and unborn.
-pub fn is_blank_namespace(s: Namespace) -> bool
-    ensures { result ≡ is_blank_namespace s }
+#[tactic(auto, using(table::proofs::Chains::chains), unfolding(crate::specs::Tree::is_blank_namespace))]
+pub fn is_blank_namespace(s: &Namespace) -> bool
+    ensures { result ≡ is_blank_namespace s.now }
 {
-    if s.parent.0 != 0 {
-        return false;
-    }
-    if s.level != 0 {
-        return false;
-    }
-    if s.last.0 != 0 {
-        return false;
-    }
-    s.is_unborn()
+    s.parent.0 == 0 && s.level == 0 && s.last.0 == 0 && s.is_unborn()
 }
 
-// The lowest free namespace slot, or NO_NAMESPACE.
-pub fn free_namespace_slot(t: Table) -> NsSlot
-    ensures { result.0 ≡ free_namespace_slot (view t) }
+// The lowest free namespace slot.
+pub fn free_namespace_slot(t: &Table) -> Option<NsSlot>
+    ensures slot { namespace_found result ≡ free_namespace_slot (view t.now) }
+    ensures within { IfSome result (λ s. s.0 < namespace_slots) }
 {
-    let mut slot: usize = 0;
-    while slot < NAMESPACE_SLOTS {
-        let n = t.namespaces[slot];
-        if !holds_namespace(NsSlot(slot as u8), n) {
-            return NsSlot(slot as u8);
+    for (i, n) in t.namespaces.iter().enumerate() {
+        let slot = NsSlot(i as u8);
+        if !holds_namespace(slot, n) {
+            return Some(slot);
         }
-        slot += 1;
     }
-    NsSlot(NO_NAMESPACE)
+    None
 }
 
 // ---- marks of namespaces
 
-// One mark more. Past the last slot there is none to put.
-pub fn mark(mut marks: [bool; NAMESPACE_SLOTS], n: NsSlot) -> [bool; NAMESPACE_SLOTS]
-    ensures { result ≡ set marks n.0 true }
+// The marks with those of a process: ended or not, it holds its own namespace and that for its children. Past the last
+// slot there is none to put.
+pub fn mark_process(marks: &mut [bool; NAMESPACE_SLOTS], p: &Process)
+    ensures { marks.new ≡ mark_process marks.old p.now }
 {
-    let slot = n.0 as usize;
-    if slot < NAMESPACE_SLOTS {
-        marks[slot] = true;
+    if p.is_taken() {
+        set_at(marks, p.own.0, true);
+        set_at(marks, p.children.0, true);
     }
-    marks
-}
-
-// The marks with those of a process: ended or not, it holds its own namespace and that for its children.
-pub fn mark_process(marks: [bool; NAMESPACE_SLOTS], p: Process) -> [bool; NAMESPACE_SLOTS]
-    ensures { result ≡ mark_process marks p }
-{
-    if !p.is_taken() {
-        return marks;
-    }
-    mark(mark(marks, p.own), p.children)
 }

@@ -5,17 +5,17 @@ use Rattle.rules.specs.Pids.{free_namespace_slot}
 use Rattle.rules.specs.Read.{namespace_taken}
 use Rattle.tree.proofs.free_namespace_slot.Goals as goal
 
-pub loop-slot-init : goal.loop-slot-init
-loop-slot-init c = search first_loops_by
+pub loop-i-init : goal.loop-i-init
+loop-i-init c = search first_loops_by
 
-pub returns-then-not-holds_namespace : goal.returns-then-not-holds_namespace
+pub returns-then-not-holds_namespace-clause-slot : goal.returns-then-not-holds_namespace-clause-slot
 unfolding namespace_taken free_namespace_slot
-returns-then-not-holds_namespace c = search (first_loops_by, chains)
+returns-then-not-holds_namespace-clause-slot c = search (first_loops_by, chains)
 
-pub loop-slot-preserved : goal.loop-slot-preserved
+pub loop-i-preserved : goal.loop-i-preserved
 unfolding namespace_taken
-loop-slot-preserved c = search (first_loops_by, chains)
+loop-i-preserved c = search (first_loops_by, chains)
 
-pub returns : goal.returns
+pub returns-clause-slot : goal.returns-clause-slot
 unfolding free_namespace_slot
-returns c = search first_loops_by
+returns-clause-slot c = search first_loops_by
