@@ -104,11 +104,8 @@ pub fn find(t: &Table, n: NsSlot, pid: Pid) -> Option<ProcSlot>
 {
     let tree = Tree::of(&t.namespaces);
     let level = tree.level(n);
-    process_at(
-        t.processes
-            .iter()
-            .position(|p| tree.names(n, level, pid, p)),
-    )
+    let has_it = |p: &Process| tree.names(n, level, pid, p);
+    process_at(t.processes.iter().position(has_it))
 }
 
 // A place among the processes as a slot.
@@ -117,10 +114,8 @@ fn process_at(place: Option<usize>) -> Option<ProcSlot>
     ensures slot { process_found result ≡ unwrap_or place process_slots }
     ensures within { IfSome result (λ s. s.0 < process_slots) }
 {
-    match place {
-        Some(i) => Some(ProcSlot(i as u8)),
-        None => None,
-    }
+    let i = place?;
+    Some(ProcSlot(i as u8))
 }
 
 // ---- free slots

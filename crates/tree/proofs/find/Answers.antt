@@ -1,7 +1,6 @@
 -- `find` gives the slot of the process with a number, by the law of a chain that ends in `position`.
-use Prim.Native.Nat.{ℕ}
 use mathlib.Core.Bool.{Bool, true, false}
-use mathlib.Core.Path.{◌≡◌, refl, sym, ◌∙◌}
+use mathlib.Core.Path.{◌≡◌, ◌∙◌}
 use borrow.Author.Rules.{rules}
 use borrow.Author.Tests.{tests}
 use Rattle.std.proofs.lemmas.Iterator.{IsFirst-from_position, YieldsList-from_slice}
@@ -9,7 +8,7 @@ use Rattle.table.proofs.IterLaws.{first_of_chain}
 use Rattle.table.specs.Limits.{process_slots}
 use Rattle.table.specs.Slots.{no_process, process}
 use Rattle.table.specs.declared.Process.{Process}
-use Rattle.rules.specs.Read.{view, find, seen, pid_seen}
+use Rattle.rules.specs.Read.{view, find}
 use Rattle.tree.proofs.Sights.{named_read, itself}
 use Rattle.tree.specs.Tree.{named_from, slot_in, level_in}
 use Rattle.tree.proofs.find.Goals as goal

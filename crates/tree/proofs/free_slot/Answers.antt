@@ -1,5 +1,4 @@
 -- `free_slot` gives the lowest free process slot, by the law of a chain that ends in `position`.
-use Prim.Native.Nat.{ℕ}
 use mathlib.Core.Bool.{true, false, not}
 use mathlib.Core.Path.{◌≡◌, refl, ◌∙◌}
 use borrow.Author.Rules.{rules}
