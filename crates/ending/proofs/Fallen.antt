@@ -1,6 +1,6 @@
 -- The end of a process as the code brings it about is the end of the definitions, in a table of which the facts hold.
 use Prim.Native.Nat.{ℕ, ◌<◌}
-use mathlib.Core.Bool.{Bool, false, not, So}
+use mathlib.Core.Bool.{Bool, true, false, not, So}
 use mathlib.Core.Logic.{⊎_elim}
 use mathlib.Core.Path.{◌≡◌, refl, sym, ap, ap₂, subst, fun_ext, ◌∙◌}
 use native.Mathlib.Decide.{ℕ_discrete, dec_lt}
@@ -212,18 +212,18 @@ module _ (t : Table) (p : ℕ) (q : Process) (s : Namespace) (k : ℕ) (e : End)
   its_init : k ≡ init (view t) ((view t).own p)
   its_init = has ∙ ap (λ x. init_of x.life) own ∙ ap (λ a. init_of (namespace t a).life) (read_at t p q at).own
 
-  pub end_of_init : length t.processes ≡ process_slots → length t.namespaces ≡ namespace_slots → k ≡ p → r ≡ end_init t p e → Ends t p e r
+  pub end_of_init : length t.processes ≡ process_slots → length t.namespaces ≡ namespace_slots → eqb k p ≡ true → r ≡ end_init t p e → Ends t p e r
   unfolding is_init end_process
   end_of_init count namespace_count c d =
       record {
-        always = d ∙ sym (pick_yes (eqb _ p) (end_init t p e) _ (eq-eqb _ p (sym found ∙ c)));
-        as_defined = λ f lives. d ∙ init_end_is t count namespace_count f p e lives (eq-eqb _ p (sym its_init ∙ c));
+        always = d ∙ sym (pick_yes (eqb _ p) (end_init t p e) _ (ap (λ m. eqb m p) (sym found) ∙ c));
+        as_defined = λ f lives. d ∙ init_end_is t count namespace_count f p e lives (ap (λ m. eqb m p) (sym its_init) ∙ c);
       }
 
-  pub end_of_member : (k ≡ p → ⊥) → r ≡ handed_over t p e k → Ends t p e r
+  pub end_of_member : eqb k p ≡ false → r ≡ handed_over t p e k → Ends t p e r
   unfolding is_init end_process
   end_of_member c d =
       record {
-        always = d ∙ ap (handed_over t p e) found ∙ sym (pick_no (eqb _ p) (end_init t p e) _ (ne_eqb _ p (λ x. c (found ∙ x))));
-        as_defined = λ f lives. d ∙ member_end_is t p e k its_init (ne_eqb _ p (λ x. c (its_init ∙ x)));
+        always = d ∙ ap (handed_over t p e) found ∙ sym (pick_no (eqb _ p) (end_init t p e) _ (ap (λ m. eqb m p) (sym found) ∙ c));
+        as_defined = λ f lives. d ∙ member_end_is t p e k its_init (ap (λ m. eqb m p) (sym its_init) ∙ c);
       }

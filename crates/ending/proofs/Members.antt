@@ -6,7 +6,7 @@ use mathlib.Core.Path.{◌≡◌, refl, sym, ap, ap₂, ◌∙◌}
 use native.Mathlib.Numerals.{sub-one}
 use borrow.Author.Tests.{eq-eqb, ne_eqb, not-true, not-false}
 use lib.Dec.{eqb}
-use lib.ListN.{get_or}
+use lib.ListN.{get_or, set}
 use Rattle.table.proofs.Chains.{pick_yes, pick_no, and_true, and_false, and_false_later, and_goes}
 use Rattle.table.proofs.FoldLoops.{turns, Turned, fold_done}
 use Rattle.table.specs.Fresh.{empty_process}
@@ -32,38 +32,6 @@ namespaces_changed t u l p q = ap₂ (λ a b. record { processes = a; namespaces
 pub processes_changed : (t u : Table) (l : List Process) → u.namespaces ≡ t.namespaces → u.processes ≡ l → ◌≡◌ {A = Table} u (record { processes = l; namespaces = t.namespaces })
 processes_changed t u l p q = ap₂ (λ a b. record { processes = a; namespaces = b }) q p
 
--- ---- who falls; r says whether the slot of p is taken
-
-pub falls_empty : (ss : List Namespace) (n i : ℕ) (p : Process) (r : Bool) → r ≡ not (eqb (pid_at p 0) 0) → not r ≡ true → false ≡ falls_with ss n i p
-unfolding falls_with
-falls_empty ss n i p r t s = sym (and_false (not (eqb (pid_at p 0) 0)) _ (sym t ∙ not-true r s))
-
--- d says whether p has ended
-pub falls_member : (ss : List Namespace) (n i : ℕ) (p : Process) (r d : Bool) → r ≡ not (eqb (pid_at p 0) 0) → not r ≡ false → p.own.0 ≡ n → d ≡ is_ended p.state → not d ≡ falls_with ss n i p
-unfolding falls_with
-falls_member ss n i p r d t s o e =
-    and_goes (not (eqb (pid_at p 0) 0)) _ (not d) (sym t ∙ not-false r s)
-    (ap not e ∙ sym (pick_yes (eqb p.own.0 n) (not (is_ended p.state)) _ (eq-eqb _ _ o)))
-
--- h is the own namespace of p, another one than n
-
-module _ (ss : List Namespace) (n i : ℕ) (p : Process) (r : Bool) (h : Namespace) (t : r ≡ not (eqb (pid_at p 0) 0)) (s : not r ≡ false) (o : p.own.0 ≡ n → ⊥) (e : h ≡ get_or ss p.own.0 no_namespace) where
-  pub falls_elsewhere : (h.parent.0 ≡ n → ⊥) → false ≡ falls_with ss n i p
-  unfolding falls_with
-  falls_elsewhere q =
-      sym (and_false_later (not (eqb (pid_at p 0) 0)) _
-      (pick_no (eqb p.own.0 n) (not (is_ended p.state)) _ (ne_eqb _ _ o)
-      ∙ and_false (eqb (get_or ss p.own.0 no_namespace).parent.0 n) _ (ne_eqb _ _ (λ x. q (ap (λ z. z.parent.0) e ∙ x)))))
-
-  -- k is the init of h
-  pub falls_below : (k : ℕ) → h.parent.0 ≡ n → k ≡ init_of h.life → eqb k i ≡ falls_with ss n i p
-  unfolding falls_with
-  falls_below k q f =
-      and_goes (not (eqb (pid_at p 0) 0)) _ (eqb k i) (sym t ∙ not-false r s)
-      (and_goes (eqb (get_or ss p.own.0 no_namespace).parent.0 n) (eqb (init_of (get_or ss p.own.0 no_namespace).life) i) (eqb k i)
-      (eq-eqb _ _ (sym (ap (λ z. z.parent.0) e) ∙ q)) (ap (λ z. eqb z i) (f ∙ ap (λ z. init_of z.life) e))
-      ∙ sym (pick_no (eqb p.own.0 n) (not (is_ended p.state)) _ (ne_eqb _ _ o)))
-
 -- ---- the end of one that falls
 
 -- how a namespace right below ends, with that many levels left
@@ -77,20 +45,20 @@ member_is zero t n i = refl
 member_is (suc left) t n i = refl
 
 module _ (left : ℕ) (t : Table) (n i : ℕ) where
-  pub member_own : (q : Process) → (process t i).own.0 ≡ n → q ≡ killed (process t i) → put t i q ≡ end_member left t n i
+  pub member_own : (q : Process) → eqb (process t i).own.0 n ≡ true → q ≡ killed (process t i) → put t i q ≡ end_member left t n i
   unfolding end_member_by
-  member_own q o e = ap (put t i) e ∙ sym (member_is left t n i ∙ pick_yes (eqb (process t i).own.0 n) (put t i (killed (process t i))) _ (eq-eqb _ _ o))
+  member_own q o e = ap (put t i) e ∙ sym (member_is left t n i ∙ pick_yes (eqb (process t i).own.0 n) (put t i (killed (process t i))) _ o)
 
-  pub member_spent : ((process t i).own.0 ≡ n → ⊥) → left ≡ 0 → t ≡ end_member left t n i
+  pub member_spent : eqb (process t i).own.0 n ≡ false → left ≡ 0 → t ≡ end_member left t n i
   unfolding end_member_by lower
   member_spent o z =
-      sym (member_is left t n i ∙ pick_no (eqb (process t i).own.0 n) (put t i (killed (process t i))) _ (ne_eqb _ _ o) ∙ ap (λ l. lower l t (process t i).own.0) z)
+      sym (member_is left t n i ∙ pick_no (eqb (process t i).own.0 n) (put t i (killed (process t i))) _ o ∙ ap (λ l. lower l t (process t i).own.0) z)
 
-pub member_down : (left : ℕ) (t : Table) (n i : ℕ) (v : Table) → ((process t i).own.0 ≡ n → ⊥) → (left ≡ 0 → ⊥) → v ≡ end_namespace (left - 1) t (process t i).own.0 → v ≡ end_member left t n i
+pub member_down : (left : ℕ) (t : Table) (n i : ℕ) (v : Table) → eqb (process t i).own.0 n ≡ false → (left ≡ 0 → ⊥) → v ≡ end_namespace (left - 1) t (process t i).own.0 → v ≡ end_member left t n i
 unfolding end_member end_member_by
 member_down zero t n i v o z e = absurd (z refl)
 member_down (suc left) t n i v o z e =
-    (rw sub-one at e) ∙ sym (pick_no (eqb (process t i).own.0 n) (put t i (killed (process t i))) _ (ne_eqb _ _ o))
+    (rw sub-one at e) ∙ sym (pick_no (eqb (process t i).own.0 n) (put t i (killed (process t i))) _ o)
 
 -- ---- the loop over the slots
 
@@ -115,41 +83,12 @@ pub namespace_done : (left : ℕ) (t : Table) (n : ℕ) (v u : Table) (i : ℕ) 
 namespace_done left t n v u i e k h =
     fold_done process_slots (turn left n) v u i k h ∙ ap (turns process_slots (turn left n)) e ∙ sym (namespace_is left t n)
 
--- ---- one process, in the sweep and in the hand-over
+-- ---- the end of an init
 
-module _ (inside : ℕ → Bool) (i : ℕ) (q : Process) (a : Bool) (e : a ≡ inside i) where
-  pub swept_out : not a ≡ true → q ≡ once_swept inside i q
-  unfolding once_swept
-  swept_out h = sym (pick_no (inside i and inside q.parent.0) empty_process q (and_false (inside i) _ (sym e ∙ not-true a h)))
-
-  -- b says whether the parent is inside
-  module _ (b : Bool) (f : b ≡ inside q.parent.0) where
-    pub swept_stays : not b ≡ true → q ≡ once_swept inside i q
-    unfolding once_swept
-    swept_stays h = sym (pick_no (inside i and inside q.parent.0) empty_process q (and_false_later (inside i) _ (sym f ∙ not-true b h)))
-
-    pub swept_gone : (x : Process) → not a ≡ false → not b ≡ false → x ≡ empty_process → x ≡ once_swept inside i q
-    unfolding once_swept
-    swept_gone x h k z =
-        z ∙ sym (pick_yes (inside i and inside q.parent.0) empty_process q (and_true (inside i) _ (sym e ∙ not-false a h) (sym f ∙ not-false b k)))
-
--- r says whether the slot of q is taken
-module _ (p : ℕ) (e : End) (k i : ℕ) (q : Process) (r : Bool) (o : i ≡ p → ⊥) (t : r ≡ not (eqb (pid_at q 0) 0)) where
-  pub handed_empty : not r ≡ true → q ≡ once_handed p e k i q
-  unfolding once_handed
-  handed_empty h =
-      sym (pick_no (eqb i p) (as_ended q e) _ (ne_eqb i p o)
-      ∙ pick_no (not (eqb (pid_at q 0) 0) and eqb q.parent.0 p) (with_parent q k) q (and_false _ _ (sym t ∙ not-true r h)))
-
-  pub handed_child : not r ≡ false → q.parent.0 ≡ p → with_parent q k ≡ once_handed p e k i q
-  unfolding once_handed
-  handed_child h c =
-      sym (pick_no (eqb i p) (as_ended q e) _ (ne_eqb i p o)
-      ∙ pick_yes (not (eqb (pid_at q 0) 0) and eqb q.parent.0 p) (with_parent q k) q (and_true _ _ (sym t ∙ not-false r h) (eq-eqb _ _ c)))
-
--- q is the process at p, x the table once its namespace has ended, y the ended init, z the table with it
-pub init_swept : (t : Table) (p : ℕ) (e : End) (q : Process) (x : Table) (y : Process) (z r : Table) → q ≡ get_or t.processes p empty_process → x ≡ end_namespace deepest t q.own.0 → y ≡ as_ended q e → z ≡ put x p y → r ≡ swept z q.own.0 → r ≡ end_init t p e
+-- q is the process at p, x the table once its namespace has ended, y the ended init, l the processes with it
+pub init_swept : (t : Table) (p : ℕ) (e : End) (q : Process) (x : Table) (y : Process) (l : List Process) (r : Table) → q ≡ get_or t.processes p empty_process → x ≡ end_namespace deepest t q.own.0 → y ≡ as_ended q e → l ≡ set x.processes p y → r ≡ swept (record { processes = l; namespaces = x.namespaces }) q.own.0 → r ≡ end_init t p e
 unfolding end_init
-init_swept t p e q x y z r a b c d g =
-    g ∙ ap (λ u. swept u q.own.0) (d ∙ ap₂ (λ u k. put u p k) b c)
+init_swept t p e q x y l r a b c d g =
+    g ∙ ap (λ z. swept (record { processes = z; namespaces = x.namespaces }) q.own.0) d
+    ∙ ap₂ (λ u k. swept (put u p k) q.own.0) b c
     ∙ ap (λ (k : Process). swept (put (end_namespace deepest t k.own.0) p (as_ended k e)) k.own.0) a

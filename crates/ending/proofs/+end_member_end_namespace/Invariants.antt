@@ -1,5 +1,5 @@
 -- The measure is twice the levels left, and one more for the namespace.
-use Prim.Native.Nat.{◌+◌, ◌-◌}
+use Prim.Native.Nat.{◌+◌}
 use Rattle.table.proofs.FoldLoops.{Turned}
 use Rattle.table.specs.Limits.{process_slots}
 use Rattle.ending.proofs.Members.{turn}
@@ -12,7 +12,4 @@ abbrev pub decreases-end_namespace : goal.decreases-end_namespace
 decreases-end_namespace l = l.left + l.left + 1
 
 abbrev pub invariant-end_namespace-loop-i : goal.invariant-end_namespace-loop-i
-invariant-end_namespace-loop-i l = Turned process_slots (turn l.left l.n.0) l.initial.u l.u l.i
-
-abbrev pub decreases-end_namespace-loop-i : goal.decreases-end_namespace-loop-i
-decreases-end_namespace-loop-i l = process_slots - l.i
+invariant-end_namespace-loop-i l = Turned process_slots (turn l.left l.n.0) l.initial.t l.t l.i

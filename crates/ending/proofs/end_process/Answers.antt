@@ -1,17 +1,15 @@
 -- `end_process` ends an init with its namespace, and hands over the children of any other.
-use mathlib.Core.Path.{◌≡◌}
+use mathlib.Core.Path.{◌≡◌, sym, ◌∙◌}
 use lib.ListN.{length}
 use Rattle.table.specs.Limits.{namespace_slots, process_slots}
 use Rattle.ending.proofs.Fallen.{end_of_init, end_of_member}
 use borrow.Author.Rules.{rules}
 use Rattle.ending.proofs.end_process.Goals as goal
 
-pub returns-then-init-slot : goal.returns-then-init-slot
-returns-then-init-slot c =
-    let n : length c.args.t.processes ≡ process_slots = search (rules, c.well_formed) in
-    let m : length c.args.t.namespaces ≡ namespace_slots = search (rules, c.well_formed) in
-    end_of_init _ _ _ _ _ _ _ c.process-p.ensures c.namespace-home.ensures c.init-init.ensures n m c.if-init-slot.true c.end_init.ensures
+pub returns-then-eq : goal.returns-then-eq
+returns-then-eq c =
+    end_of_init _ _ _ _ _ _ _ c.process.ensures c.namespace.ensures c.init-init.ensures (search (rules, c.well_formed)) (search (rules, c.well_formed)) (sym c.eq.ensures ∙ c.if-eq.true) c.end_init.ensures
 
-pub returns : goal.returns
-returns c =
-    end_of_member _ _ _ _ _ _ _ c.process-p.ensures c.namespace-home.ensures c.init-init.ensures c.if-init-slot.false c.hand_over.ensures
+pub returns-else-eq : goal.returns-else-eq
+returns-else-eq c =
+    end_of_member _ _ _ _ _ _ _ c.process.ensures c.namespace.ensures c.init-init.ensures (sym c.eq.ensures ∙ c.if-eq.false) c.hand_over.ensures

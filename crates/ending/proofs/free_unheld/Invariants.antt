@@ -1,6 +1,4 @@
 -- `free_unheld` passes over the namespaces, by the laws of a loop that changes each element.
-use Prim.Native.Nat.{◌-◌}
-use mathlib.Core.Path.{◌≡◌}
 use Rattle.table.proofs.MapLoops.{Mapped}
 use Rattle.table.specs.Limits.{namespace_slots}
 use Rattle.table.specs.Slots.{no_namespace}
@@ -9,8 +7,4 @@ use Rattle.ending.specs.Holding.{mark_at, once_freed}
 use Rattle.ending.proofs.free_unheld.Given as goal
 
 abbrev pub invariant-loop-i : goal.invariant-loop-i
-invariant-loop-i l =
-    Mapped namespace_slots (once_freed (slot_in l.up) (level_in l.levels) (mark_at l.marks)) no_namespace l.initial.u.namespaces l.u.namespaces l.i × (l.u.processes ≡ l.initial.u.processes)
-
-abbrev pub decreases-loop-i : goal.decreases-loop-i
-decreases-loop-i l = namespace_slots - l.i
+invariant-loop-i l = Mapped namespace_slots (once_freed (slot_in l.tree.parents) (level_in l.tree.levels) (mark_at l.marks)) no_namespace l.initial.s-items l.s-items l.i

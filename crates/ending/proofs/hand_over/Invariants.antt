@@ -1,6 +1,4 @@
 -- `hand_over` passes over the processes, by the laws of a loop that changes each element.
-use Prim.Native.Nat.{◌-◌}
-use mathlib.Core.Path.{◌≡◌}
 use Rattle.table.proofs.MapLoops.{Mapped}
 use Rattle.table.specs.Limits.{process_slots}
 use Rattle.table.specs.Slots.{no_process}
@@ -8,8 +6,4 @@ use Rattle.ending.specs.Ending.{once_handed}
 use Rattle.ending.proofs.hand_over.Given as goal
 
 abbrev pub invariant-loop-i : goal.invariant-loop-i
-invariant-loop-i l =
-    Mapped process_slots (once_handed l.slot.0 l.how l.init.0) no_process l.initial.u.processes l.u.processes l.i × (l.u.namespaces ≡ l.initial.u.namespaces)
-
-abbrev pub decreases-loop-i : goal.decreases-loop-i
-decreases-loop-i l = process_slots - l.i
+invariant-loop-i l = Mapped process_slots (once_handed l.slot.0 l.how l.init.0) no_process l.initial.p-items l.p-items l.i

@@ -3,11 +3,11 @@ use Rattle.table.proofs.FoldLoops.{fold_loops}
 use Rattle.ending.specs.Holding.{marks_of}
 use Rattle.ending.proofs.held.Goals as goal
 
-pub loop-i-init : goal.loop-i-init
-loop-i-init c = search fold_loops
+pub loop-p-init : goal.loop-p-init
+loop-p-init c = search fold_loops
 
-pub loop-i-preserved : goal.loop-i-preserved
-loop-i-preserved c = search fold_loops
+pub loop-p-preserved : goal.loop-p-preserved
+loop-p-preserved c = search fold_loops
 
 pub returns : goal.returns
 unfolding marks_of

@@ -1,14 +1,12 @@
--- `insiders` fills an array with what `seen` says of each process.
-use Prim.Native.Nat.{◌-◌}
+-- `insiders` fills an array with who is seen.
+use Rattle.std.specs.Prelude.{get_or}
 use mathlib.Core.Bool.{false}
 use Rattle.table.proofs.MapLoops.{Mapped}
 use Rattle.table.specs.Limits.{process_slots}
-use Rattle.rules.specs.Read.{view, seen}
+use Rattle.table.specs.Slots.{no_process}
+use Rattle.tree.specs.Tree.{slot_in, level_in, seen_from}
 use Rattle.ending.proofs.insiders.Given as goal
 
 abbrev pub invariant-loop-i : goal.invariant-loop-i
 invariant-loop-i l =
-    Mapped process_slots (λ k x. seen (view l.t) l.n.0 k) false l.initial.inside l.inside l.i
-
-abbrev pub decreases-loop-i : goal.decreases-loop-i
-decreases-loop-i l = process_slots - l.i
+    Mapped process_slots (λ k x. seen_from (slot_in l.tree.parents) (level_in l.tree.levels) l.n.0 (get_or l.processes k no_process)) false l.initial.inside l.inside l.i

@@ -1,23 +1,25 @@
--- `is_kept` looks for a marked namespace below n, by the laws of a loop that leaves at the first.
-use Rattle.table.proofs.AnyLoops.{any_starts}
-use Rattle.table.proofs.Chains.{chains}
-use Rattle.ending.proofs.Freeing.{unmarked_on, marked_on, kept_found, kept_none}
-use Rattle.ending.specs.Holding.{kept_for}
+-- `is_kept` looks for a marked namespace below n, by the law of a chain that ends in `any`.
+use Prim.Native.Nat.{ℕ}
+use mathlib.Core.Bool.{true, false}
+use mathlib.Core.Path.{◌≡◌, refl}
+use borrow.Author.Rules.{rules}
+use borrow.Author.Tests.{tests}
+use Rattle.std.proofs.lemmas.Iterator.{cases_from_any, YieldsList-from_range}
+use Rattle.table.proofs.Chains.{chains, or_goes}
+use Rattle.table.specs.Limits.{namespace_slots}
+use Rattle.tree.specs.Tree.{slot_in, level_in}
+use Rattle.ending.proofs.Marks.{any_of_range}
+use Rattle.ending.specs.Holding.{mark_at, keeps, kept_for}
 use Rattle.ending.proofs.is_kept.Goals as goal
-use Rattle.ending.proofs.is_kept.Goals.{then-marks-i+else-below, else-marks-i}
 
 pub returns-then-n-eq0 : goal.returns-then-n-eq0
 unfolding kept_for
 returns-then-n-eq0 c = search chains
 
-pub loop-i-init : goal.loop-i-init
-loop-i-init c = search any_starts
-
-pub returns-then-below : goal.returns-then-below
-returns-then-below c = search kept_found
-
-pub loop-i-preserved : goal.loop-i-preserved
-loop-i-preserved c = elim c.if-marks-i.branch [ then-marks-i+else-below w ↦ search marked_on | else-marks-i w ↦ search unmarked_on ]
-
-pub returns : goal.returns
-returns c = search kept_none
+pub returns-else-n-eq0 : goal.returns-else-n-eq0
+unfolding kept_for
+returns-else-n-eq0 c =
+    let k : ℕ → _ = keeps (slot_in c.args.tree.now.parents) (level_in c.args.tree.now.levels) (mark_at c.args.marks.now) c.args.n.0 in
+    or_goes _ _ _ (search chains)
+    (any_of_range namespace_slots k _
+    (cases_from_any _ _ _ (λ i. k i ≡ true) (λ i. k i ≡ false) c.any.ensures.ran (YieldsList-from_range 0 namespace_slots namespace_slots refl refl) (λ x q w. search (rules, tests)) (λ x q w. search (rules, tests))))

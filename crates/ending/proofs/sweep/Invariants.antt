@@ -1,6 +1,4 @@
 -- `sweep` passes over the processes, by the laws of a loop that changes each element.
-use Prim.Native.Nat.{◌-◌}
-use mathlib.Core.Path.{◌≡◌}
 use Rattle.table.proofs.MapLoops.{Mapped}
 use Rattle.table.specs.Limits.{process_slots}
 use Rattle.table.specs.Slots.{no_process}
@@ -9,8 +7,4 @@ use Rattle.ending.specs.Holding.{mark_at}
 use Rattle.ending.proofs.sweep.Given as goal
 
 abbrev pub invariant-loop-i : goal.invariant-loop-i
-invariant-loop-i l =
-    Mapped process_slots (once_swept (mark_at l.inside)) no_process l.initial.u.processes l.u.processes l.i × (l.u.namespaces ≡ l.initial.u.namespaces)
-
-abbrev pub decreases-loop-i : goal.decreases-loop-i
-decreases-loop-i l = process_slots - l.i
+invariant-loop-i l = Mapped process_slots (once_swept (mark_at l.inside)) no_process l.initial.p-items l.p-items l.i
