@@ -1,16 +1,14 @@
 -- Freeing by marks is the freeing of the definitions, in every table.
-use Prim.Native.Nat.{ℕ, ◌<◌, ◌≤◌, ◌+◌}
+use Prim.Native.Nat.{ℕ, ◌<◌, ◌≤◌}
 use mathlib.Core.Bool.{Bool, true, false, So, false≢true}
 use mathlib.Core.List.{List}
 use mathlib.Core.Logic.{⊎_elim}
 use mathlib.Core.Path.{◌≡◌, refl, sym, ap, ap₂, subst, ◌∙◌}
 use native.Mathlib.Decide.{dec_lt}
 use native.Mathlib.Omega.{arith}
-use borrow.Author.Tests.{eq-eqb, ne_eqb, eqb-true}
+use borrow.Author.Tests.{eq-eqb, eqb-true}
 use lib.Dec.{eqb}
 use lib.ListN.{length, get_or-eq_default}
-use Rattle.table.proofs.AnyLoops.{Unmet, any_steps, any_true, any_none}
-use Rattle.table.proofs.Chains.{and_true, and_false, and_false_later, or_true_later, or_false}
 use Rattle.rules.proofs.Laws.Below.{shallow_below}
 use Rattle.rules.proofs.Laws.Tests.{left, right, both, cases, or_left, or_right, any_elim, any_intro, bool_ext}
 use Rattle.rules.proofs.Laws.Facts.{Below}
@@ -133,24 +131,3 @@ freed_blank up level mark n s r e h = go (kept_for up level mark n)
     go : (b : Bool) → s ≡ (when b then s else empty_namespace)
     go true = refl
     go false = blank_is s (sym e ∙ h)
-
--- ---- the loop that looks for a namespace that keeps n
-
-module _ (up level : ℕ → ℕ) (mark : ℕ → Bool) (n i : ℕ) where
-  pub unmarked_on : Unmet namespace_slots (keeps up level mark n) i → i < namespace_slots → mark i ≡ false → Unmet namespace_slots (keeps up level mark n) (i + 1)
-  unfolding keeps
-  unmarked_on u h e = any_steps namespace_slots (keeps up level mark n) i u h (and_false (mark i) _ e)
-
-  -- r says whether the one at i lies in the subtree of n
-  pub marked_on : (r : Bool) → Unmet namespace_slots (keeps up level mark n) i → i < namespace_slots → r ≡ climb up (level i) i n → r ≡ false → Unmet namespace_slots (keeps up level mark n) (i + 1)
-  unfolding keeps
-  marked_on r u h e q = any_steps namespace_slots (keeps up level mark n) i u h (and_false_later (mark i) _ (sym e ∙ q))
-
-  pub kept_found : (r : Bool) → i < namespace_slots → mark i ≡ true → r ≡ climb up (level i) i n → r ≡ true → true ≡ kept_for up level mark n
-  unfolding keeps kept_for
-  kept_found r h m e q =
-      sym (or_true_later (eqb n 0) _ (any_true namespace_slots (keeps up level mark n) i h (and_true (mark i) _ m (sym e ∙ q))))
-
-  pub kept_none : (n ≡ 0 → ⊥) → Unmet namespace_slots (keeps up level mark n) i → namespace_slots ≤ i → false ≡ kept_for up level mark n
-  unfolding kept_for
-  kept_none o u h = sym (or_false (eqb n 0) _ (ne_eqb n 0 o) (any_none namespace_slots (keeps up level mark n) i u h))

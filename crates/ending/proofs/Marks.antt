@@ -12,9 +12,8 @@ use Rattle.table.proofs.IterLaws.{any_of_chain}
 use Rattle.table.proofs.MapLoops.{Mapped, map_done}
 use Rattle.table.specs.Limits.{process_slots}
 use Rattle.table.specs.Slots.{process, no_process}
-use Rattle.rules.specs.Read.{view, seen}
+use Rattle.rules.specs.Read.{view}
 use Rattle.table.specs.Tests.{any, changed_to}
-use Rattle.table.specs.declared.Process.{Process}
 use Rattle.table.specs.declared.Table.{Table}
 use Rattle.table.specs.declared.NsSlot.{NsSlot}
 use Rattle.tree.proofs.Sights.{seen_test}

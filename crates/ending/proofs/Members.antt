@@ -1,24 +1,23 @@
 -- The definitions of an end by the cases of the code.
 use Prim.Native.Nat.{ℕ, zero, suc, ◌≤◌, ◌-◌}
-use mathlib.Core.Bool.{Bool, true, false, not}
+use mathlib.Core.Bool.{Bool, true, false}
 use mathlib.Core.List.{List}
 use mathlib.Core.Path.{◌≡◌, refl, sym, ap, ap₂, ◌∙◌}
 use native.Mathlib.Numerals.{sub-one}
-use borrow.Author.Tests.{eq-eqb, ne_eqb, not-true, not-false}
 use lib.Dec.{eqb}
 use lib.ListN.{get_or, set}
-use Rattle.table.proofs.Chains.{pick_yes, pick_no, and_true, and_false, and_false_later, and_goes}
+use Rattle.table.proofs.Chains.{pick_yes, pick_no}
 use Rattle.table.proofs.FoldLoops.{turns, Turned, fold_done}
 use Rattle.table.specs.Fresh.{empty_process}
 use Rattle.table.specs.Limits.{deepest, process_slots}
-use Rattle.table.specs.Slots.{process, pid_at, no_namespace, is_ended, init_of, put}
-use Rattle.table.specs.Tests.{◌and◌, when◌then◌else◌}
+use Rattle.table.specs.Slots.{process, put}
+use Rattle.table.specs.Tests.{when◌then◌else◌}
 use Rattle.table.specs.declared.End.{End}
 use Rattle.table.specs.declared.Namespace.{Namespace}
 use Rattle.table.specs.declared.Process.{Process}
 use Rattle.table.specs.declared.Table.{Table}
-use Rattle.table.specs.Records.{with_parent, as_ended}
-use Rattle.ending.specs.Ending.{killed, falls_with, end_member_by, member_turn, end_namespace, end_member, marked_dead, once_swept, swept, end_init, once_handed}
+use Rattle.table.specs.Records.{as_ended}
+use Rattle.ending.specs.Ending.{killed, falls_with, end_member_by, member_turn, end_namespace, end_member, marked_dead, swept, end_init}
 
 -- ---- small steps from what the code has
 

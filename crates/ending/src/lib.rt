@@ -128,11 +128,7 @@ fn end_member(t: &mut Table, n: NsSlot, i: usize, left: u8)
 // ---- the end of an init
 
 // Which of these processes are in the subtree of n, ended ones too.
-fn insiders(
-    processes: &[Process; PROCESS_SLOTS],
-    tree: &Tree,
-    n: NsSlot,
-) -> [bool; PROCESS_SLOTS]
+fn insiders(processes: &[Process; PROCESS_SLOTS], tree: &Tree, n: NsSlot) -> [bool; PROCESS_SLOTS]
     ensures { mark_at result ≡ (λ i. seen_from (slot_in tree.now.parents) (level_in tree.now.levels) n.0 (get_or processes.now i no_process)) }
 {
     let mut inside = [false; PROCESS_SLOTS];
@@ -185,10 +181,7 @@ fn once_handed(slot: ProcSlot, how: End, init: ProcSlot, i: ProcSlot, p: &Proces
         return ended(p, how);
     }
     if p.is_taken() && p.parent == slot {
-        return Process {
-            parent: init,
-            ..*p
-        };
+        return Process { parent: init, ..*p };
     }
     *p
 }
@@ -244,7 +237,7 @@ fn is_kept(tree: &Tree, marks: &[bool; NAMESPACE_SLOTS], n: NsSlot) -> bool
 }
 
 // What is left of the namespace s at slot n. Most slots are blank, and need no climbs.
-#[tactic(auto, using(table::proofs::Chains::chains), unfolding(crate::specs::Holding::once_freed))]
+#[tactic(auto, using(table::proofs::Chains::chains, crate::proofs::Freeing::freed_blank), unfolding(crate::specs::Holding::once_freed))]
 fn once_freed(tree: &Tree, marks: &[bool; NAMESPACE_SLOTS], n: NsSlot, s: &Namespace) -> Namespace
     ensures { result ≡ once_freed (slot_in tree.now.parents) (level_in tree.now.levels) (mark_at marks.now) n.0 s.now }
 {

@@ -1,7 +1,5 @@
 -- `end_process` ends an init with its namespace, and hands over the children of any other.
-use mathlib.Core.Path.{◌≡◌, sym, ◌∙◌}
-use lib.ListN.{length}
-use Rattle.table.specs.Limits.{namespace_slots, process_slots}
+use mathlib.Core.Path.{sym, ◌∙◌}
 use Rattle.ending.proofs.Fallen.{end_of_init, end_of_member}
 use borrow.Author.Rules.{rules}
 use Rattle.ending.proofs.end_process.Goals as goal
