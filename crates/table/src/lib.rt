@@ -47,7 +47,7 @@ pub const STATUSES: u16 = 256;
 
 // The slot of a process. NO_SLOT stands for none.
 #[repr(C)]
-#[derive(Clone, Copy, PartialEq, Eq, PartialOrd, Ord)]
+#[derive(Clone, Copy, Default, PartialEq, Eq, PartialOrd, Ord)]
 pub struct ProcSlot(pub u8);
 
 // The slot of a namespace. NO_SLOT stands for none.
