@@ -34,11 +34,11 @@ use Rattle.delivery.specs.Delivery.{act_by, deliver_by, Delivers}
 
 -- ---- reading
 
--- k is the init of the process's own namespace s
-pub init_read : (t : Table) (i k : ℕ) (p : Process) (s : Namespace) → p ≡ get_or t.processes i empty_process → s ≡ namespace t p.own.0 → k ≡ init_of s.life → eqb k i ≡ is_init (view t) i
+-- k is the init of the process's own namespace s, and r says whether it is the process itself
+pub init_read : (t : Table) (i k : ℕ) (p : Process) (s : Namespace) (r : Bool) → p ≡ get_or t.processes i empty_process → s ≡ namespace t p.own.0 → k ≡ init_of s.life → r ≡ eqb k i → r ≡ is_init (view t) i
 unfolding is_init
-init_read t i k p s e q h =
-    ap (λ m. eqb m i) (h ∙ ap (λ (x : Namespace). init_of x.life) q ∙ ap (λ m. init_of (namespace t m).life) (read_at t i p e).own)
+init_read t i k p s r e q h x =
+    x ∙ ap (λ m. eqb m i) (h ∙ ap (λ (x : Namespace). init_of x.life) q ∙ ap (λ m. init_of (namespace t m).life) (read_at t i p e).own)
 
 -- a signal that pends is one that a set can hold
 module _ (s : ℕ) where

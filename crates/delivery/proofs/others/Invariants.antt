@@ -1,12 +1,8 @@
 -- `others` gathers all that the caller sees beside itself, by the laws of that loop.
-use Prim.Native.Nat.{◌-◌}
 use Rattle.delivery.proofs.Gathers.{Gathering}
 use Rattle.table.specs.Limits.{process_slots}
 use Rattle.delivery.proofs.others.Given as goal
 
 abbrev pub invariant-loop-i : goal.invariant-loop-i
 invariant-loop-i l =
-    Gathering l.t l.caller.0 l.n.0 l.up l.levels l.pids l.found l.i
-
-abbrev pub decreases-loop-i : goal.decreases-loop-i
-decreases-loop-i l = process_slots - l.i
+    Gathering l.t l.caller.0 l.n.0 l.tree.parents l.tree.levels l.pids l.found l.i

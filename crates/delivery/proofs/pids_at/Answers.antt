@@ -20,4 +20,4 @@ loop-i-preserved c = search (map_old_loops, made_pid)
 pub returns : goal.returns
 returns c =
     filled_reads (λ (p : Process). to_pid (pid_at p c.args.level)) no_process (λ (k : Pid). k.0) process_slots (replicate process_slots no_pid) c.loop-i.pids
-    c.args.processes (search map_old_loops) refl (search rules)
+    c.args.processes.now (search map_old_loops) refl (search rules)
