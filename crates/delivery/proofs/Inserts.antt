@@ -1,12 +1,11 @@
 -- A slot put before the first of a list with a higher number is put at its place.
-use Prim.Native.Nat.{ℕ, suc, ◌≤◌, ◌<◌, ◌+◌}
+use Prim.Native.Nat.{ℕ, ◌<◌, ◌+◌}
 use mathlib.Core.Bool.{Bool, true, false}
 use mathlib.Core.List.{List, [], ◌∷◌}
-use mathlib.Core.Path.{◌≡◌, refl, sym, ap, ◌∙◌}
+use mathlib.Core.Path.{◌≡◌, refl, ap}
 use lib.Dec.{ltb}
 use lib.ListN.{length}
 use native.Mathlib.Numerals.{add-one}
-use native.Mathlib.Omega.{arith}
 use Rattle.std.proofs.lemmas.Iterator.{index_from_first}
 use Rattle.std.specs.List.{insert as put_in, AllWithin, HoldsAt}
 use Rattle.std.specs.Option.{MatchOption, unwrap_or}

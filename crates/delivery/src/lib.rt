@@ -1,14 +1,14 @@
 // The delivery of a signal, to one process and to several, and whom a caller sees beside itself.
 #![tactic(auto, using(table::proofs::Chains::chains))]
 
-ghost use Rattle.std.specs.Prelude.{◌≡◌, ℕ, ◌<◌, ◌+◌};
+ghost use Rattle.std.specs.Prelude.{◌≡◌, ℕ, ◌<◌, ◌+◌, not, eqb};
 ghost use Rattle.arrayvec.specs.ArrayVec.{array_vec_len};
 ghost use Rattle.rules.proofs.Laws.ReadAt.{ReadAt};
 ghost use Rattle.rules.specs.Calls.{others as others_of};
 ghost use Rattle.rules.specs.Delivery.{action_on as action_in, resumed as as_resumed, with_pending as as_pending};
 ghost use Rattle.table.specs.Limits.{signals, process_slots};
 ghost use Rattle.rules.specs.Read.{View, view, is_init as is_init_in};
-ghost use Rattle.table.specs.Tests.{insert};
+ghost use Rattle.table.specs.Tests.{◌or◌, insert};
 ghost use Rattle.table.specs.declared.State.TheVariants.{Stopped};
 ghost use Rattle.table.specs.Records.{with_state};
 ghost use Rattle.tree.specs.Tree.{slot_in, level_in};
@@ -64,13 +64,20 @@ fn plain_action(handled: u32, init: bool, s: u8) -> Action
     default_action(s)
 }
 
+// Whether a signal passes a process by: signal 0 only asks whether one is there, and one that has ended gets none.
+fn passes_by(p: &Process, s: u8) -> bool
+    ensures { result ≡ (eqb s 0 or not (lives p.now)) }
+{
+    s == 0 || !is_living(p)
+}
+
 // What a signal does to a process, sent from a namespace; init says whether it is the init of its own. Only a signal
 // that a set can hold pends.
 fn action_on(p: &Process, init: bool, from: NsSlot, s: u8) -> Action
     ensures { ((v : View) (i : ℕ) → ReadAt v i p.now → init ≡ is_init_in v i → result ≡ action_in v from.0 i s) × (result ≡ Action.Pend → s < signals) }
 {
     let handled = p.traits.handled;
-    if s == 0 || !is_living(p) {
+    if passes_by(p, s) {
         return Action::Nothing;
     }
     if s == SIGCONT {
@@ -99,8 +106,9 @@ fn with_pending(mut p: Process, s: u8) -> Process
     requires { s < signals }
     ensures { result ≡ as_pending p s }
 {
-    let x = p.traits;
-    p.traits = x.with_signals(x.handled, with_signal(x.pending, s));
+    p.traits = p
+        .traits
+        .with_signals(p.traits.handled, with_signal(p.traits.pending, s));
     p
 }
 
@@ -167,7 +175,7 @@ fn insert(found: &mut Targets, pids: &[Pid; PROCESS_SLOTS], slot: ProcSlot)
     let pid = at(pids, slot.0, Pid(0));
     let place = found
         .iter()
-        .position(|other| pid.0 < at(pids, other.0, Pid(0)).0)
+        .position(|other| pid < at(pids, other.0, Pid(0)))
         .unwrap_or(found.len());
     found.insert(place, slot);
 }
@@ -176,7 +184,7 @@ fn insert(found: &mut Targets, pids: &[Pid; PROCESS_SLOTS], slot: ProcSlot)
 fn is_other(tree: &Tree, n: NsSlot, caller: ProcSlot, slot: ProcSlot, pid: Pid, p: &Process) -> bool
     ensures { result ≡ other_from (slot_in tree.now.parents) (level_in tree.now.levels) n.0 caller.0 slot.0 pid.0 p.now }
 {
-    slot != caller && pid.0 != 1 && tree.sees(n, p)
+    slot != caller && pid != Pid(1) && tree.sees(n, p)
 }
 
 // All that the caller sees but itself and number 1, in ascending number.

@@ -3,12 +3,9 @@ use Rattle.table.proofs.Chains.{chains}
 use Rattle.delivery.proofs.Actions.{action_told}
 use borrow.Author.Rules.{rules}
 use Rattle.delivery.proofs.action_on.Goals as goal
-use Rattle.delivery.proofs.action_on.Goals.{then-s-eq0-via-then-s-eq0, then-s-eq0-via-else-s-eq0+then-not-is_living}
 
-pub returns-then-s-eq0 : goal.returns-then-s-eq0
-returns-then-s-eq0 c =
-    action_told _ _ _ _ _ (search rules)
-    (elim c.then-s-eq0.branch [ then-s-eq0-via-then-s-eq0 w ↦ search chains | then-s-eq0-via-else-s-eq0+then-not-is_living w ↦ search chains ])
+pub returns-then-passes_by : goal.returns-then-passes_by
+returns-then-passes_by c = action_told _ _ _ _ _ (search rules) (search chains)
 
 pub returns-then-s-eq-SIGCONT : goal.returns-then-s-eq-SIGCONT
 returns-then-s-eq-SIGCONT c = action_told _ _ _ _ _ (search rules) (search chains)

@@ -1,6 +1,5 @@
 -- `others` gathers all that the caller sees beside itself, by the laws of that loop.
 use Rattle.delivery.proofs.Gathers.{Gathering}
-use Rattle.table.specs.Limits.{process_slots}
 use Rattle.delivery.proofs.others.Given as goal
 
 abbrev pub invariant-loop-i : goal.invariant-loop-i
