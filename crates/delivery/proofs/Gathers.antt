@@ -22,9 +22,8 @@ use Rattle.table.specs.declared.Table.{Table}
 use Rattle.tree.proofs.Sights.{seen_test}
 use Rattle.tree.specs.Tree.{slot_in, level_in}
 use Rattle.delivery.proofs.Orders.{ascending_more, ascending_same, ascending_few, insert_length, only_ascending}
-use Rattle.delivery.specs.Targets.{numbers, pids_of, pid_in, listed, other_from, Lists}
-use Rattle.arrayvec.specs.ArrayVec.{ArrayVec, array_vec_len}
-use Rattle.table.specs.declared.ProcSlot.{ProcSlot}
+use Rattle.delivery.specs.Targets.{Targets, numbers, pids_of, pid_in, listed, other_from, Lists}
+use Rattle.arrayvec.specs.ArrayVec.{array_vec_len}
 
 -- seen by the caller, and neither the caller nor number 1 there
 abbrev pub is_other : View → ℕ → ℕ → Bool
@@ -38,7 +37,7 @@ pub others_all : (v : View) (c : ℕ) → others_below v c process_slots ≡ oth
 unfolding others all_seen
 others_all v c = sym (only_ascending (pid_to v c) (λ i. not (eqb i c) and not (eqb (pid_to v c i) 1)) (seen v (v.own c)) process_slots)
 
-pub record Gathering (t : Table) (c n : ℕ) (up : List NsSlot) (levels : List ℕ) (pids : List Pid) (r : ArrayVec ProcSlot) (i : ℕ) : Type 0 where
+pub record Gathering (t : Table) (c n : ℕ) (up : List NsSlot) (levels : List ℕ) (pids : List Pid) (r : Targets) (i : ℕ) : Type 0 where
   pub within : i ≤ process_slots
   pub own : n ≡ (view t).own c
   pub ups : slot_in up ≡ (view t).up
@@ -47,7 +46,7 @@ pub record Gathering (t : Table) (c n : ℕ) (up : List NsSlot) (levels : List �
   pub lists : Lists r (others_below (view t) c i)
 
 -- p is the caller as it is read, and l its level
-pub gathers_start : (t : Table) (c : ℕ) (p : Process) (up : List NsSlot) (levels : List ℕ) (pids : List Pid) (l : ℕ) (r : ArrayVec ProcSlot)
+pub gathers_start : (t : Table) (c : ℕ) (p : Process) (up : List NsSlot) (levels : List ℕ) (pids : List Pid) (l : ℕ) (r : Targets)
     → p ≡ get_or t.processes c empty_process → slot_in up ≡ (view t).up → level_in levels ≡ (view t).level → l ≡ level_in levels p.own.0
     → pid_in pids ≡ pids_of t.processes l → r.items ≡ [] → Gathering t c p.own.0 up levels pids r 0
 unfolding pid_seen ascending
@@ -63,7 +62,7 @@ gathers_start t c p up levels pids l r e u v h k z =
       lists = record { count = ap length z; list = ap numbers z };
     }
 
-module _ (t : Table) (c n : ℕ) (up : List NsSlot) (levels : List ℕ) (pids : List Pid) (r : ArrayVec ProcSlot) (i : ℕ) (w : Gathering t c n up levels pids r i) where
+module _ (t : Table) (c n : ℕ) (up : List NsSlot) (levels : List ℕ) (pids : List Pid) (r : Targets) (i : ℕ) (w : Gathering t c n up levels pids r i) where
   -- k is the number that is read at i, and b the result of the test
   tested : (k : ℕ) (b : Bool) → k ≡ pid_in pids i → b ≡ other_from (slot_in up) (level_in levels) n c i k (process t i) → b ≡ is_other (view t) c i
   tested k b e q =
@@ -76,7 +75,7 @@ module _ (t : Table) (c n : ℕ) (up : List NsSlot) (levels : List ℕ) (pids : 
   gathers_room h = omega (arith, w.lists.count, ascending_few (pid_to (view t) c) (is_other (view t) c) i)
 
   -- u is the list with i put in
-  pub gathers_one : (k : ℕ) (b : Bool) (u m : ArrayVec ProcSlot) → i < process_slots → k ≡ pid_in pids i → b ≡ other_from (slot_in up) (level_in levels) n c i k (process t i) → b ≡ true
+  pub gathers_one : (k : ℕ) (b : Bool) (u m : Targets) → i < process_slots → k ≡ pid_in pids i → b ≡ other_from (slot_in up) (level_in levels) n c i k (process t i) → b ≡ true
       → array_vec_len u ≡ array_vec_len r + 1 → listed u ≡ insert (pid_in pids) i (listed r) → m ≡ u → Gathering t c n up levels pids m (i + 1)
   gathers_one k b u m h e q y x₀ x₁ z =
       let more : others_below (view t) c (suc i) ≡ insert (pid_to (view t) c) i (others_below (view t) c i) =
@@ -94,7 +93,7 @@ module _ (t : Table) (c n : ℕ) (up : List NsSlot) (levels : List ℕ) (pids : 
         };
       })
 
-  pub gathers_none : (k : ℕ) (b : Bool) (m : ArrayVec ProcSlot) → i < process_slots → k ≡ pid_in pids i → b ≡ other_from (slot_in up) (level_in levels) n c i k (process t i) → b ≡ false → m ≡ r
+  pub gathers_none : (k : ℕ) (b : Bool) (m : Targets) → i < process_slots → k ≡ pid_in pids i → b ≡ other_from (slot_in up) (level_in levels) n c i k (process t i) → b ≡ false → m ≡ r
       → Gathering t c n up levels pids m (i + 1)
   gathers_none k b m h e q y z =
       rw (add-one, z)

@@ -14,9 +14,7 @@ use Rattle.rules.specs.Sound.{SoundTable}
 use Rattle.table.specs.Limits.{signals}
 use Rattle.table.specs.declared.Table.{Table}
 use Rattle.delivery.specs.Delivery.{Delivers, DeliversAll}
-use Rattle.delivery.specs.Targets.{listed, Lists}
-use Rattle.arrayvec.specs.ArrayVec.{ArrayVec}
-use Rattle.table.specs.declared.ProcSlot.{ProcSlot}
+use Rattle.delivery.specs.Targets.{Targets, listed, Lists}
 
 -- u is the result of `deliver`
 pub kills_one : (t : Table) (from i s : ℕ) (u : Table) → SoundTable t → Delivers t from i s u → u ≡ deliver_all t from (i ∷ []) s
@@ -24,7 +22,7 @@ unfolding deliver_all
 kills_one t from i s u h e = e.as_defined (sane t h).facts
 
 -- r is the result of `others`, and u that of `deliver_all`; from is the caller's own namespace
-pub kills_others : (t : Table) (c from s k : ℕ) (r : ArrayVec ProcSlot) (u : Table) → s < signals → SoundTable t → from ≡ (view t).own c → Lists r (others (view t) c)
+pub kills_others : (t : Table) (c from s k : ℕ) (r : Targets) (u : Table) → s < signals → SoundTable t → from ≡ (view t).own c → Lists r (others (view t) c)
     → DeliversAll t from (listed r) s u → u ≡ deliver_all t from (targets (view t) c (negsuc k)) s
 unfolding targets
 kills_others t c from s k r u low h q l e =

@@ -21,11 +21,15 @@ pid_in pids i = (get_or pids i no_pid).0
 abbrev pub numbers : List ProcSlot → List ℕ
 numbers l = map (λ (x : ProcSlot). x.0) l
 
-abbrev pub listed : ArrayVec ProcSlot → List ℕ
+-- slots in an order
+abbrev pub Targets : Type 0
+Targets = ArrayVec ProcSlot
+
+abbrev pub listed : Targets → List ℕ
 listed r = numbers r.items
 
 -- it is this list
-pub record Lists (r : ArrayVec ProcSlot) (l : List ℕ) : Type 0 where
+pub record Lists (r : Targets) (l : List ℕ) : Type 0 where
   pub count : array_vec_len r ≡ length l
   pub list : listed r ≡ l
 

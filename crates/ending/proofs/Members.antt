@@ -21,9 +21,6 @@ use Rattle.ending.specs.Ending.{killed, falls_with, end_member_by, member_turn, 
 
 -- ---- small steps from what the code has
 
-pub says_same : {A : Type 0} (a b d : A) → a ≡ d → d ≡ b → a ≡ b
-says_same a b d p q = p ∙ q
-
 -- a table with one of its arrays changed
 pub namespaces_changed : (t u : Table) (l : List Namespace) → u.processes ≡ t.processes → u.namespaces ≡ l → ◌≡◌ {A = Table} u (record { processes = t.processes; namespaces = l })
 namespaces_changed t u l p q = ap₂ (λ a b. record { processes = a; namespaces = b }) p q
@@ -66,12 +63,17 @@ turn left n i t = when falls_with t.namespaces n i (process t i) then end_member
 
 -- r says whether the process at i falls
 module _ (left n i : ℕ) (t : Table) (r : Bool) (e : r ≡ falls_with t.namespaces n i (process t i)) where
-  -- u is the table after the turn, w the callee's result
-  pub turn_ends : (u w : Table) → r ≡ true → w ≡ end_member left t n i → u ≡ w → u ≡ turn left n i t
-  turn_ends u w q h k = k ∙ h ∙ sym (pick_yes (falls_with t.namespaces n i (process t i)) (end_member left t n i) t (sym e ∙ q))
+  -- l is the processes once the one that the test took is back, w the callee's result, u the table after the turn
+  module _ (l : List Process) (back : l ≡ t.processes) (u : Table) where
+    pub turn_ends : (w : Table) → r ≡ true → w ≡ end_member left (record { processes = l; namespaces = t.namespaces }) n i → u ≡ w → u ≡ turn left n i t
+    turn_ends w q h k =
+        k ∙ h ∙ ap (λ x. end_member left (record { processes = x; namespaces = t.namespaces }) n i) back
+        ∙ sym (pick_yes (falls_with t.namespaces n i (process t i)) (end_member left t n i) t (sym e ∙ q))
 
-  pub turn_passes : (u : Table) → r ≡ false → u ≡ t → u ≡ turn left n i t
-  turn_passes u q k = k ∙ sym (pick_no (falls_with t.namespaces n i (process t i)) (end_member left t n i) t (sym e ∙ q))
+    pub turn_passes : r ≡ false → ◌≡◌ {A = Table} u (record { processes = l; namespaces = t.namespaces }) → u ≡ turn left n i t
+    turn_passes q k =
+        k ∙ ap (λ x. record { processes = x; namespaces = t.namespaces }) back
+        ∙ sym (pick_no (falls_with t.namespaces n i (process t i)) (end_member left t n i) t (sym e ∙ q))
 
 pub namespace_is : (left : ℕ) (t : Table) (n : ℕ) → end_namespace left t n ≡ turns process_slots (turn left n) (marked_dead t n)
 unfolding end_namespace end_member member_turn

@@ -87,11 +87,14 @@ fn falls_with(
 ) -> bool
     ensures { result ≡ falls_with namespaces.now n.0 slot.0 p.now }
 {
+    if !p.is_taken() {
+        return false;
+    }
     if p.own == n {
-        return p.is_taken() && !p.has_ended();
+        return !p.has_ended();
     }
     let home = at(namespaces, p.own.0, empty_namespace());
-    p.is_taken() && home.parent == n && home.init() == slot
+    home.parent == n && home.init() == slot
 }
 
 // Ends the namespace n, with that many levels left below it: it is dead, and each process that falls with it ends.
