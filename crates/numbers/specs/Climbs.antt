@@ -1,13 +1,20 @@
--- The climbs of one search, by columns: the parents and the levels of the namespaces as lists of numbers.
-use Rattle.std.specs.Prelude.{ℕ, Bool, true, false, List, ◌≡◌, ltb, get_or}
+-- The climbs of one search: those of a tree to one namespace n.
+use Rattle.std.specs.Prelude.{ℕ, Bool, true, false, List, ◌≡◌, get_or}
 use Rattle.rules.specs.Read.{climb}
-use Rattle.table.specs.Limits.{namespace_slots}
-use Rattle.table.specs.Tests.{when◌then◌else◌}
+use Rattle.tree.specs.Tree as of_tree
+use Rattle.tree.specs.declared.Tree.{Tree}
 
--- what a column has at the slot of a namespace; past the last slot 0, as in an empty one
-unfoldable pub column_at : List ℕ → ℕ → ℕ
-column_at c n = when ltb n namespace_slots then get_or c n 0 else 0
+-- their tree's parents and levels
+abbrev pub up_in : Tree × ℕ → ℕ → ℕ
+up_in c = of_tree.slot_in c.0.parents
+
+abbrev pub level_in : Tree × ℕ → ℕ → ℕ
+level_in c = of_tree.level_in c.0.levels
+
+-- a is in the subtree of n, as `below` in a table says
+abbrev pub below_in : Tree × ℕ → ℕ → Bool
+below_in c a = climb (up_in c) (level_in c a) a c.1
 
 -- What is known of the climbs to n: from a namespace with a mark they come there, in as many steps as its level.
-pub record Known (up level : ℕ → ℕ) (n : ℕ) (known : List Bool) : Type 0 where
-  pub comes : (a : ℕ) → get_or known a false ≡ true → climb up (level a) a n ≡ true
+pub record Known (c : Tree × ℕ) (known : List Bool) : Type 0 where
+  pub comes : (a : ℕ) → get_or known a false ≡ true → below_in c a ≡ true

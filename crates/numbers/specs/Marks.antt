@@ -1,11 +1,12 @@
 -- The search by marks (W-202). It is given columns: the own namespace of each process, and its number in a namespace n,
 -- or 0. Of the m numbers above n's last, m marks say which are taken. The code has as many marks as there are process
 -- slots; the laws hold of any number of them.
-use Rattle.std.specs.Prelude.{ℕ, ◌+◌, ◌-◌, Bool, not, eqb, leb, ltb}
+use Rattle.std.specs.Prelude.{ℕ, suc, ◌+◌, ◌-◌, ◌<◌, ◌≤◌, ◌≡◌, Bool, not, Option, Some, None, eqb, leb, ltb, MatchOption}
 use Rattle.rules.specs.Read.{climb}
 use Rattle.table.specs.Limits.{process_slots, greatest_pid, restart_pid}
 use Rattle.table.specs.Slots.{pid_at}
 use Rattle.table.specs.Tests.{◌and◌, when◌then◌else◌, any, lowest}
+use Rattle.table.specs.declared.Pid.{Pid}
 use Rattle.table.specs.declared.Process.{Process}
 
 abbrev pub marks : ℕ
@@ -38,3 +39,14 @@ by_marks m f last =
 -- mark.
 unfoldable pub place_from : ℕ → ℕ → ℕ → Bool → ℕ
 place_from m last x seen = when ltb last x and ltb (x - last - 1) m and seen then x - last - 1 else m
+
+-- what a search gives, as these definitions number it: 0 where there is none
+abbrev pub pid_found : Option Pid → ℕ
+pid_found None = 0
+pid_found (Some p) = p.0
+
+-- the lowest number from `from` to g of which f holds, or none
+abbrev pub LowestUpTo : ℕ → (ℕ → Bool) → ℕ → Option Pid → Type 0
+LowestUpTo g f from r =
+    let x = lowest f (suc g - from) from in
+    MatchOption r (g < x) (λ p. (p.0 ≡ x) × (p.0 ≤ g))

@@ -1,106 +1,92 @@
-// Who is below a namespace, for one search: the climbs of `below`, by columns that are lent. An array of plain numbers
-// can be lent, and then no call copies it.
-ghost use Rattle.std.specs.Prelude.{true, false, ◌≡◌, eqb, ltb, get_or, set};
+// Who is below a namespace, for one search: the climbs of a tree to it, of which those that came there are remembered.
+ghost use Rattle.std.specs.Prelude.{true, ◌≡◌};
 ghost use Rattle.rules.specs.Read.{climb};
-ghost use Rattle.table.specs.Limits.{namespace_slots};
-ghost use Rattle.table.specs.Tests.{◌and◌, when◌then◌else◌};
-ghost use Rattle.numbers.specs.Climbs.{column_at, Known};
+ghost use Rattle.numbers.specs.Climbs.{up_in, below_in};
 
-use table::NAMESPACE_SLOTS;
+use std::marker::Model;
+use table::{NAMESPACE_SLOTS, NsSlot, at, set_at};
+use tree::Tree;
 
-// What a column has at a slot; past the last slot 0, as in an empty one.
-fn in_column(column: &[u8; NAMESPACE_SLOTS], slot: u8) -> u8
-    ensures { result ≡ column_at column.now slot }
-{
-    let k = slot as usize;
-    if k >= NAMESPACE_SLOTS {
-        return 0;
-    }
-    column[k]
+// The climbs of a tree to the namespace n. A namespace with a mark in `known` comes there, in as many steps as its
+// level, so that no two climbs go the same way. A contract sees the tree and n, and nothing of what is known.
+#[derive(Drop)]
+pub(crate) struct Climbs<'a> {
+    tree: &'a Tree,
+    n: NsSlot,
+    known: [bool; NAMESPACE_SLOTS],
 }
 
-// Whether a climb from a, with so many steps left, is known to come to n: a has its mark, and the steps are as many as
-// a's level. (In a sound table they are. In any other the mark says nothing about so many steps.)
-fn is_known(
-    levels: &[u8; NAMESPACE_SLOTS],
-    known: &[bool; NAMESPACE_SLOTS],
-    a: u8,
-    steps: u8,
-) -> bool
-    ensures { result ≡ ltb a namespace_slots and eqb (column_at levels.now a) steps and get_or known.now a false }
-{
-    let at = a as usize;
-    if at >= NAMESPACE_SLOTS {
-        return false;
-    }
-    let level = in_column(levels, a);
-    if level != steps {
-        return false;
-    }
-    known[at]
+impl<'a> Model for Climbs<'a> {
+    ghost use Rattle.std.specs.Prelude.{ℕ};
+    ghost use Rattle.tree.specs.declared.Tree.{Tree};
+    ghost use Rattle.numbers.specs.Climbs.{Known};
+
+    ghost Value = { Tree × ℕ };
+
+    ghost view = { λ c. (c.tree.now, c.n.0) };
+
+    ghost invariant = { λ c. Known (c.tree.now, c.n.0) c.known };
 }
 
-// Keeps it for later climbs.
-fn keep(levels: &[u8; NAMESPACE_SLOTS], known: &mut [bool; NAMESPACE_SLOTS], a: u8, steps: u8)
-    ensures { known.new ≡ (when ltb a namespace_slots and eqb (column_at levels.now a) steps then set known.old a true else known.old) }
-{
-    let k = a as usize;
-    if k < NAMESPACE_SLOTS {
-        let level = in_column(levels, a);
-        if level == steps {
-            known[k] = true;
+impl<'a> Climbs<'a> {
+    // Those to n. Nothing is known yet.
+    pub(crate) fn new(tree: &'a Tree, n: NsSlot) -> Climbs<'a>
+        ensures { result ≡ (tree.now, n.0) }
+    {
+        Climbs {
+            tree,
+            n,
+            known: [false; NAMESPACE_SLOTS],
         }
     }
-}
 
-// Whether the climb from a comes to n, in so many steps at most. The namespaces from which it does get a mark in
-// `known`, so that no two climbs to n go the same way.
-fn lies_below(
-    up: &[u8; NAMESPACE_SLOTS],
-    levels: &[u8; NAMESPACE_SLOTS],
-    known: &mut [bool; NAMESPACE_SLOTS],
-    n: u8,
-    a: u8,
-    steps: u8,
-) -> bool
-    requires { Known (column_at up.now) (column_at levels.now) n known.old }
-    ensures { (result ≡ climb (column_at up.now) steps a n) × Known (column_at up.now) (column_at levels.now) n known.new }
-{
-    if a == n {
-        return true;
+    // Whether a climb from a, with so many steps left, is known to come to n: a has its mark, and the steps are as many
+    // as a's level. (In a sound table they are. In any other the mark says nothing about so many steps.)
+    fn knows(&self, a: NsSlot, steps: u8) -> bool
+        ensures { result ≡ true → climb (up_in self.now) steps a.0 self.now.1 ≡ true }
+    {
+        self.tree.level(a) == steps && at(&self.known, a.0, false)
     }
-    if steps == 0 {
-        return false;
-    }
-    if is_known(levels, known, a, steps) {
-        return true;
-    }
-    let parent = in_column(up, a);
-    let found = lies_below(up, levels, known, n, parent, steps - 1);
-    if found {
-        keep(levels, known, a, steps);
-    }
-    found
-}
 
-// Whether a namespace is in the subtree of n, as `below` in a table says: the steps are as many as its level. Most are
-// n itself or known, and those need no call of the recursion.
-pub(crate) fn is_below(
-    up: &[u8; NAMESPACE_SLOTS],
-    levels: &[u8; NAMESPACE_SLOTS],
-    known: &mut [bool; NAMESPACE_SLOTS],
-    n: u8,
-    a: u8,
-) -> bool
-    requires { Known (column_at up.now) (column_at levels.now) n known.old }
-    ensures { (result ≡ climb (column_at up.now) (column_at levels.now a) a n) × Known (column_at up.now) (column_at levels.now) n known.new }
-{
-    if a == n {
-        return true;
+    // Keeps for later climbs that this one comes to n.
+    fn keep(&mut self, a: NsSlot, steps: u8)
+        requires { climb (up_in self.old) steps a.0 self.old.1 ≡ true }
+        ensures { self.new ≡ self.old }
+    {
+        if self.tree.level(a) == steps {
+            set_at(&mut self.known, a.0, true);
+        }
     }
-    let level = in_column(levels, a);
-    if is_known(levels, known, a, level) {
-        return true;
+
+    // Whether the climb from a comes to n, in so many steps at most.
+    fn comes(&mut self, a: NsSlot, steps: u8) -> bool
+        ensures answer { result ≡ climb (up_in self.old) steps a.0 self.old.1 }
+        ensures same { self.new ≡ self.old }
+    {
+        if a == self.n {
+            return true;
+        }
+        if steps == 0 {
+            return false;
+        }
+        if self.knows(a, steps) {
+            return true;
+        }
+        let parent = self.tree.parent(a);
+        let found = self.comes(parent, steps - 1);
+        if found {
+            self.keep(a, steps);
+        }
+        found
     }
-    lies_below(up, levels, known, n, a, level)
+
+    // Whether a namespace is in the subtree of n, as `below` in a table says: the steps are as many as its level. Most
+    // are n itself or known, and those need no call of the recursion.
+    pub(crate) fn is_below(&mut self, a: NsSlot) -> bool
+        ensures answer { result ≡ below_in self.old a.0 }
+        ensures same { self.new ≡ self.old }
+    {
+        let level = self.tree.level(a);
+        a == self.n || self.knows(a, level) || self.comes(a, level)
+    }
 }

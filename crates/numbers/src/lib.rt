@@ -1,221 +1,194 @@
 // "A number": the search for the next process number of a namespace.
-#![tactic(auto)]
+#![tactic(auto, using(table::proofs::Chains::chains))]
 
 mod climbs;
 
-ghost use Rattle.std.specs.Prelude.{false, not, ◌≡◌, suc, ◌-◌, get_or};
-ghost use Rattle.table.specs.Limits.{greatest_pid};
-ghost use Rattle.table.specs.Tests.{lowest};
-ghost use Rattle.tree.specs.Tree.{level_in};
-ghost use Rattle.numbers.specs.Climbs.{column_at, Known};
-ghost use Rattle.numbers.specs.Marks.{marks as count, held_pid as held_at, unheld, first_of, by_marks, place_from};
+ghost use Rattle.std.specs.Prelude.{false, not, ◌≡◌, ◌<◌, get_or, IfSome, unwrap_or};
+ghost use Rattle.table.specs.Limits.{process_slots, greatest_pid};
+ghost use Rattle.table.specs.Slots.{no_process};
+ghost use Rattle.table.specs.Tests.{any, lowest};
+ghost use Rattle.tree.specs.Tree.{slot_in, level_in, named_from};
+ghost use Rattle.numbers.specs.Climbs.{below_in};
+ghost use Rattle.numbers.specs.Holders.{own_in, pid_in, unheld_in};
+ghost use Rattle.numbers.specs.Marks.{marks as count, held_pid as held_at, first_of, by_marks, place_from, pid_found, LowestUpTo};
 ghost use Rattle.rules.specs.Pids.{free_pid, next_pid};
-ghost use Rattle.rules.specs.Read.{view, climb};
+ghost use Rattle.rules.specs.Read.{view};
 
-use climbs::is_below;
-use table::{
-    GREATEST_PID, NAMESPACE_SLOTS, NsSlot, PROCESS_SLOTS, Pid, Process, RESTART_PID, Table,
-    empty_namespace,
-};
-use tree::{is_named, level_of, levels, parents, ups};
+use climbs::Climbs;
+use table::{GREATEST_PID, NsSlot, PROCESS_SLOTS, Pid, Process, RESTART_PID, Table};
+use tree::Tree;
 
 // ---- one candidate after the other
 
-// The lowest number from `from` to GREATEST_PID that nobody seen from n has there. Where there is none, a number past
-// GREATEST_PID.
-fn free_from(t: Table, n: NsSlot, from: Pid) -> Pid
-    ensures { result.0 ≡ lowest (free_pid (view t) n.0) (suc greatest_pid - from.0) from.0 }
+// Whether nobody that a tree shows from n has a number there.
+fn is_free(tree: &Tree, processes: &[Process; PROCESS_SLOTS], n: NsSlot, pid: Pid) -> bool
+    ensures { result ≡ not (any process_slots (λ i. named_from (slot_in tree.now.parents) (level_in tree.now.levels) n.0 (level_in tree.now.levels n.0) pid.0 (get_or processes.now i no_process))) }
 {
-    let namespaces = t.namespaces;
-    let up = ups(namespaces);
-    let levels = levels(namespaces);
-    let level = level_of(levels, n);
-    let mut candidate = from.0;
-    let found = 'candidates: loop {
-        if GREATEST_PID < candidate {
-            break candidate;
-        }
-        let mut i: usize = 0;
-        while i < PROCESS_SLOTS {
-            let p = t.processes[i];
-            if is_named(up, levels, n, level, Pid(candidate), p) {
-                candidate += 1;
-                continue 'candidates;
-            }
-            i += 1;
-        }
-        break candidate;
-    };
-    Pid(found)
+    let level = tree.level(n);
+    !processes.iter().any(|p| tree.names(n, level, pid, p))
 }
 
-// The lowest free number above n's last, or else the lowest free from RESTART_PID.
-fn one_by_one(t: Table, n: NsSlot) -> Pid
-    ensures { result.0 ≡ next_pid (view t) n.0 }
+// The lowest number from `from` to GREATEST_PID that nobody seen from n has there.
+fn free_from(t: &Table, n: NsSlot, from: Pid) -> Option<Pid>
+    ensures { LowestUpTo greatest_pid (free_pid (view t.now) n.0) from.0 result }
 {
-    let namespace = t.namespace(n);
-    let last = namespace.last.0;
+    let tree = Tree::of(&t.namespaces);
+    for candidate in from.0..GREATEST_PID + 1 {
+        let free = is_free(&tree, &t.processes, n, Pid(candidate));
+        if free {
+            return Some(Pid(candidate));
+        }
+    }
+    None
+}
+
+// The lowest free number above n's last, or else the lowest free from RESTART_PID: there always is one.
+fn one_by_one(t: &Table, n: NsSlot) -> Pid
+    ensures { result.0 ≡ next_pid (view t.now) n.0 }
+{
+    let last = t.namespace(n).last.0;
     // A last number past the greatest has none above it, and the sum could wrap.
     if last < GREATEST_PID {
-        let above = free_from(t, n, Pid(last + 1));
-        if above.0 <= GREATEST_PID {
+        if let Some(above) = free_from(t, n, Pid(last + 1)) {
             return above;
         }
     }
-    free_from(t, n, Pid(RESTART_PID))
+    free_from(t, n, Pid(RESTART_PID)).unwrap()
 }
 
-// ---- by marks (W-202): one pass over columns tells of MARKS numbers at once which are taken
+// ---- by marks (W-202): one pass over the holders of numbers tells of MARKS numbers at once which are taken
 
 // As many as there are processes: so they run out only where every process has one of them.
 const MARKS: usize = PROCESS_SLOTS;
 
-// The place of the mark that a process makes in n: that of its number among the MARKS numbers above `last`. It has
-// none, which is MARKS, where the number is not one of them or the process is not seen. The climb comes last, since it
-// takes longest; `known` is what earlier climbs to n have found out.
-fn place_above(
-    up: &[u8; NAMESPACE_SLOTS],
-    levels: &[u8; NAMESPACE_SLOTS],
-    known: &mut [bool; NAMESPACE_SLOTS],
-    n: u8,
-    last: u16,
-    own: u8,
-    pid: u16,
-) -> usize
-    requires { Known (column_at up.now) (column_at levels.now) n known.old }
-    ensures { (result ≡ place_from count last pid (climb (column_at up.now) (column_at levels.now own) own n)) × Known (column_at up.now) (column_at levels.now) n known.new }
+// What a search in a namespace needs of a process: its own namespace, and its number at that namespace's level. A pid
+// of 0 stands for no number.
+#[derive(Clone, Copy)]
+pub struct Holder {
+    pub own: NsSlot,
+    pub pid: Pid,
+}
+
+// The number of a process at a level; of an empty slot none, whatever its record says.
+pub fn held_pid(p: &Process, level: u8) -> Pid
+    ensures { result.0 ≡ held_at p.now level }
 {
-    if pid <= last {
-        return MARKS;
+    if !p.is_taken() {
+        return Pid(0); // nobody is there
     }
-    let place = (pid - last - 1) as usize;
+    p.pid_at(level)
+}
+
+// The processes as holders of numbers at a level.
+pub fn holders(processes: &[Process; PROCESS_SLOTS], level: u8) -> [Holder; PROCESS_SLOTS]
+    ensures own { own_in result ≡ (λ i. (get_or processes.now i no_process).own.0) }
+    ensures pid { pid_in result ≡ (λ i. held_at (get_or processes.now i no_process) level) }
+{
+    let nobody = Holder {
+        own: NsSlot(0),
+        pid: Pid(0),
+    };
+    let mut all = [nobody; PROCESS_SLOTS];
+    for (i, p) in processes.iter().enumerate() {
+        all[i] = Holder {
+            own: p.own,
+            pid: held_pid(p, level),
+        };
+    }
+    all
+}
+
+// The place of the mark that a holder makes: that of its number among the MARKS numbers above `last`. It makes none
+// where the number is not one of them or the holder is not seen. The climb comes last, since it takes longest.
+fn place_above(climbs: &mut Climbs, last: Pid, holder: &Holder) -> Option<usize>
+    ensures place { unwrap_or result count ≡ place_from count last.0 holder.now.pid.0 (below_in climbs.old holder.now.own.0) }
+    ensures within { IfSome result (λ k. k < count) }
+    ensures same { climbs.new ≡ climbs.old }
+{
+    if holder.pid.0 <= last.0 {
+        return None;
+    }
+    let place = (holder.pid.0 - last.0 - 1) as usize;
     if place >= MARKS {
-        return MARKS;
+        return None;
     }
-    if !is_below(up, levels, known, n, own) {
-        return MARKS;
+    let seen = climbs.is_below(holder.own);
+    if !seen {
+        return None;
     }
-    place
+    Some(place)
 }
 
-// The first place without a mark, or MARKS.
-fn first_unmarked(marks: &[bool; MARKS]) -> usize
-    ensures { result ≡ lowest (λ k. not (get_or marks.now k false)) count 0 }
+// The first place without a mark.
+fn first_unmarked(marks: &[bool; MARKS]) -> Option<usize>
+    ensures place { unwrap_or result count ≡ lowest (λ k. not (get_or marks.now k false)) count 0 }
+    ensures within { IfSome result (λ k. k < count) }
 {
-    let mut k: usize = 0;
-    while k < MARKS {
-        if !marks[k] {
-            return k;
-        }
-        k += 1;
-    }
-    MARKS
+    marks.iter().position(|marked| !*marked)
 }
 
-// The lowest of the MARKS numbers above `last` that nobody has in n, up to GREATEST_PID; 0 where there is none.
+// The lowest of the MARKS numbers above `last` that nobody has in the namespace of the climbs, up to GREATEST_PID.
 fn unheld_above(
-    up: &[u8; NAMESPACE_SLOTS],
-    levels: &[u8; NAMESPACE_SLOTS],
-    known: &mut [bool; NAMESPACE_SLOTS],
-    owns: &[u8; PROCESS_SLOTS],
-    pids: &[u16; PROCESS_SLOTS],
-    n: u8,
-    last: u16,
-) -> Pid
-    requires { Known (column_at up.now) (column_at levels.now) n known.old }
-    ensures { (result.0 ≡ first_of count (unheld (column_at up.now) (column_at levels.now) (level_in owns.now) (level_in pids.now) n) last) × Known (column_at up.now) (column_at levels.now) n known.new }
+    climbs: &mut Climbs,
+    holders: &[Holder; PROCESS_SLOTS],
+    last: Pid,
+) -> Option<Pid>
+    ensures pid { pid_found result ≡ first_of count (unheld_in climbs.old holders.now) last.0 }
+    ensures some { IfSome result (λ p. 0 < p.0) }
+    ensures same { climbs.new ≡ climbs.old }
 {
     // A last number past the greatest has none above it, and the sum could wrap.
-    if GREATEST_PID <= last {
-        return Pid(0);
+    if GREATEST_PID <= last.0 {
+        return None;
     }
     let mut marks = [false; MARKS];
-    let mut row: usize = 0;
-    while row < PROCESS_SLOTS {
-        let place = place_above(up, levels, known, n, last, owns[row], pids[row]);
-        if place < MARKS {
+    for holder in holders {
+        if let Some(place) = place_above(climbs, last, holder) {
             marks[place] = true;
         }
-        row += 1;
     }
-    let place = first_unmarked(&marks);
-    if place >= MARKS {
-        return Pid(0);
-    }
-    let number = last + 1 + place as u16;
+    let place = first_unmarked(&marks)?;
+    let number = last.0 + 1 + place as u16;
     if GREATEST_PID < number {
-        return Pid(0);
+        return None;
     }
-    Pid(number)
+    Some(Pid(number))
 }
 
 // The number by marks: the lowest free one above `last`, or else, where the marks reached to GREATEST_PID, the lowest
-// free from RESTART_PID. Where the marks run out it is 0. The columns are the parents and levels of the namespaces, and
-// of each process its own namespace and its number in n.
+// free from RESTART_PID; none where the marks run out. The holders are at the level of n.
 pub fn pid_by_marks(
-    up: &[u8; NAMESPACE_SLOTS],
-    levels: &[u8; NAMESPACE_SLOTS],
-    owns: &[u8; PROCESS_SLOTS],
-    pids: &[u16; PROCESS_SLOTS],
+    tree: &Tree,
+    holders: &[Holder; PROCESS_SLOTS],
     n: NsSlot,
-    last: u16,
-) -> Pid
-    ensures { result.0 ≡ by_marks count (unheld (column_at up.now) (column_at levels.now) (level_in owns.now) (level_in pids.now) n.0) last }
+    last: Pid,
+) -> Option<Pid>
+    ensures pid { pid_found result ≡ by_marks count (unheld_in (tree.now, n.0) holders.now) last.0 }
+    ensures some { IfSome result (λ p. 0 < p.0) }
 {
-    let mut known = [false; NAMESPACE_SLOTS];
-    let above = unheld_above(up, levels, &mut known, owns, pids, n.0, last);
-    if above.0 != 0 {
+    let mut climbs = Climbs::new(tree, n);
+    let above = unheld_above(&mut climbs, holders, last);
+    if above.is_some() {
         return above;
     }
-    if GREATEST_PID - MARKS as u16 <= last {
-        return unheld_above(up, levels, &mut known, owns, pids, n.0, RESTART_PID - 1);
+    if GREATEST_PID - MARKS as u16 <= last.0 {
+        return unheld_above(&mut climbs, holders, Pid(RESTART_PID - 1));
     }
-    Pid(0) // the marks ran out
-}
-
-// The number of a process at a level; of an empty slot none, which is 0, whatever its record says. In the root that is
-// the number by which a slot is taken, and at another level the record is copied for it.
-pub fn held_pid(p: Process, level: u8) -> u16
-    ensures { result ≡ held_at p level }
-{
-    let root = p.pids[0].0;
-    if level == 0 {
-        return root;
-    }
-    if root == 0 {
-        return 0; // nobody is there
-    }
-    p.pid_at(level).0
+    None // the marks ran out
 }
 
 // ---- the number
 
 // The number of a new process in n: the lowest free one above its last, or else the lowest free from RESTART_PID. It is
 // searched for by marks, and where these run out one by one.
-pub fn next_pid(t: Table, n: NsSlot) -> Pid
-    ensures { result.0 ≡ next_pid (view t) n.0 }
+pub fn next_pid(t: &Table, n: NsSlot) -> Pid
+    ensures { result.0 ≡ next_pid (view t.now) n.0 }
 {
-    let namespaces = t.namespaces;
-    let up = parents(namespaces);
-    let levels = levels(namespaces);
-    // Read in place: a call would copy the table.
-    let mut here = empty_namespace();
-    let at = n.0 as usize;
-    if at < NAMESPACE_SLOTS {
-        here = namespaces[at];
+    let here = t.namespace(n);
+    let tree = Tree::of(&t.namespaces);
+    let holders = holders(&t.processes, here.level);
+    match pid_by_marks(&tree, &holders, n, here.last) {
+        Some(found) => found,
+        None => one_by_one(t, n),
     }
-    let mut owns = [0u8; PROCESS_SLOTS];
-    let mut pids = [0u16; PROCESS_SLOTS];
-    let mut slot: usize = 0;
-    while slot < PROCESS_SLOTS {
-        let p = t.processes[slot];
-        owns[slot] = p.own.0;
-        pids[slot] = held_pid(p, here.level);
-        slot += 1;
-    }
-    let found = pid_by_marks(&up, &levels, &owns, &pids, n, here.last.0);
-    if found.0 != 0 {
-        return found;
-    }
-    one_by_one(t, n)
 }

@@ -1,14 +1,8 @@
 -- `next_pid` gives what the marks find, or what the search one by one does.
-use Rattle.numbers.proofs.Columns.{gathering, namespace_past, columns, marks_give_next}
+use Rattle.numbers.proofs.Columns.{marks_give_next}
 use Rattle.numbers.proofs.next_pid.Goals as goal
-use Rattle.numbers.proofs.next_pid.Goals.{else-at-lt-NAMESPACE_SLOTS, then-at-lt-NAMESPACE_SLOTS}
 
-pub loop-slot-init : goal.loop-slot-init
-loop-slot-init c = search gathering
-
-pub loop-slot-preserved : goal.loop-slot-preserved
-loop-slot-preserved c = search gathering
-
-pub returns-then-found-ne0 : goal.returns-then-found-ne0
-returns-then-found-ne0 c =
-    elim c.if-at-lt-NAMESPACE_SLOTS.branch [ then-at-lt-NAMESPACE_SLOTS w ↦ search (marks_give_next, columns) | else-at-lt-NAMESPACE_SLOTS w ↦ search (marks_give_next, columns, namespace_past) ]
+pub returns-in-Some : goal.returns-in-Some
+returns-in-Some c =
+    marks_give_next c.args.t.now _ _ c.of-tree.result c.holders-holders.result _ _ c.in-Some.ensures.pid c.in-Some.ensures.some
+    (record { here = c.namespace-here.ensures; ups = c.of-tree.ensures.parents; depths = c.of-tree.ensures.levels; own = c.holders-holders.ensures.own; held = c.holders-holders.ensures.pid })
