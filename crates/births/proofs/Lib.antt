@@ -1,5 +1,4 @@
 -- Laws that belong to no one function.
-pub mod Parts
 pub mod Walk
 -- For those who call it.
 pub mod Given

@@ -183,8 +183,6 @@ module _ (t : Table) (child n left at : ℕ) (ps : List Pid) (ns : List Namespac
         joins = w.joins ∙ ap (λ k. joins_on (view t) child k at ns) z ∙ sym (ap₂ (joins_on (view t) child (left - 1)) f r');
       }
 
-pub ruleset walks = (walk_starts, walk_goes_on)
-
 -- o is the parent's record, x the child's traits, p its record, and u the table with it
 pub walk_done : (t u : Table) (child caller n left at : ℕ) (ps : List Pid) (ns : List Namespace) (o p : Process) (x : Traits) → Walking t child n left at ps ns → left ≤ 0 → length t.namespaces ≡ namespace_slots → o ≡ get_or t.processes caller empty_process → x ≡ born_traits o.traits → p ≡ child_with caller n x ps → u ≡ put t child p → record { processes = u.processes; namespaces = ns } ≡ birth_at t child caller n
 unfolding birth_at newborn numbers_on joins_on
