@@ -1,19 +1,17 @@
 -- What is known of the climbs c: read, and kept.
 use Prim.Native.Nat.{ℕ, ◌<◌, ◌-◌}
-use native.Mathlib.Decide.{dec_lt, ℕ_discrete}
+use native.Mathlib.Decide.{dec_lt}
 use native.Mathlib.Omega.{arith}
-use mathlib.Core.Bool.{Bool, true, false, false≢true}
-use mathlib.Core.List.{List}
+use mathlib.Core.Bool.{Bool, false, false≢true}
 use mathlib.Core.Path.{◌≡◌, sym, subst, ◌∙◌}
 use lib.Dec.{eqb}
-use lib.ListN.{get_or, set, replicate, length-replicate, get_or-replicate}
-use lib.Seq.{get_or-set_other}
+use lib.ListN.{get_or, replicate, length-replicate, get_or-replicate}
 use Rattle.rules.specs.Read.{climb}
 use Rattle.table.proofs.Slots.{array_past}
 use Rattle.table.specs.Limits.{namespace_slots}
 use Rattle.tree.proofs.Climbs.{climb_on}
 use Rattle.tree.specs.declared.Tree.{Tree}
-use Rattle.numbers.specs.Climbs.{up_in, level_in, Known}
+use Rattle.numbers.specs.Climbs.{up_in, Known}
 
 module _ (c : Tree × ℕ) where
   pub nothing_known : Known c (replicate namespace_slots false)

@@ -128,11 +128,7 @@ fn first_unmarked(marks: &[bool; MARKS]) -> Option<usize>
 }
 
 // The lowest of the MARKS numbers above `last` that nobody has in the namespace of the climbs, up to GREATEST_PID.
-fn unheld_above(
-    climbs: &mut Climbs,
-    holders: &[Holder; PROCESS_SLOTS],
-    last: Pid,
-) -> Option<Pid>
+fn unheld_above(climbs: &mut Climbs, holders: &[Holder; PROCESS_SLOTS], last: Pid) -> Option<Pid>
     ensures pid { pid_found result ≡ first_of count (unheld_in climbs.old holders.now) last.0 }
     ensures some { IfSome result (λ p. 0 < p.0) }
     ensures same { climbs.new ≡ climbs.old }
