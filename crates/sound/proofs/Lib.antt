@@ -1,6 +1,6 @@
-pub mod Rows
+pub mod EachRow
+pub mod Places
 pub mod Masks
-pub mod Ranges
 pub mod Marks
 pub mod Reaches
 pub mod Records

@@ -3,7 +3,7 @@ use Prim.Native.Nat.{ℕ, zero, suc, ◌/◌, ◌%◌, ◌^◌, ◌<◌, min}
 use native.Mathlib.Decide.{ℕ_discrete}
 use native.Mathlib.Nat.{min-eq_left, min-zero, zero-min, min-le_left}
 use native.Mathlib.Omega.{arith}
-use mathlib.Core.Bool.{false, not, So, false≢true}
+use mathlib.Core.Bool.{not, So, false≢true}
 use mathlib.Core.Path.{◌≡◌, refl, sym, ap, ◌∙◌}
 use borrow.Author.Tests.{eq-eqb, ne_eqb, eqb-true}
 use lib.Bits.{bit_and, and_step, and_zero_l}
@@ -89,9 +89,9 @@ module _ (x : Traits) (hl : x.handled < 2 ^ signals) (ql : x.pending < 2 ^ signa
   unfolding traits_ok handled_ok pending_ok
   says t = simp tests at t
 
-  -- the first test fails, or the second is what is returned
-  pub traits_fail : (bit_and h catchable ≡ h → ⊥) → false ≡ traits_ok x
-  traits_fail o = by_bool (traits_ok x) (λ t. absurd (o (masked (says t).0))) (λ f. sym f)
+  -- the first test fails, and is what is returned, or the second is
+  pub traits_fail : (bit_and h catchable ≡ h → ⊥) → eqb (bit_and h catchable) h ≡ traits_ok x
+  traits_fail o = ne_eqb _ h o ∙ by_bool (traits_ok x) (λ t. absurd (o (masked (says t).0))) (λ f. sym f)
 
   pub traits_last : bit_and h catchable ≡ h → eqb (bit_and q h) q ≡ traits_ok x
   unfolding traits_ok handled_ok pending_ok

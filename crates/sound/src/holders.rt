@@ -3,57 +3,43 @@ ghost use Rattle.std.specs.Prelude.{◌≡◌};
 ghost use Rattle.table.proofs.MarkLoops.{Marks};
 ghost use Rattle.table.specs.Limits.{namespace_slots};
 ghost use Rattle.rules.specs.Read.{view};
-ghost use Rattle.sound.specs.Quick.{process_row, namespace_row, mark_namespace, held_by_processes, held_by_children, key_in, unborn_key, unborn_keys};
+ghost use Rattle.sound.specs.Quick.{process_row, namespace_row, mark_namespace, held_by_processes, held_by_children, key_in, unborn_key, unborn_keys, differ};
 
-use table::{NAMESPACE_SLOTS, Namespace, NsSlot, PROCESS_SLOTS, Process, Table, empty_namespace};
-use tree::{holds_namespace, mark, mark_process};
+use super::columns::column;
+use super::numbers::all_differ;
+use table::{NAMESPACE_SLOTS, Namespace, NsSlot, PROCESS_SLOTS, Process, Table, set_at};
+use tree::{holds_namespace, mark_process};
 
 // ---- which namespaces something holds
 
 // A namespace but the root holds its parent.
-fn mark_namespace(
-    marks: [bool; NAMESPACE_SLOTS],
-    n: NsSlot,
-    s: Namespace,
-) -> [bool; NAMESPACE_SLOTS]
-    ensures { result ≡ mark_namespace marks n.0 (namespace_row n.0 s) }
+fn mark_namespace(marks: &mut [bool; NAMESPACE_SLOTS], n: NsSlot, s: &Namespace)
+    ensures { marks.new ≡ mark_namespace marks.old n.0 (namespace_row n.0 s.now) }
 {
-    if n.0 == 0 {
-        return marks;
+    if n.0 != 0 && holds_namespace(n, s) {
+        set_at(marks, s.parent.0, true);
     }
-    if !holds_namespace(n, s) {
-        return marks;
-    }
-    let up = s.parent;
-    mark(marks, up)
 }
 
 // The root, and what the processes hold.
-pub(crate) fn held_by_processes(t: Table) -> [bool; NAMESPACE_SLOTS]
-    ensures { Marks namespace_slots result (held_by_processes (view t)) }
+pub(crate) fn held_by_processes(t: &Table) -> [bool; NAMESPACE_SLOTS]
+    ensures { Marks namespace_slots result (held_by_processes (view t.now)) }
 {
     let mut marks = [false; NAMESPACE_SLOTS];
     marks[0] = true;
-    let mut i: usize = 0;
-    while i < PROCESS_SLOTS {
-        let p = t.processes[i];
-        marks = mark_process(marks, p);
-        i += 1;
+    for p in &t.processes {
+        mark_process(&mut marks, p);
     }
     marks
 }
 
 // What the namespaces hold.
-pub(crate) fn held_by_children(namespaces: [Namespace; NAMESPACE_SLOTS]) -> [bool; NAMESPACE_SLOTS]
-    ensures { Marks namespace_slots result (held_by_children namespaces) }
+pub(crate) fn held_by_children(namespaces: &[Namespace; NAMESPACE_SLOTS]) -> [bool; NAMESPACE_SLOTS]
+    ensures { Marks namespace_slots result (held_by_children namespaces.now) }
 {
     let mut marks = [false; NAMESPACE_SLOTS];
-    let mut n: usize = 0;
-    while n < NAMESPACE_SLOTS {
-        let s = namespaces[n];
-        let next = mark_namespace(marks, NsSlot(n as u8), s);
-        marks = next;
-        n += 1;
+    for (n, s) in namespaces.iter().enumerate() {
+        mark_namespace(&mut marks, NsSlot(n as u8), s);
     }
     marks
 }
@@ -61,38 +47,27 @@ pub(crate) fn held_by_children(namespaces: [Namespace; NAMESPACE_SLOTS]) -> [boo
 // ---- who holds an unborn one
 
 // The unborn namespace that a process holds, or 0.
-fn unborn_key(p: Process, inner: Namespace) -> u32
-    ensures { result ≡ unborn_key (process_row p) (namespace_row p.children.0 inner) }
+#[tactic(auto, using(table::proofs::Chains::chains), unfolding(crate::specs::Quick::unborn_key))]
+fn unborn_key(p: &Process, inner: &Namespace) -> u32
+    ensures { result ≡ unborn_key (process_row p.now) (namespace_row p.now.children.0 inner.now) }
 {
-    let children = p.children;
-    if !p.is_taken() {
-        return 0;
+    if p.is_taken() && holds_namespace(p.children, inner) && inner.is_unborn() {
+        p.children.0 as u32
+    } else {
+        0
     }
-    if !holds_namespace(children, inner) {
-        return 0;
-    }
-    if !inner.is_unborn() {
-        return 0;
-    }
-    children.0 as u32
 }
 
-// The unborn namespaces that processes hold, each of which has one holder.
-pub(crate) fn unborn_keys(t: Table) -> [u32; PROCESS_SLOTS]
-    ensures { key_in result ≡ unborn_keys (view t) }
+// The unborn namespaces that processes hold.
+fn unborn_keys(t: &Table) -> [u32; PROCESS_SLOTS]
+    ensures { key_in result ≡ unborn_keys (view t.now) }
 {
-    let mut keys = [0u32; PROCESS_SLOTS];
-    let mut i: usize = 0;
-    while i < PROCESS_SLOTS {
-        let p = t.processes[i];
-        let children = p.children.0 as usize;
-        let inner = if children < NAMESPACE_SLOTS {
-            t.namespaces[children]
-        } else {
-            empty_namespace()
-        };
-        keys[i] = unborn_key(p, inner);
-        i += 1;
-    }
-    keys
+    column(&t.processes, 0, |p| unborn_key(p, &t.namespace(p.children)))
+}
+
+// Each unborn namespace has one holder.
+pub(crate) fn holders_differ(t: &Table) -> bool
+    ensures { result ≡ differ (unborn_keys (view t.now)) }
+{
+    all_differ(&unborn_keys(t))
 }

@@ -1,168 +1,143 @@
 // A namespace by itself and with its parent and its init.
 ghost use Rattle.std.specs.Prelude.{◌≡◌, suc, eqb};
-ghost use Rattle.table.specs.Slots.{is_unborn, is_dead};
+ghost use Rattle.table.specs.Slots.{namespace, is_unborn, is_dead, init_of};
 ghost use Rattle.rules.specs.Read.{view};
 ghost use Rattle.table.specs.Tests.{◌implies◌, agree};
-ghost use Rattle.sound.specs.Quick.{process_row, namespace_row, init_ok, life_ok, place_ok, filled_ok, namespace_ok, namespaces_ok};
+ghost use Rattle.sound.specs.Quick.{process_row, process_at, namespace_row, init_ok, life_ok, place_ok, filled_ok, namespace_ok, namespaces_ok};
 
 use super::holders::{held_by_children, held_by_processes};
-use table::{
-    DEEPEST, GREATEST_PID, NAMESPACE_SLOTS, Namespace, NsSlot, PROCESS_SLOTS, Process, Table,
-    empty_namespace, empty_process,
-};
+use table::{DEEPEST, GREATEST_PID, Namespace, NsSlot, Process, Table};
 use tree::{holds_namespace, is_blank_namespace};
 
-// ---- its condition
-
-// The init of a living namespace belongs to it, has not ended and has number 1 there. What the first two tests ask is
-// found before them: where the first refuses, the second was found for nothing. The order is the definition's.
-fn init_ok(n: NsSlot, s: Namespace, init: Process) -> bool
-    ensures { result ≡ init_ok n.0 (namespace_row n.0 s) (process_row init) }
-{
-    let missing = !init.is_taken();
-    let ended = init.has_ended();
-    if missing {
-        return false;
-    }
-    if ended {
-        return false;
-    }
-    if init.own.0 != n.0 {
-        return false;
-    }
-    let pid = init.pid_at(s.level);
-    pid.0 == 1
+// A namespace slot with what stands there, and the records that its namespace names: its parent and its init.
+#[derive(Drop)]
+struct Place {
+    slot: NsSlot,
+    namespace: Namespace,
+    above: Namespace,
+    init: Process,
 }
 
-// An unborn namespace has given no number.
-fn unborn_ok(s: Namespace) -> bool
-    ensures { result ≡ (is_unborn s.life implies eqb s.last.0 0) }
-{
-    if s.is_unborn() {
-        return s.last.0 == 0;
+impl Place {
+    // That of a table.
+    #[tactic(auto, using(crate::proofs::Records::row_at))]
+    fn of(t: &Table, slot: NsSlot, s: Namespace) -> Place
+        ensures slot { result.slot ≡ slot }
+        ensures namespace { result.namespace ≡ s }
+        ensures above { result.above ≡ namespace t.now s.parent.0 }
+        ensures init { process_row result.init ≡ process_at (view t.now) (init_of s.life) }
+    {
+        Place {
+            slot,
+            namespace: s,
+            above: t.namespace(s.parent),
+            init: t.process(s.init()),
+        }
     }
-    true
-}
 
-// A namespace by its condition. A dead one is held to nothing here.
-fn life_ok(n: NsSlot, s: Namespace, init: Process) -> bool
-    ensures { result ≡ life_ok n.0 (namespace_row n.0 s) (process_row init) }
-{
-    if s.is_alive() {
-        return init_ok(n, s, init);
-    }
-    unborn_ok(s)
-}
+    // ---- its condition
 
-// ---- its place
+    // The init of a living namespace belongs to it, has not ended and has number 1 there.
+    #[tactic(auto, using(table::proofs::Chains::chains), unfolding(crate::specs::Quick::init_ok))]
+    fn init_ok(&self) -> bool
+        ensures { result ≡ init_ok self.now.slot.0 (namespace_row self.now.slot.0 self.now.namespace) (process_row self.now.init) }
+    {
+        self.init.is_taken()
+            && !self.init.has_ended()
+            && self.init.own == self.slot
+            && self.init.pid_at(self.namespace.level).0 == 1
+    }
 
-// Whether a level is one more than another.
-fn one_down(level: u8, above: u8) -> bool
-    ensures { result ≡ eqb level (suc above) }
-{
-    level as u16 == above as u16 + 1
-}
+    // An unborn namespace has given no number.
+    fn unborn_ok(&self) -> bool
+        ensures { result ≡ (is_unborn self.now.namespace.life implies eqb self.now.namespace.last.0 0) }
+    {
+        !self.namespace.is_unborn() || self.namespace.last.0 == 0
+    }
 
-// What is below a dead namespace is dead.
-fn dead_ok(s: Namespace, above: Namespace) -> bool
-    ensures { result ≡ (is_dead above.life implies is_dead s.life) }
-{
-    if above.is_dead() {
-        return s.is_dead();
+    // A namespace by its condition. A dead one is held to nothing here.
+    #[tactic(auto, using(table::proofs::Chains::chains), unfolding(crate::specs::Quick::life_ok))]
+    fn life_ok(&self) -> bool
+        ensures { result ≡ life_ok self.now.slot.0 (namespace_row self.now.slot.0 self.now.namespace) (process_row self.now.init) }
+    {
+        if self.namespace.is_alive() {
+            self.init_ok()
+        } else {
+            self.unborn_ok()
+        }
     }
-    true
-}
 
-// The place of a namespace below its parent.
-fn place_ok(n: NsSlot, s: Namespace, above: Namespace) -> bool
-    ensures { result ≡ place_ok (namespace_row n.0 s) (namespace_row s.parent.0 above) }
-{
-    let up = s.parent;
-    if !holds_namespace(up, above) {
-        return false;
-    }
-    if !one_down(s.level, above.level) {
-        return false;
-    }
-    if s.level > DEEPEST {
-        return false;
-    }
-    if above.is_unborn() {
-        return false;
-    }
-    dead_ok(s, above)
-}
+    // ---- its place below its parent
 
-// ---- a slot
+    // It is one level down.
+    fn is_one_down(&self) -> bool
+        ensures { result ≡ eqb self.now.namespace.level (suc self.now.above.level) }
+    {
+        self.namespace.level as u16 == self.above.level as u16 + 1
+    }
 
-// A namespace slot, with the parent of its namespace and its init.
-fn filled_ok(n: NsSlot, s: Namespace, above: Namespace, init: Process) -> bool
-    ensures { result ≡ filled_ok n.0 (namespace_row n.0 s) (namespace_row s.parent.0 above) (process_row init) }
-{
-    if !holds_namespace(n, s) {
-        return is_blank_namespace(s);
+    // What is below a dead namespace is dead.
+    fn dead_ok(&self) -> bool
+        ensures { result ≡ (is_dead self.now.above.life implies is_dead self.now.namespace.life) }
+    {
+        !self.above.is_dead() || self.namespace.is_dead()
     }
-    if !life_ok(n, s, init) {
-        return false;
-    }
-    if n.0 == 0 {
-        return true;
-    }
-    place_ok(n, s, above)
-}
 
-// Taken and held go together.
-fn both_or_neither(a: bool, b: bool) -> bool
-    ensures { result ≡ agree a b }
-{
-    if a {
-        return b;
+    // Both, and what its parent and its level are held to.
+    #[tactic(auto, using(table::proofs::Chains::chains), unfolding(crate::specs::Quick::place_ok))]
+    fn place_ok(&self) -> bool
+        ensures { result ≡ place_ok (namespace_row self.now.slot.0 self.now.namespace) (namespace_row self.now.namespace.parent.0 self.now.above) }
+    {
+        holds_namespace(self.namespace.parent, &self.above)
+            && self.is_one_down()
+            && self.namespace.level <= DEEPEST
+            && !self.above.is_unborn()
+            && self.dead_ok()
     }
-    !b
-}
 
-// The same, and whether it is taken exactly if something holds it.
-fn namespace_ok(n: NsSlot, held: bool, s: Namespace, above: Namespace, init: Process) -> bool
-    ensures { result ≡ namespace_ok n.0 held (namespace_row n.0 s) (namespace_row s.parent.0 above) (process_row init) }
-{
-    if s.last.0 > GREATEST_PID {
-        return false;
+    // ---- the slot
+
+    // Whether something stands there.
+    fn is_filled(&self) -> bool
+        ensures { result ≡ (namespace_row self.now.slot.0 self.now.namespace).taken }
+    {
+        holds_namespace(self.slot, &self.namespace)
     }
-    if !both_or_neither(holds_namespace(n, s), held) {
-        return false;
+
+    // What stands there, or that it is blank.
+    #[tactic(auto, using(table::proofs::Chains::chains), unfolding(crate::specs::Quick::filled_ok, crate::specs::Quick::blank_namespace))]
+    fn filled_ok(&self) -> bool
+        ensures { result ≡ filled_ok self.now.slot.0 (namespace_row self.now.slot.0 self.now.namespace) (namespace_row self.now.namespace.parent.0 self.now.above) (process_row self.now.init) }
+    {
+        if self.is_filled() {
+            self.life_ok() && (self.slot.0 == 0 || self.place_ok())
+        } else {
+            is_blank_namespace(&self.namespace)
+        }
     }
-    filled_ok(n, s, above, init)
+
+    // The same, and whether it is taken exactly if something holds it.
+    #[tactic(auto, using(table::proofs::Chains::chains), unfolding(crate::specs::Quick::namespace_ok))]
+    fn namespace_ok(&self, held: bool) -> bool
+        ensures { result ≡ namespace_ok self.now.slot.0 held (namespace_row self.now.slot.0 self.now.namespace) (namespace_row self.now.namespace.parent.0 self.now.above) (process_row self.now.init) }
+    {
+        self.namespace.last.0 <= GREATEST_PID && self.is_filled() == held && self.filled_ok()
+    }
 }
 
 // ---- all slots
 
 // Each namespace slot, with the records that its namespace names.
-pub(crate) fn namespaces_ok(t: Table) -> bool
-    ensures { result ≡ namespaces_ok (view t) }
+pub(crate) fn namespaces_ok(t: &Table) -> bool
+    ensures { result ≡ namespaces_ok (view t.now) }
 {
-    let namespaces = t.namespaces;
     let by_process = held_by_processes(t);
-    let by_child = held_by_children(namespaces);
-    let mut i: usize = 0;
-    while i < NAMESPACE_SLOTS {
-        let s = t.namespaces[i];
-        let up = s.parent.0 as usize;
-        let above = if up < NAMESPACE_SLOTS {
-            t.namespaces[up]
-        } else {
-            empty_namespace()
-        };
-        let first = s.init().0 as usize;
-        let init = if first < PROCESS_SLOTS {
-            t.processes[first]
-        } else {
-            empty_process()
-        };
-        let held = by_process[i] | by_child[i];
-        if !namespace_ok(NsSlot(i as u8), held, s, above, init) {
+    let by_child = held_by_children(&t.namespaces);
+    for (n, s) in t.namespaces.iter().enumerate() {
+        let place = Place::of(t, NsSlot(n as u8), *s);
+        if !place.namespace_ok(by_process[n] | by_child[n]) {
             return false;
         }
-        i += 1;
     }
     true
 }

@@ -6,8 +6,9 @@ ghost use Rattle.table.specs.Tests.{when◌then◌else◌, all};
 ghost use Rattle.tree.specs.Tree.{slot_in, level_in};
 ghost use Rattle.sound.specs.Quick.{process_row, process_at, key_in, differs_at, differ, raised, itself, pid_key, pid_keys};
 
-use table::{DEEPEST, NAMESPACE_SLOTS, NsSlot, PID_VALUES, PROCESS_SLOTS, Process, Table};
-use tree::{levels, parent_of, ups};
+use super::columns::column;
+use table::{DEEPEST, NAMESPACE_SLOTS, NsSlot, PID_VALUES, PROCESS_SLOTS, Process, Table, at};
+use tree::Tree;
 
 // ---- keys
 
@@ -16,63 +17,32 @@ fn differs(keys: &[u32; PROCESS_SLOTS], i: usize) -> bool
     requires { i < process_slots }
     ensures { result ≡ differs_at (key_in keys.now) i }
 {
-    let key = keys[i];
-    if key == 0 {
-        return true;
-    }
-    let mut j: usize = 0;
-    while j < i {
-        if keys[j] == key {
-            return false;
-        }
-        j += 1;
-    }
-    true
+    keys[i] == 0 || !keys[..i].contains(&keys[i])
 }
 
 // Whether no two keys but 0 are equal.
-pub(crate) fn all_differ(keys: [u32; PROCESS_SLOTS]) -> bool
-    ensures { result ≡ differ (key_in keys) }
+pub(crate) fn all_differ(keys: &[u32; PROCESS_SLOTS]) -> bool
+    ensures { result ≡ differ (key_in keys.now) }
 {
-    let mut i: usize = 0;
-    while i < PROCESS_SLOTS {
-        if !differs(&keys, i) {
-            return false;
-        }
-        i += 1;
-    }
-    true
+    (0..PROCESS_SLOTS).all(|i| differs(keys, i))
 }
 
 // ---- the namespace of a process at a level
 
 // Who is below a level goes one up.
-fn raise_one(up: [NsSlot; NAMESPACE_SLOTS], top: NsSlot, own: u8, level: u8) -> NsSlot
-    ensures { result.0 ≡ (when ltb level own then slot_in up top.0 else top.0) }
+fn raise_one(tree: &Tree, top: NsSlot, own: u8, level: u8) -> NsSlot
+    ensures { result.0 ≡ (when ltb level own then slot_in tree.now.parents top.0 else top.0) }
 {
-    if level < own {
-        return parent_of(up, top);
-    }
-    top
+    if level < own { tree.parent(top) } else { top }
 }
 
-// The namespace above each at a level, from those one level down.
-fn raise(
-    up: [NsSlot; NAMESPACE_SLOTS],
-    levels: [u8; NAMESPACE_SLOTS],
-    tops: [NsSlot; NAMESPACE_SLOTS],
-    level: u8,
-) -> [NsSlot; NAMESPACE_SLOTS]
-    ensures { slot_in result ≡ raised (slot_in up) (level_in levels) level (slot_in tops) }
+// The namespace above each at a level, in place of those one level down.
+fn raise(tree: &Tree, tops: &mut [NsSlot; NAMESPACE_SLOTS], level: u8)
+    ensures { slot_in tops.new ≡ raised (slot_in tree.now.parents) (level_in tree.now.levels) level (slot_in tops.old) }
 {
-    let mut raised = tops;
-    let mut n: usize = 0;
-    while n < NAMESPACE_SLOTS {
-        let top = raised[n];
-        raised[n] = raise_one(up, top, levels[n], level);
-        n += 1;
+    for (n, own) in tree.levels.iter().enumerate() {
+        tops[n] = raise_one(tree, tops[n], *own, level);
     }
-    raised
 }
 
 // Each namespace itself.
@@ -80,10 +50,8 @@ fn themselves() -> [NsSlot; NAMESPACE_SLOTS]
     ensures { slot_in result ≡ itself }
 {
     let mut tops = [NsSlot(0); NAMESPACE_SLOTS];
-    let mut n: usize = 0;
-    while n < NAMESPACE_SLOTS {
+    for n in 0..NAMESPACE_SLOTS {
         tops[n] = NsSlot(n as u8);
-        n += 1;
     }
     tops
 }
@@ -91,51 +59,39 @@ fn themselves() -> [NsSlot; NAMESPACE_SLOTS]
 // ---- a number and its namespace as a key
 
 // The namespace of a process at a level and its number there as one key, or 0 where it has none.
-fn pid_key(tops: [NsSlot; NAMESPACE_SLOTS], level: u8, p: Process) -> u32
-    ensures { result ≡ pid_key (slot_in tops) level (process_row p) }
+#[tactic(auto, using(table::proofs::Chains::chains), unfolding(crate::specs::Quick::pid_key))]
+fn pid_key(tops: &[NsSlot; NAMESPACE_SLOTS], level: u8, p: &Process) -> u32
+    ensures { result ≡ pid_key (slot_in tops.now) level (process_row p.now) }
 {
     let number = p.pid_at(level);
     if number.0 == 0 {
         return 0;
     }
-    let own = p.own;
-    let top = parent_of(tops, own);
+    let top = at(tops, p.own.0, NsSlot(0));
     top.0 as u32 * PID_VALUES + number.0 as u32
 }
 
 // The keys of all processes at a level.
-fn pid_keys(t: Table, tops: [NsSlot; NAMESPACE_SLOTS], level: u8) -> [u32; PROCESS_SLOTS]
-    ensures { key_in result ≡ (λ i. pid_key (slot_in tops) level (process_at (view t) i)) }
+fn pid_keys(t: &Table, tops: &[NsSlot; NAMESPACE_SLOTS], level: u8) -> [u32; PROCESS_SLOTS]
+    ensures { key_in result ≡ (λ i. pid_key (slot_in tops.now) level (process_at (view t.now) i)) }
 {
-    let mut keys = [0u32; PROCESS_SLOTS];
-    let mut i: usize = 0;
-    while i < PROCESS_SLOTS {
-        let p = t.processes[i];
-        keys[i] = pid_key(tops, level, p);
-        i += 1;
-    }
-    keys
+    column(&t.processes, 0, |p| pid_key(tops, level, p))
 }
 
 // ---- all levels
 
 // No two processes have the same number in the same namespace.
-pub(crate) fn pids_differ(t: Table) -> bool
-    ensures { result ≡ all level_count (λ k. differ (pid_keys (view t) k)) }
+pub(crate) fn pids_differ(t: &Table) -> bool
+    ensures { result ≡ all level_count (λ k. differ (pid_keys (view t.now) k)) }
 {
-    let namespaces = t.namespaces;
-    let up = ups(namespaces);
-    let levels = levels(namespaces);
+    let tree = Tree::of(&t.namespaces);
     let mut tops = themselves();
-    let mut k: u8 = 0;
-    while k <= DEEPEST {
+    for k in 0..=DEEPEST {
         let level = DEEPEST - k;
-        let next = raise(up, levels, tops, level);
-        tops = next;
-        if !all_differ(pid_keys(t, tops, level)) {
+        raise(&tree, &mut tops, level);
+        if !all_differ(&pid_keys(t, &tops, level)) {
             return false;
         }
-        k += 1;
     }
     true
 }

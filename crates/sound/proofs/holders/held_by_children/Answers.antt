@@ -17,5 +17,6 @@ loop-n-preserved c = search fold_loops
 
 pub returns : goal.returns
 returns c =
-    let e : c.loop-n.marks ≡ turns namespace_slots (namespace_turn c.args.namespaces) (replicate namespace_slots false) = search fold_loops in
-    subst (λ m. Marks namespace_slots m (held_by_children c.args.namespaces)) (sym e) (children_marked c.args.namespaces)
+    let s = c.args.namespaces.now in
+    let e : c.loop-n.marks ≡ turns namespace_slots (namespace_turn s) (replicate namespace_slots false) = search fold_loops in
+    subst (λ m. Marks namespace_slots m (held_by_children s)) (sym e) (children_marked s)

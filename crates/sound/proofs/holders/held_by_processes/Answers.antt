@@ -10,14 +10,15 @@ use Rattle.sound.proofs.Marks.{process_turn, processes_marked}
 use Rattle.sound.specs.Quick.{held_by_processes}
 use Rattle.sound.proofs.holders.held_by_processes.Goals as goal
 
-pub loop-i-init : goal.loop-i-init
-loop-i-init c = search fold_loops
+pub loop-p-init : goal.loop-p-init
+loop-p-init c = search fold_loops
 
-pub loop-i-preserved : goal.loop-i-preserved
+pub loop-p-preserved : goal.loop-p-preserved
 unfolding taken
-loop-i-preserved c = search fold_loops
+loop-p-preserved c = search fold_loops
 
 pub returns : goal.returns
 returns c =
-    let e : c.loop-i.marks ≡ turns process_slots (process_turn (view c.args.t)) (set (replicate namespace_slots false) 0 true) = search fold_loops in
-    subst (λ m. Marks namespace_slots m (held_by_processes (view c.args.t))) (sym e) (processes_marked (view c.args.t))
+    let v = view c.args.t.now in
+    let e : c.loop-p.marks ≡ turns process_slots (process_turn v) (set (replicate namespace_slots false) 0 true) = search fold_loops in
+    subst (λ m. Marks namespace_slots m (held_by_processes v)) (sym e) (processes_marked v)

@@ -1,20 +1,13 @@
--- A key that is 0, or a loop that tests every key below.
+-- A key that is 0, or one that no place below has.
+use mathlib.Core.Bool.{not}
+use mathlib.Core.Path.{ap, ◌∙◌}
+use borrow.Author.Rules.{rules}
 use borrow.Author.Tests.{ne_eqb}
-use Rattle.table.proofs.AllLoops.{all_loops_by}
-use Rattle.table.proofs.Chains.{chains, or_goes}
+use Rattle.table.proofs.Chains.{or_goes}
+use Rattle.sound.proofs.Places.{contained, not_any}
 use Rattle.sound.proofs.numbers.differs.Goals as goal
 
-pub returns-then-key-eq0 : goal.returns-then-key-eq0
-returns-then-key-eq0 c = search chains
-
-pub loop-j-init : goal.loop-j-init
-loop-j-init c = search (all_loops_by, chains)
-
-pub returns-then-keys-j : goal.returns-then-keys-j
-returns-then-keys-j c = or_goes _ _ _ (ne_eqb _ 0 c.if-key-eq0.false) (search (all_loops_by, chains))
-
-pub loop-j-preserved : goal.loop-j-preserved
-loop-j-preserved c = search (all_loops_by, chains)
-
-pub returns : goal.returns
-returns c = or_goes _ _ _ (ne_eqb _ 0 c.if-key-eq0.false) (search (all_loops_by, chains))
+pub returns-else-keys-i-eq0 : goal.returns-else-keys-i-eq0
+returns-else-keys-i-eq0 c =
+    or_goes _ _ _ (ne_eqb _ 0 c.if-keys-i-eq0.false)
+    (ap not (contained c.args.keys.now _ c.args.i _ (search rules) c.contains.ensures.cases) ∙ not_any c.args.i _)

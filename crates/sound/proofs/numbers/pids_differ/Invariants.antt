@@ -1,5 +1,4 @@
 -- A loop over the levels from the deepest up, with the namespaces above at each.
-use Prim.Native.Nat.{◌-◌}
 use mathlib.Core.Path.{◌≡◌}
 use Rattle.table.proofs.AllLoops.{Passed}
 use Rattle.table.specs.Limits.{levels as level_count}
@@ -10,6 +9,3 @@ use Rattle.sound.proofs.numbers.pids_differ.Given as goal
 
 abbrev pub invariant-loop-k : goal.invariant-loop-k
 invariant-loop-k l = (Passed level_count (λ j. differ (pid_keys (view l.t) j)) l.k) × (slot_in l.tops ≡ top (view l.t).up (view l.t).level l.k)
-
-abbrev pub decreases-loop-k : goal.decreases-loop-k
-decreases-loop-k l = level_count - l.k

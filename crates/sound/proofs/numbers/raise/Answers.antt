@@ -26,6 +26,6 @@ returns c =
     let a = c.args in
     changed_reads (λ (s : NsSlot). s.0) _ (record { 0 = 0 }) namespace_slots _ _ _ (map_done namespace_slots _ _ _ _ _ c.loop-n.invariant (search rules)) (search rules) (λ k h. refl)
     (λ k h.
-    let e : 0 ≡ get_or a.levels k 0 = search array_past in
-    let z : record { 0 = 0 } ≡ get_or a.tops k (record { 0 = 0 }) = search array_past in
-    if_no _ _ _ _ (le-ltb a.level (level_in a.levels k) (omega arith)) (ap (λ s. s.0) z))
+    let e : 0 ≡ get_or a.tree.now.levels k 0 = search (array_past, rules) in
+    let z : record { 0 = 0 } ≡ get_or a.tops.now k (record { 0 = 0 }) = search (array_past, rules) in
+    if_no _ _ _ _ (le-ltb a.level (level_in a.tree.now.levels k) (omega arith)) (ap (λ s. s.0) z))

@@ -1,5 +1,4 @@
 -- Each namespace that is below the level goes one up.
-use Prim.Native.Nat.{◌-◌}
 use lib.Dec.{ltb}
 use Rattle.table.proofs.MapLoops.{Mapped}
 use Rattle.table.specs.Limits.{namespace_slots}
@@ -10,7 +9,4 @@ use Rattle.sound.proofs.numbers.raise.Given as goal
 
 abbrev pub invariant-loop-n : goal.invariant-loop-n
 invariant-loop-n l =
-    Mapped namespace_slots (λ k (x : NsSlot). record { 0 = when ltb l.level (level_in l.levels k) then slot_in l.up x.0 else x.0 }) (record { 0 = 0 }) l.initial.raised l.raised l.n
-
-abbrev pub decreases-loop-n : goal.decreases-loop-n
-decreases-loop-n l = namespace_slots - l.n
+    Mapped namespace_slots (λ k (x : NsSlot). record { 0 = when ltb l.level (level_in l.tree.levels k) then slot_in l.tree.parents x.0 else x.0 }) (record { 0 = 0 }) l.initial.tops l.tops l.n

@@ -4,7 +4,7 @@ use borrow.Author.Rules.{rules}
 use Rattle.sound.proofs.processes.traits_ok.Goals as goal
 
 pub returns-then-x : goal.returns-then-x
-returns-then-x c = traits_fail c.args.x (search rules) (search rules) c.if-x.true
+returns-then-x c = traits_last c.args.x (search rules) (search rules) c.if-x.true
 
-pub returns : goal.returns
-returns c = traits_last c.args.x (search rules) (search rules) c.if-x.false
+pub returns-else-x : goal.returns-else-x
+returns-else-x c = traits_fail c.args.x (search rules) (search rules) c.if-x.false
