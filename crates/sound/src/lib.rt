@@ -45,7 +45,7 @@ fn root_namespace_ok(n: &Namespace) -> bool
 }
 
 // Both.
-#[tactic(auto, using(table::proofs::Chains::chains), unfolding(rules::specs::Sound::root_process, rules::specs::Sound::root_namespace, crate::specs::Quick::root_process_ok, crate::specs::Quick::root_namespace_ok, rules::specs::Read::taken, rules::specs::Read::living))]
+#[tactic(auto, using(table::proofs::Chains::chains), unfolding(rules::specs::Sound::root_process, rules::specs::Sound::root_namespace, rules::specs::Read::taken, rules::specs::Read::living, crate::specs::Quick::root_process_ok, crate::specs::Quick::root_namespace_ok))]
 fn root_ok(t: &Table) -> bool
     ensures { result ≡ root_process (view t.now) and root_namespace (view t.now) }
 {

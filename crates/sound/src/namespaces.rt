@@ -3,7 +3,8 @@ ghost use Rattle.std.specs.Prelude.{◌≡◌, suc, eqb};
 ghost use Rattle.table.specs.Slots.{namespace, is_unborn, is_dead, init_of};
 ghost use Rattle.rules.specs.Read.{view};
 ghost use Rattle.table.specs.Tests.{◌implies◌, agree};
-ghost use Rattle.sound.specs.Quick.{process_row, process_at, namespace_row, init_ok, life_ok, place_ok, filled_ok, namespace_ok, namespaces_ok};
+ghost use Rattle.sound.specs.Quick.{process_row, process_at, init_ok, life_ok, place_ok, filled_ok, namespace_ok, namespaces_ok};
+ghost use Rattle.sound.specs.Records.{place_row, above_row};
 
 use super::holders::{held_by_children, held_by_processes};
 use table::{DEEPEST, GREATEST_PID, Namespace, NsSlot, Process, Table};
@@ -40,7 +41,7 @@ impl Place {
     // The init of a living namespace belongs to it, has not ended and has number 1 there.
     #[tactic(auto, using(table::proofs::Chains::chains), unfolding(crate::specs::Quick::init_ok))]
     fn init_ok(&self) -> bool
-        ensures { result ≡ init_ok self.now.slot.0 (namespace_row self.now.slot.0 self.now.namespace) (process_row self.now.init) }
+        ensures { result ≡ init_ok self.now.slot.0 (place_row self.now) (process_row self.now.init) }
     {
         self.init.is_taken()
             && !self.init.has_ended()
@@ -58,7 +59,7 @@ impl Place {
     // A namespace by its condition. A dead one is held to nothing here.
     #[tactic(auto, using(table::proofs::Chains::chains), unfolding(crate::specs::Quick::life_ok))]
     fn life_ok(&self) -> bool
-        ensures { result ≡ life_ok self.now.slot.0 (namespace_row self.now.slot.0 self.now.namespace) (process_row self.now.init) }
+        ensures { result ≡ life_ok self.now.slot.0 (place_row self.now) (process_row self.now.init) }
     {
         if self.namespace.is_alive() {
             self.init_ok()
@@ -86,7 +87,7 @@ impl Place {
     // Both, and what its parent and its level are held to.
     #[tactic(auto, using(table::proofs::Chains::chains), unfolding(crate::specs::Quick::place_ok))]
     fn place_ok(&self) -> bool
-        ensures { result ≡ place_ok (namespace_row self.now.slot.0 self.now.namespace) (namespace_row self.now.namespace.parent.0 self.now.above) }
+        ensures { result ≡ place_ok (place_row self.now) (above_row self.now) }
     {
         holds_namespace(self.namespace.parent, &self.above)
             && self.is_one_down()
@@ -99,7 +100,7 @@ impl Place {
 
     // Whether something stands there.
     fn is_filled(&self) -> bool
-        ensures { result ≡ (namespace_row self.now.slot.0 self.now.namespace).taken }
+        ensures { result ≡ (place_row self.now).taken }
     {
         holds_namespace(self.slot, &self.namespace)
     }
@@ -107,7 +108,7 @@ impl Place {
     // What stands there, or that it is blank.
     #[tactic(auto, using(table::proofs::Chains::chains), unfolding(crate::specs::Quick::filled_ok, crate::specs::Quick::blank_namespace))]
     fn filled_ok(&self) -> bool
-        ensures { result ≡ filled_ok self.now.slot.0 (namespace_row self.now.slot.0 self.now.namespace) (namespace_row self.now.namespace.parent.0 self.now.above) (process_row self.now.init) }
+        ensures { result ≡ filled_ok self.now.slot.0 (place_row self.now) (above_row self.now) (process_row self.now.init) }
     {
         if self.is_filled() {
             self.life_ok() && (self.slot.0 == 0 || self.place_ok())
@@ -119,7 +120,7 @@ impl Place {
     // The same, and whether it is taken exactly if something holds it.
     #[tactic(auto, using(table::proofs::Chains::chains), unfolding(crate::specs::Quick::namespace_ok))]
     fn namespace_ok(&self, held: bool) -> bool
-        ensures { result ≡ namespace_ok self.now.slot.0 held (namespace_row self.now.slot.0 self.now.namespace) (namespace_row self.now.namespace.parent.0 self.now.above) (process_row self.now.init) }
+        ensures { result ≡ namespace_ok self.now.slot.0 held (place_row self.now) (above_row self.now) (process_row self.now.init) }
     {
         self.namespace.last.0 <= GREATEST_PID && self.is_filled() == held && self.filled_ok()
     }

@@ -8,7 +8,8 @@ ghost use Rattle.table.specs.Tests.{◌implies◌, all};
 ghost use Rattle.table.specs.declared.State.TheVariants.{Ended};
 ghost use Rattle.table.specs.Traits.{blank_traits, bare_traits, traits_ok};
 ghost use Rattle.tree.specs.Tree.{slot_in};
-ghost use Rattle.sound.specs.Quick.{process_row, process_at, namespace_row, ended_ok, living_ok, state_ok, pid_ok, pids_ok, member_ok, parent_ok, blank, process_ok, processes_ok};
+ghost use Rattle.sound.specs.Quick.{process_row, process_at, ended_ok, living_ok, state_ok, pid_ok, pids_ok, member_ok, parent_ok, blank, process_ok, processes_ok};
+ghost use Rattle.sound.specs.Records.{member_row, home_row, inner_row};
 
 use table::{
     End, GREATEST_PID, LEVELS, NO_SLOT, Namespace, Pid, Process, SIGKILL, SIGNALS, SIGSTOP,
@@ -145,7 +146,7 @@ impl<'a> Member<'a> {
     // A living process's namespace is not dead, and the one for its children is its own or below.
     #[tactic(auto, using(table::proofs::Chains::chains), unfolding(crate::specs::Quick::living_ok))]
     fn living_ok(&self, tree: &Tree) -> bool
-        ensures { result ≡ living_ok (slot_in tree.now.parents) (process_row self.now.process.now) (namespace_row self.now.process.now.own.0 self.now.home) (namespace_row self.now.process.now.children.0 self.now.inner) }
+        ensures { result ≡ living_ok (slot_in tree.now.parents) (member_row self.now) (home_row self.now) (inner_row self.now) }
     {
         !self.home.is_dead()
             && holds_namespace(self.process.children, &self.inner)
@@ -156,7 +157,7 @@ impl<'a> Member<'a> {
     // An ended process keeps little; a living one is held to its namespaces.
     #[tactic(auto, using(table::proofs::Chains::chains), unfolding(crate::specs::Quick::state_ok))]
     fn state_ok(&self, tree: &Tree) -> bool
-        ensures { result ≡ state_ok (slot_in tree.now.parents) (process_row self.now.process.now) (namespace_row self.now.process.now.own.0 self.now.home) (namespace_row self.now.process.now.children.0 self.now.inner) }
+        ensures { result ≡ state_ok (slot_in tree.now.parents) (member_row self.now) (home_row self.now) (inner_row self.now) }
     {
         if self.process.has_ended() {
             ended_ok(self.process)
@@ -168,7 +169,7 @@ impl<'a> Member<'a> {
     // All that a process is held to beside its parent.
     #[tactic(auto, using(table::proofs::Chains::chains), unfolding(crate::specs::Quick::member_ok))]
     fn member_ok(&self, tree: &Tree) -> bool
-        ensures { result ≡ member_ok (slot_in tree.now.parents) (process_row self.now.process.now) (namespace_row self.now.process.now.own.0 self.now.home) (namespace_row self.now.process.now.children.0 self.now.inner) }
+        ensures { result ≡ member_ok (slot_in tree.now.parents) (member_row self.now) (home_row self.now) (inner_row self.now) }
     {
         holds_namespace(self.process.own, &self.home)
             && !self.home.is_unborn()
@@ -190,7 +191,7 @@ impl<'a> Member<'a> {
     // A parent has not ended, and its own namespace is the child's or above it.
     #[tactic(auto, using(table::proofs::Chains::chains), unfolding(crate::specs::Quick::parent_ok))]
     fn parent_ok(&self, tree: &Tree) -> bool
-        ensures { result ≡ parent_ok (slot_in tree.now.parents) (process_row self.now.process.now) (namespace_row self.now.process.now.own.0 self.now.home) (process_row self.now.parent) }
+        ensures { result ≡ parent_ok (slot_in tree.now.parents) (member_row self.now) (home_row self.now) (process_row self.now.parent) }
     {
         self.parent.is_taken()
             && !self.parent.has_ended()
@@ -203,7 +204,7 @@ impl<'a> Member<'a> {
     // What stands at slot i, or that it is blank.
     #[tactic(auto, using(table::proofs::Chains::chains), unfolding(crate::specs::Quick::process_ok))]
     fn process_ok(&self, tree: &Tree, i: usize) -> bool
-        ensures { result ≡ process_ok (slot_in tree.now.parents) i (process_row self.now.process.now) (namespace_row self.now.process.now.own.0 self.now.home) (namespace_row self.now.process.now.children.0 self.now.inner) (process_row self.now.parent) }
+        ensures { result ≡ process_ok (slot_in tree.now.parents) i (member_row self.now) (home_row self.now) (inner_row self.now) (process_row self.now.parent) }
     {
         if self.process.is_taken() {
             self.member_ok(tree) && (i == 0 || self.parent_ok(tree))
