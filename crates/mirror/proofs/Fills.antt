@@ -1,32 +1,27 @@
--- For a loop that fills an array with what f makes of each element of another. `search fill_loops` closes its first two
--- needs, and `fill_ends` the last.
-use Prim.Native.Nat.{ℕ, ◌<◌, ◌≤◌, ◌+◌}
+-- For an array that `array::from_fn` makes of another one: with what f makes of the element at each index.
+use Prim.Native.Nat.{ℕ, zero, suc, ◌<◌, ◌≤◌, ◌+◌}
 use mathlib.Core.List.{List, map}
-use mathlib.Core.Path.{◌≡◌, sym, ◌∙◌}
-use lib.ListN.{length, get_or, set, replicate, length-map, length-replicate, get_or-map}
+use mathlib.Core.Logic.{⊎_elim}
+use mathlib.Core.Path.{◌≡◌, sym, subst, ◌∙◌}
+use lib.ListN.{length, get_or, length-map, get_or-map}
 use lib.Seq.{ext_get_or}
+use native.Mathlib.Nat.{eq-or-lt_of_le}
 use native.Mathlib.Omega.{arith}
-use Rattle.table.proofs.MapLoops.{Mapped, map_starts, map_goes_on_old, map_done, changed_at, changed_length}
-use Rattle.table.specs.Tests.{changed_to}
+use denote.Param.Members.{Mut, Called}
+use Rattle.std.specs.Array.{IsFromFnResult, IsFromFnResultFrom}
 
--- i is at most n, and the first i elements of l, which was l₀, are made of those of xs. d is what lies past xs' end.
-abbrev pub Filled : {A B : Type 0} → (A → B) → A → ℕ → List A → List B → List B → ℕ → Type 0
-Filled f d n xs l₀ l i = Mapped n (λ j y. f (get_or xs j d)) (f d) l₀ l i
+-- calls that leave the closure as it was gave f's values at the n indices from i on
+values_from : {F B : Type 0} (g : Mut F (ℕ × Unit {0}) B) (c : F) (f : ℕ → B) (ys : List B) (n i j : ℕ) (e : B) → ((k : ℕ) (y : B) (q : F) → Called g c (k, tt) y q → (q ≡ c) × (y ≡ f k)) → IsFromFnResultFrom g c ys i n → i ≤ j → j < i + n → get_or ys j e ≡ f j
+values_from g c f ys zero i j e h w k l = absurd (omega arith)
+values_from g c f ys (suc n) i j e h (q, y, at, call, rest) k l =
+    let w = h i y q call in
+    ⊎_elim
+    (λ (p : i ≡ j). subst (λ m. get_or ys m e ≡ f m) p (at.1 e ∙ w.1))
+    (λ (p : i < j). values_from g c f ys n (i + 1) j e h (subst (λ z. IsFromFnResultFrom g z ys (i + 1) n) w.0 rest) (omega arith) (omega arith))
+    (eq-or-lt_of_le k)
 
-pub fill_starts : {A B : Type 0} (f : A → B) (d : A) (n : ℕ) (xs : List A) (l₀ : List B) → Filled f d n xs l₀ l₀ 0
-fill_starts f d n xs l₀ = map_starts n (λ j y. f (get_or xs j d)) (f d) l₀
-
-pub fill_goes_on : {A B : Type 0} (f : A → B) (d : A) (n : ℕ) (xs : List A) (l₀ l : List B) (i : ℕ) (y : B) → Filled f d n xs l₀ l i → i < n → y ≡ f (get_or xs i d) → Filled f d n xs l₀ (set l i y) (i + 1)
-fill_goes_on f d n xs l₀ l i y m h e = map_goes_on_old n (λ j z. f (get_or xs j d)) (f d) l₀ l i y m h e
-
-filled_is_map : {A B : Type 0} (f : A → B) (d : A) (n : ℕ) (xs : List A) (x : B) → length xs ≡ n → changed_to (λ j y. f (get_or xs j d)) (f d) n (replicate n x) ≡ map f xs
-filled_is_map f d n xs x e =
-    let long = changed_length (λ j y. f (get_or xs j d)) (f d) n (replicate n x) ∙ length-replicate n x in
-    ext_get_or (f d) _ (map f xs) (long ∙ sym e ∙ sym (length-map xs f))
-    (λ i h. changed_at (λ j y. f (get_or xs j d)) (f d) n i (replicate n x) (omega (arith, long)) (omega (arith, long, length-replicate n x)) ∙ sym (get_or-map f xs i d))
-
-pub fill_ends : {A B : Type 0} (f : A → B) (d : A) (n : ℕ) (xs : List A) (x : B) (l : List B) (i : ℕ) → Filled f d n xs (replicate n x) l i → n ≤ i → length xs ≡ n → l ≡ map f xs
-fill_ends f d n xs x l i m h e =
-    map_done n (λ j y. f (get_or xs j d)) (f d) (replicate n x) l i m h ∙ filled_is_map f d n xs x e
-
-pub ruleset fill_loops = (fill_starts, fill_goes_on)
+pub mapped : {A F B : Type 0} (g : Mut F (ℕ × Unit {0}) B) (c : F) (f : A → B) (d : A) (xs : List A) (ys : List B) (n : ℕ) → IsFromFnResult g c ys n → length xs ≡ n → ((k : ℕ) (y : B) (q : F) → Called g c (k, tt) y q → (q ≡ c) × (y ≡ f (get_or xs k d))) → ys ≡ map f xs
+mapped g c f d xs ys n r e h =
+    let long = r.long in
+    ext_get_or (f d) ys (map f xs) (long ∙ sym e ∙ sym (length-map xs f))
+    (λ i k. values_from g c (λ j. f (get_or xs j d)) ys n 0 i (f d) h r.each (omega arith) (omega (arith, long)) ∙ sym (get_or-map f xs i d))
