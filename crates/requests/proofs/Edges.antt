@@ -13,7 +13,7 @@ use Rattle.table.specs.declared.End.TheVariants.{Exited, Signaled}
 use Rattle.table.specs.declared.Refusal.TheVariants.{Esrch}
 use Rattle.table.specs.declared.Reply.{Reply}
 use Rattle.requests.specs.Requests.{plain_call, asked_by, told_of}
-use Rattle.requests.specs.declared.Asked.TheVariants.{Nothing, Makes}
+use Rattle.std.specs.Prelude.{None, Some}
 use Rattle.requests.specs.declared.Request.{Request}
 use Rattle.requests.specs.declared.Told.{Told}
 
@@ -21,7 +21,7 @@ use Rattle.requests.specs.declared.Told.{Told}
 abbrev request : ℕ → Request
 request k = record { call = k; a = minus 1; b = pos 9; c = pos 7 }
 
-pub numbers_ask : map (λ k. asked_by (request k)) (0 ∷ 1 ∷ 2 ∷ 3 ∷ 4 ∷ 5 ∷ 6 ∷ 7 ∷ 8 ∷ 9 ∷ 10 ∷ 11 ∷ 12 ∷ 13 ∷ 257 ∷ 4294967295 ∷ []) ≡ (Nothing ∷ Makes Clone ∷ Makes CloneNew ∷ Makes Unshare ∷ Makes (Setns (minus 1)) ∷ Makes (Kill (minus 1) (pos 9)) ∷ Makes (Exit (minus 1)) ∷ Makes Wait ∷ Makes Getpid ∷ Makes Getppid ∷ Makes (Handle (minus 1) true) ∷ Makes (Handle (minus 1) false) ∷ Makes Poll ∷ Nothing ∷ Nothing ∷ Nothing ∷ [])
+pub numbers_ask : map (λ k. asked_by (request k)) (0 ∷ 1 ∷ 2 ∷ 3 ∷ 4 ∷ 5 ∷ 6 ∷ 7 ∷ 8 ∷ 9 ∷ 10 ∷ 11 ∷ 12 ∷ 13 ∷ 257 ∷ 4294967295 ∷ []) ≡ (None ∷ Some Clone ∷ Some CloneNew ∷ Some Unshare ∷ Some (Setns (minus 1)) ∷ Some (Kill (minus 1) (pos 9)) ∷ Some (Exit (minus 1)) ∷ Some Wait ∷ Some Getpid ∷ Some Getppid ∷ Some (Handle (minus 1) true) ∷ Some (Handle (minus 1) false) ∷ Some Poll ∷ None ∷ None ∷ None ∷ [])
 unfolding asked_by plain_call
 numbers_ask = refl
 

@@ -1,33 +1,19 @@
 -- Signed numbers on their way in and out. What the code holds is `to_z w (of_z w z)`, which is z where z fits.
 use Prim.Native.Nat.{ℕ}
 use mathlib.Core.Bool.{true}
-use mathlib.Core.Path.{◌≡◌, refl, sym, ap, ap₂, ◌∙◌}
-use lib.IntN.{ℤ, pos}
-use mir.Syntax.{w16, w32}
-use mir.Val.{Fits, SFits, to_z, of_z}
-use mir.ValLaws.{to_z-of_z, to_z_pos}
-use native.Mathlib.Omega.{arith}
+use mathlib.Core.Path.{◌≡◌, refl, sym, ap, ◌∙◌}
+use lib.IntN.{ℤ}
+use mir.Syntax.{w32}
+use mir.Val.{SFits, to_z, of_z}
+use mir.ValLaws.{to_z-of_z}
 use Rattle.rules.specs.Answers.{number_of, refusal_number, is_refused}
 use Rattle.table.specs.declared.Answer.{Answer}
-use Rattle.table.specs.declared.Answer.TheVariants.{Refused, Number, Reaped}
-use Rattle.table.specs.declared.Call.{Call}
-use Rattle.table.specs.declared.End.{End}
-use Rattle.table.specs.declared.Pid.{Pid}
+use Rattle.table.specs.declared.Answer.TheVariants.{Refused}
 use Rattle.table.specs.declared.Refusal.{Refusal}
 use Rattle.table.specs.declared.Refusal.TheVariants.{Unsound, NotRunning, Einval, Enosys, Esrch, Ebusy, Echild, Enospc, Enomem, Eagain}
 use Rattle.table.specs.declared.Reply.{Reply}
 use Rattle.requests.specs.Requests.{end_kind, end_value, told_of}
 use Rattle.requests.specs.declared.Told.{Told}
-use Rattle.requests.specs.declared.Asked.{Asked}
-use Rattle.requests.specs.declared.Asked.TheVariants.{Makes}
-
--- ---- arguments
-
-pub makes_with : (f : ℤ → Call) (z : ℤ) (x : Asked) → SFits w32 z → Makes (f z) ≡ x → Makes (f (to_z w32 (of_z w32 z))) ≡ x
-makes_with f z x h e = ap (λ y. Makes (f y)) (to_z-of_z w32 z h) ∙ e
-
-pub makes_with_two : (f : ℤ → ℤ → Call) (y z : ℤ) (x : Asked) → SFits w32 y → SFits w32 z → Makes (f y z) ≡ x → Makes (f (to_z w32 (of_z w32 y)) (to_z w32 (of_z w32 z))) ≡ x
-makes_with_two f y z x g h e = ap₂ (λ a b. Makes (f a b)) (to_z-of_z w32 y g) (to_z-of_z w32 z h) ∙ e
 
 -- ---- answers
 
@@ -47,17 +33,6 @@ refusal_told Eagain = refl
 pub refused_number : (a : Answer) (e : Refusal) (z : ℤ) → a ≡ Refused e → z ≡ refusal_number e → to_z w32 (of_z w32 z) ≡ number_of a
 unfolding number_of
 refused_number a e z p q = ap (λ x. to_z w32 (of_z w32 x)) q ∙ refusal_told e ∙ ap number_of (sym p)
-
-half : (k : ℕ) → Fits w16 k → to_z w32 k ≡ pos k
-half k f = let b = f.fits in to_z_pos w32 k (omega arith)
-
-pub plain_number : (a : Answer) (k : ℕ) → a ≡ Number k → Fits w16 k → to_z w32 k ≡ number_of a
-unfolding number_of
-plain_number a k p f = half k f ∙ ap number_of (sym p)
-
-pub reaped_number : (a : Answer) (k : Pid) (e : End) → a ≡ Reaped k e → Fits w16 k.0 → to_z w32 k.0 ≡ number_of a
-unfolding number_of
-reaped_number a k e p f = half k.0 f ∙ ap number_of (sym p)
 
 pub told_made : (r : Reply) (z : ℤ) (k e : ℕ) → SFits w32 z → z ≡ number_of r.answer → k ≡ end_kind r.answer → e ≡ end_value r.answer → ◌≡◌ {A = Told} (record { answer = to_z w32 (of_z w32 z); child = r.child; state = k; end = e }) (told_of r)
 unfolding told_of

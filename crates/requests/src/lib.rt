@@ -3,7 +3,7 @@
 
 ghost use Rattle.std.specs.Prelude.{◌≡◌};
 ghost use Rattle.rules.specs.Answers.{number_of, refusal_number, is_refused};
-ghost use Rattle.requests.specs.Requests.{plain_call, asked_by, end_kind, end_value, told_of, no_call};
+ghost use Rattle.requests.specs.Requests.{asked_by, end_kind, end_value, told_of, no_call};
 
 use mirror::{state_end, state_kind};
 use table::{Answer, Call, NO_SLOT, ProcSlot, Refusal, Reply, State};
@@ -49,12 +49,6 @@ pub struct Request {
     pub c: i32,
 }
 
-#[derive(Clone, Copy)]
-pub enum Asked {
-    Nothing,
-    Makes(Call),
-}
-
 // The answer's number, the slot of a child that was born, and how a process ended that a wait removed, as in its row.
 #[repr(C)]
 #[derive(Clone, Copy)]
@@ -67,59 +61,31 @@ pub struct Told {
 
 // ---- the call of a request
 
-// Those that take no argument.
-fn plain_call(k: u32) -> Asked
-    ensures { result ≡ plain_call k }
-{
-    if k == CLONE {
-        return Asked::Makes(Call::Clone);
-    }
-    if k == CLONE_NEW {
-        return Asked::Makes(Call::CloneNew);
-    }
-    if k == UNSHARE {
-        return Asked::Makes(Call::Unshare);
-    }
-    if k == WAIT {
-        return Asked::Makes(Call::Wait);
-    }
-    if k == GETPID {
-        return Asked::Makes(Call::Getpid);
-    }
-    if k == GETPPID {
-        return Asked::Makes(Call::Getppid);
-    }
-    if k == POLL {
-        return Asked::Makes(Call::Poll);
-    }
-    Asked::Nothing
-}
-
-// The call that is asked for: nothing where the number is no call's.
-pub fn asked_by(r: Request) -> Asked
+// The call that is asked for: none where the number is no call's.
+#[tactic(auto, using(table::proofs::Chains::chains), unfolding(crate::specs::Requests::asked_by, crate::specs::Requests::plain_call))]
+pub fn asked_by(r: Request) -> Option<Call>
     ensures { result ≡ asked_by r }
 {
-    let k = r.call;
-    if k == SETNS {
-        return Asked::Makes(Call::Setns(r.a));
+    match r.call {
+        CLONE => Some(Call::Clone),
+        CLONE_NEW => Some(Call::CloneNew),
+        UNSHARE => Some(Call::Unshare),
+        SETNS => Some(Call::Setns(r.a)),
+        KILL => Some(Call::Kill(r.a, r.b)),
+        EXIT => Some(Call::Exit(r.a)),
+        WAIT => Some(Call::Wait),
+        GETPID => Some(Call::Getpid),
+        GETPPID => Some(Call::Getppid),
+        HANDLE => Some(Call::Handle(r.a, true)),
+        UNHANDLE => Some(Call::Handle(r.a, false)),
+        POLL => Some(Call::Poll),
+        _ => None,
     }
-    if k == KILL {
-        return Asked::Makes(Call::Kill(r.a, r.b));
-    }
-    if k == EXIT {
-        return Asked::Makes(Call::Exit(r.a));
-    }
-    if k == HANDLE {
-        return Asked::Makes(Call::Handle(r.a, true));
-    }
-    if k == UNHANDLE {
-        return Asked::Makes(Call::Handle(r.a, false));
-    }
-    plain_call(k)
 }
 
 // ---- what is told of a reply
 
+#[tactic(auto, unfolding(rules::specs::Answers::refusal_number))]
 fn refusal_number(e: Refusal) -> i32
     ensures { result ≡ refusal_number e }
 {
@@ -137,60 +103,50 @@ fn refusal_number(e: Refusal) -> i32
     }
 }
 
+#[tactic(auto, unfolding(rules::specs::Answers::number_of))]
 fn number_of(a: Answer) -> i32
     ensures { result ≡ number_of a }
 {
     match a {
         Answer::Refused(e) => refusal_number(e),
-        Answer::Number(k) => k as i32,
-        Answer::Reaped(pid, _) => pid.0 as i32,
+        Answer::Number(k) => i32::from(k),
+        Answer::Reaped(pid, _) => i32::from(pid.0),
     }
 }
 
+#[tactic(auto, using(crate::proofs::Laws::told_refused), unfolding(rules::specs::Answers::is_refused, rules::specs::Answers::number_of))]
 pub fn is_refused(a: Answer) -> bool
     ensures { result ≡ is_refused a }
 {
-    match a {
-        Answer::Refused(_) => true,
-        Answer::Number(_) => false,
-        Answer::Reaped(_, _) => false,
-    }
+    matches!(a, Answer::Refused(_))
 }
 
-fn end_kind(a: Answer) -> u8
-    ensures { result ≡ end_kind a }
+// How a process ended that a wait removed, in the two bytes of its row: 0 of any other answer.
+fn end_bytes(a: Answer) -> (u8, u8)
+    ensures { result ≡ (end_kind a, end_value a) }
 {
     match a {
-        Answer::Refused(_) => 0,
-        Answer::Number(_) => 0,
-        Answer::Reaped(_, e) => state_kind(State::Ended(e)),
-    }
-}
-
-fn end_value(a: Answer) -> u8
-    ensures { result ≡ end_value a }
-{
-    match a {
-        Answer::Refused(_) => 0,
-        Answer::Number(_) => 0,
-        Answer::Reaped(_, e) => state_end(State::Ended(e)),
+        Answer::Reaped(_, e) => {
+            let s = State::Ended(e);
+            (state_kind(s), state_end(s))
+        }
+        Answer::Refused(_) | Answer::Number(_) => (0, 0),
     }
 }
 
 pub fn told_of(r: Reply) -> Told
     ensures { result ≡ told_of r }
 {
-    let a = r.answer;
-    let child = r.child;
-    let answer = number_of(a);
+    let (state, end) = end_bytes(r.answer);
     Told {
-        answer,
-        child,
-        state: end_kind(a),
-        end: end_value(a),
+        answer: number_of(r.answer),
+        child: r.child,
+        state,
+        end,
     }
 }
 
+#[tactic(auto, unfolding(crate::specs::Requests::no_call))]
 pub fn no_call() -> Told
     ensures { result ≡ no_call }
 {
