@@ -6,8 +6,6 @@ use Rattle.mirror.proofs.RoundTrip.{mirrors_are_read}
 use Rattle.mirror.specs.Mirror.{table_from, mirror_of}
 use Rattle.mirror.specs.declared.Mirror.{Mirror}
 use Rattle.requests.specs.Requests.{asked_by}
-use Rattle.requests.specs.declared.Asked.{Asked}
-use Rattle.requests.specs.declared.Asked.TheVariants.{Nothing, Makes}
 use Rattle.requests.specs.declared.Request.{Request}
 use Rattle.requests.specs.declared.Told.{Told}
 use Rattle.rules.proofs.Promises.{keeps_sound}
@@ -15,6 +13,8 @@ use Rattle.rules.proofs.Refused.{fresh_sound}
 use Rattle.rules.specs.Claims.{KeepsSound}
 use Rattle.rules.specs.Sound.{sound, SoundTable}
 use Rattle.table.specs.Fresh.{fresh}
+use Rattle.std.specs.Prelude.{Option, None, Some}
+use Rattle.table.specs.declared.Call.{Call}
 use Rattle.table.specs.declared.Table.{Table}
 use Rattle.turns.proofs.Turns.{turns_step, others_do_nothing}
 use Rattle.turns.specs.Claims.{HostsGoOn, HostsStaySound}
@@ -22,10 +22,10 @@ use Rattle.turns.specs.Turns.{turn, told_all, held_after, asked_told, asked_afte
 
 -- ---- one request, whatever it asks for
 
-one : (m : Mirror) (c : ℕ) (r : Request) (a : Asked) → asked_by r ≡ a → ((turn m c r).told ≡ asked_told (table_from m) c a) × (table_from (turn m c r).mirror ≡ asked_after (table_from m) c a)
+one : (m : Mirror) (c : ℕ) (r : Request) (a : Option Call) → asked_by r ≡ a → ((turn m c r).told ≡ asked_told (table_from m) c a) × (table_from (turn m c r).mirror ≡ asked_after (table_from m) c a)
 unfolding asked_told asked_after
-one m c r Nothing e = let n = others_do_nothing m c r e in (n.0, ap table_from n.1)
-one m c r (Makes call) e = turns_step m c r call e
+one m c r None e = let n = others_do_nothing m c r e in (n.0, ap table_from n.1)
+one m c r (Some call) e = turns_step m c r call e
 
 -- ---- a list of them
 
@@ -41,10 +41,10 @@ hosts_go_on m (r ∷ rs) =
 
 -- ---- soundness
 
-asked_sound : (t : Table) (c : ℕ) (a : Asked) → SoundTable t → SoundTable (asked_after t c a)
+asked_sound : (t : Table) (c : ℕ) (a : Option Call) → SoundTable t → SoundTable (asked_after t c a)
 unfolding asked_after KeepsSound
-asked_sound t c Nothing s = s
-asked_sound t c (Makes call) s = keeps_sound t c call s
+asked_sound t c None s = s
+asked_sound t c (Some call) s = keeps_sound t c call s
 
 steps_sound : (t : Table) (rs : List (ℕ × Request)) → SoundTable t → SoundTable (steps_after t rs)
 unfolding steps_after

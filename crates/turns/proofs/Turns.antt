@@ -7,8 +7,6 @@ use Rattle.mirror.proofs.RoundTrip.{mirrors_are_read, written_is_kept, others_re
 use Rattle.mirror.specs.Mirror.{is_written, empty_table, table_from}
 use Rattle.mirror.specs.declared.Mirror.{Mirror}
 use Rattle.requests.specs.Requests.{asked_by, told_of}
-use Rattle.requests.specs.declared.Asked.TheVariants.{Nothing, Makes}
-use Rattle.requests.specs.declared.Asked.{Asked}
 use Rattle.requests.specs.declared.Told.{Told}
 use Rattle.rules.proofs.Promises.{refusal_leaves}
 use Rattle.rules.specs.Answers.{refused, refusal_number, is_refused, number_of}
@@ -17,6 +15,7 @@ use Rattle.rules.proofs.Open.{everything}
 use Rattle.rules.specs.Sound.{sound}
 use Rattle.rules.specs.Step.{step}
 use Rattle.table.proofs.Chains.{by_bool, pick_no}
+use Rattle.std.specs.Prelude.{Option, None, Some}
 use Rattle.table.specs.declared.Call.{Call}
 use Rattle.table.specs.declared.Outcome.{Outcome}
 use Rattle.table.specs.declared.Refusal.TheVariants.{Unsound}
@@ -49,10 +48,10 @@ leaves : (m : Mirror) (o : Outcome) (k : ℕ) → (given_back m o).told.answer �
 unfolding given_back told_of is_refused
 leaves m o k h = rw h
 
-refusal_keeps : (m : Mirror) (c : ℕ) (a : Asked) (k : ℕ) → (turned m c a).told.answer ≡ negsuc k → (turned m c a).mirror ≡ m
+refusal_keeps : (m : Mirror) (c : ℕ) (a : Option Call) (k : ℕ) → (turned m c a).told.answer ≡ negsuc k → (turned m c a).mirror ≡ m
 unfolding turned
-refusal_keeps m c Nothing k h = refl
-refusal_keeps m c (Makes call) k h = leaves m (step (table_from m) c call) k h
+refusal_keeps m c None k h = refl
+refusal_keeps m c (Some call) k h = leaves m (step (table_from m) c call) k h
 
 pub refusals_leave : RefusalsLeave
 unfolding turn

@@ -1,10 +1,9 @@
 -- What is claimed of one call on the table that a host holds: read before and after, it goes as document 01's `step`
 -- says.
-use Rattle.std.specs.Prelude.{ℕ, true, false, List, ◌≡◌, negsuc}
+use Rattle.std.specs.Prelude.{ℕ, true, false, None, Some, List, ◌≡◌, negsuc}
 use Rattle.mirror.specs.Mirror.{is_written, table_from, mirror_of}
 use Rattle.mirror.specs.declared.Mirror.{Mirror}
 use Rattle.requests.specs.Requests.{asked_by, told_of, no_call}
-use Rattle.requests.specs.declared.Asked.TheVariants.{Nothing, Makes}
 use Rattle.requests.specs.declared.Request.{Request}
 use Rattle.rules.specs.Answers.{refused}
 use Rattle.rules.specs.Sound.{sound}
@@ -17,7 +16,7 @@ use Rattle.turns.specs.Turns.{turn, told_all, held_after, steps_told, steps_afte
 -- A request that is a call: document 01's answer and child, and its table afterwards.
 abbrev pub TurnsStep : Type 0
 TurnsStep =
-    (m : Mirror) (c : ℕ) (r : Request) (call : Call) → asked_by r ≡ Makes call
+    (m : Mirror) (c : ℕ) (r : Request) (call : Call) → asked_by r ≡ Some call
     → ((turn m c r).told ≡ told_of (step (table_from m) c call).reply)
     × (table_from (turn m c r).mirror ≡ (step (table_from m) c call).table)
 
@@ -29,13 +28,13 @@ RefusalsLeave =
 -- A request that is no call is told so and does nothing, whatever the host holds.
 abbrev pub OthersDoNothing : Type 0
 OthersDoNothing =
-    (m : Mirror) (c : ℕ) (r : Request) → asked_by r ≡ Nothing → ((turn m c r).told ≡ no_call) × ((turn m c r).mirror ≡ m)
+    (m : Mirror) (c : ℕ) (r : Request) → asked_by r ≡ None → ((turn m c r).told ≡ no_call) × ((turn m c r).mirror ≡ m)
 
 -- Bytes that no writer makes are caught: whatever else the host holds, each call is told that the table isn't sound and
 -- leaves it.
 abbrev pub CorruptionIsCaught : Type 0
 CorruptionIsCaught =
-    (m : Mirror) (c : ℕ) (r : Request) (call : Call) → is_written m ≡ false → asked_by r ≡ Makes call
+    (m : Mirror) (c : ℕ) (r : Request) (call : Call) → is_written m ≡ false → asked_by r ≡ Some call
     → ((turn m c r).told ≡ told_of (refused (table_from m) Unsound).reply) × ((turn m c r).mirror ≡ m)
 
 -- So what reads as a sound table is its mirror and no other: two that read as one sound table are the same bytes.

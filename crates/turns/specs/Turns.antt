@@ -1,16 +1,15 @@
 -- One call on the table that a host holds.
-use Rattle.std.specs.Prelude.{ℕ, List, [], ◌∷◌, ltb}
+use Rattle.std.specs.Prelude.{ℕ, Option, None, Some, List, [], ◌∷◌, ltb}
 use Rattle.mirror.specs.Mirror.{table_from, mirror_of}
 use Rattle.mirror.specs.declared.Mirror.{Mirror}
 use Rattle.requests.specs.Requests.{asked_by, told_of, no_call}
-use Rattle.requests.specs.declared.Asked.{Asked}
-use Rattle.requests.specs.declared.Asked.TheVariants.{Nothing, Makes}
 use Rattle.requests.specs.declared.Request.{Request}
 use Rattle.requests.specs.declared.Told.{Told}
 use Rattle.rules.specs.Answers.{is_refused}
 use Rattle.rules.specs.Step.{step}
 use Rattle.table.specs.Limits.{process_slots, no_slot}
 use Rattle.table.specs.Tests.{when◌then◌else◌}
+use Rattle.table.specs.declared.Call.{Call}
 use Rattle.table.specs.declared.Outcome.{Outcome}
 use Rattle.table.specs.declared.Table.{Table}
 use Rattle.turns.specs.declared.Done.{Done}
@@ -22,9 +21,9 @@ given_back m o =
 
 -- The call that is asked for, made by document 01's `step` on the table that the mirror reads as. The caller is any
 -- number: past the table's end it is nobody.
-unfoldable pub turned : Mirror → ℕ → Asked → Done
-turned m c Nothing = record { told = no_call; mirror = m }
-turned m c (Makes call) = given_back m (step (table_from m) c call)
+unfoldable pub turned : Mirror → ℕ → Option Call → Done
+turned m c None = record { told = no_call; mirror = m }
+turned m c (Some call) = given_back m (step (table_from m) c call)
 
 unfoldable pub turn : Mirror → ℕ → Request → Done
 turn m c r = turned m c (asked_by r)
@@ -43,13 +42,13 @@ held_after m (r ∷ rs) = held_after (turn m r.0 r.1).mirror rs
 
 -- The same by document 01 alone, on a table: the number, child and end of each answer, and the table at last. Where
 -- nothing is asked nothing happens.
-unfoldable pub asked_told : Table → ℕ → Asked → Told
-asked_told t c Nothing = no_call
-asked_told t c (Makes call) = told_of (step t c call).reply
+unfoldable pub asked_told : Table → ℕ → Option Call → Told
+asked_told t c None = no_call
+asked_told t c (Some call) = told_of (step t c call).reply
 
-unfoldable pub asked_after : Table → ℕ → Asked → Table
-asked_after t c Nothing = t
-asked_after t c (Makes call) = (step t c call).table
+unfoldable pub asked_after : Table → ℕ → Option Call → Table
+asked_after t c None = t
+asked_after t c (Some call) = (step t c call).table
 
 unfoldable pub steps_told : Table → List (ℕ × Request) → List Told
 steps_told t [] = []
