@@ -1,4 +1,6 @@
 -- Signed arguments: what is written is read back, and nothing else is read.
+use Rattle.std.proofs.lemmas.Option.{same_Some, none-some}
+use Rattle.std.specs.Prelude.{Option, Some, None}
 use Prim.Native.Nat.{ℕ, zero, suc, ◌<◌, ◌≤◌, ◌^◌}
 use mathlib.Core.List.{List, [], ◌∷◌}
 use mathlib.Core.Path.{◌≡◌, refl, sym, ap, subst, ◌∙◌}
@@ -16,13 +18,11 @@ use Rattle.script.specs.Lines.{Is32Bit}
 use Rattle.script.specs.Sizes.{past_32_bit, most_digits}
 use Rattle.script.specs.Reading.{read_natural, from_zero, below_zero, read_number}
 use Rattle.script.specs.Texts.{minus_sign, decimal, number}
-use Rattle.script.specs.declared.Natural.{Natural}
-use Rattle.script.specs.declared.Number.{Number}
 use Rattle.table.proofs.Chains.{by_bool}
 
 -- ---- what is written is read back
 
-pub number_read : (z : ℤ) → Is32Bit z → read_number (number z) ≡ Number.Is z
+pub number_read : (z : ℤ) → Is32Bit z → read_number (number z) ≡ Some z
 unfolding number
 number_read (pos n) h =
     let b : n < 10 ^ most_digits = omega arith in
@@ -46,46 +46,40 @@ number_length (negsuc n) = let h = decimal_length (suc n) in omega arith
 
 -- ---- nothing else is read
 
-number_inj : (y z : ℤ) → Number.Is y ≡ Number.Is z → y ≡ z
-number_inj y z e = cc
-
-pub number_bad : (z : ℤ) → Number.Bad ≡ Number.Is z → ⊥
-number_bad z e = let o : ◌≡◌ {A = ℕ} 0 1 = cc in omega arith
-
 -- the number z, by the value of its digits
-record Above (m : Natural) (z : ℤ) : Type 0 where
+record Above (m : Option ℕ) (z : ℤ) : Type 0 where
   value : ℕ
-  read : m ≡ Natural.Is value
+  read : m ≡ Some value
   is : z ≡ pos value
   fits : value < past_32_bit
 
-record Below (m : Natural) (z : ℤ) : Type 0 where
+record Below (m : Option ℕ) (z : ℤ) : Type 0 where
   value : ℕ
-  read : m ≡ Natural.Is (suc value)
+  read : m ≡ Some (suc value)
   is : z ≡ negsuc value
   fits : value < past_32_bit
 
-above : (m : Natural) (z : ℤ) → from_zero m ≡ Number.Is z → Above m z
-above Natural.Bad z e = absurd (number_bad z (sym from_zero_none ∙ e))
-above (Natural.Is n) z e =
+above : (m : Option ℕ) (z : ℤ) → from_zero m ≡ Some z → Above m z
+above None z e = absurd (none-some z (sym from_zero_none ∙ e))
+above (Some n) z e =
     by_bool (ltb n past_32_bit)
     (λ q.
     let h = ltb-true n past_32_bit q in
-    record { value = n; read = refl; is = number_inj z (pos n) (sym e ∙ from_zero_fits n h); fits = h })
-    (λ q. absurd (number_bad z (sym (from_zero_past n (ltb-false n past_32_bit q)) ∙ e)))
+    record { value = n; read = refl; is = same_Some z (pos n) (sym e ∙ from_zero_fits n h); fits = h })
+    (λ q. absurd (none-some z (sym (from_zero_past n (ltb-false n past_32_bit q)) ∙ e)))
 
-below : (m : Natural) (z : ℤ) → below_zero m ≡ Number.Is z → Below m z
-below Natural.Bad z e = absurd (number_bad z (sym below_zero_none ∙ e))
-below (Natural.Is zero) z e = absurd (number_bad z (sym (below_zero_zero 0 refl) ∙ e))
-below (Natural.Is (suc n)) z e =
+below : (m : Option ℕ) (z : ℤ) → below_zero m ≡ Some z → Below m z
+below None z e = absurd (none-some z (sym below_zero_none ∙ e))
+below (Some zero) z e = absurd (none-some z (sym (below_zero_zero 0 refl) ∙ e))
+below (Some (suc n)) z e =
     by_bool (ltb past_32_bit (suc n))
-    (λ q. absurd (number_bad z (sym (below_zero_past (suc n) (ltb-true past_32_bit (suc n) q)) ∙ e)))
+    (λ q. absurd (none-some z (sym (below_zero_past (suc n) (ltb-true past_32_bit (suc n) q)) ∙ e)))
     (λ q.
     let h = ltb-false past_32_bit (suc n) q in
     record {
       value = n;
       read = refl;
-      is = number_inj z (negsuc n) (sym e ∙ below_zero_fits (suc n) (λ o. omega arith) h);
+      is = same_Some z (negsuc n) (sym e ∙ below_zero_fits (suc n) (λ o. omega arith) h);
       fits = omega arith;
     })
 
@@ -99,8 +93,8 @@ below_text b bs z s a =
     let w = natural_written bs (suc a.value) a.read in
     subst (λ y. (b ∷ bs ≡ number y) × Is32Bit y) (sym a.is) ((λ j. s j ∷ w j), a.fits)
 
-pub number_written : (l : List ℕ) (z : ℤ) → read_number l ≡ Number.Is z → (l ≡ number z) × Is32Bit z
-number_written [] z e = absurd (number_bad z (sym (empty_number [] refl) ∙ e))
+pub number_written : (l : List ℕ) (z : ℤ) → read_number l ≡ Some z → (l ≡ number z) × Is32Bit z
+number_written [] z e = absurd (none-some z (sym (empty_number [] refl) ∙ e))
 number_written (b ∷ bs) z e =
     by_bool (eqb b minus_sign)
     (λ q.

@@ -1,4 +1,10 @@
 -- Decimal numbers: what is written is read back, and nothing else is read.
+use Rattle.std.specs.Prelude.{decimal as library_decimal}
+use Rattle.std.proofs.lemmas.Fmt.{decimal_from_appends, length-decimal-le}
+use mir.Syntax.{w32}
+use mir.Val.{Fits}
+use Rattle.std.proofs.lemmas.Option.{same_Some, none-some}
+use Rattle.std.specs.Prelude.{Some, None}
 use Prim.Native.Nat.{ℕ, zero, suc, pred, ◌<◌, ◌≤◌, ◌+◌, ◌-◌, ◌*◌, ◌/◌, ◌%◌, ◌^◌}
 use mathlib.Core.Bool.{Bool, true, false, false≢true}
 use mathlib.Core.List.{List, [], ◌∷◌, ◌++◌, append-nil}
@@ -14,17 +20,8 @@ use Rattle.script.proofs.Steps.{natural_long, natural_padded, natural_plain}
 use Rattle.script.specs.Reading.{word_length, is_digit, natural_from, read_natural}
 use Rattle.script.specs.Sizes.{most_digits}
 use Rattle.script.specs.Texts.{space, minus_sign, digit_0, digit_9, decimal_in, decimal}
-use Rattle.script.specs.declared.Natural.{Natural}
 use Rattle.table.proofs.Chains.{by_bool, pick_yes, pick_no}
 use Rattle.table.specs.Tests.{◌and◌}
-
--- ---- what `Is n` and `Bad` say
-
-pub is_inj : (m n : ℕ) → Natural.Is m ≡ Natural.Is n → m ≡ n
-is_inj m n e = cc
-
-pub bad_is : (n : ℕ) → Natural.Bad ≡ Natural.Is n → ⊥
-bad_is n e = let z : ◌≡◌ {A = ℕ} 0 1 = cc in omega arith
 
 both_first : (a b : Bool) → a and b ≡ true → a ≡ true
 unfolding ◌and◌
@@ -106,6 +103,14 @@ pub decimal_length : (n : ℕ) → length (decimal n) ≤ most_digits
 unfolding decimal
 decimal_length n = at_most most_digits n
 
+-- the library's decimal text is the definition's
+pub decimal_library : (n : ℕ) → Fits w32 n → library_decimal n ≡ decimal n
+unfolding decimal
+decimal_library n f =
+    let h = f.fits in
+    sym (decimal_from_appends decimal_in (record { one = decimal_small; more = decimal_large }) most_digits n (omega arith)
+    (length-decimal-le most_digits n (omega arith) (omega arith) (omega arith)))
+
 pub decimal_some : (n : ℕ) → 1 ≤ length (decimal n)
 unfolding decimal
 decimal_some n = at_least (pred most_digits) n
@@ -131,27 +136,27 @@ first_digit (suc k) n h b e =
 -- ---- what is written is read back
 
 -- one more digit at the end
-read_snoc : (ds : List ℕ) (m v d : ℕ) → d < 10 → natural_from m ds ≡ Natural.Is v → natural_from m (ds ++ (digit_0 + d) ∷ []) ≡ Natural.Is (v * 10 + d)
+read_snoc : (ds : List ℕ) (m v d : ℕ) → d < 10 → natural_from m ds ≡ Some v → natural_from m (ds ++ (digit_0 + d) ∷ []) ≡ Some (v * 10 + d)
 read_snoc [] m v d h e =
-    let i : m ≡ v = is_inj m v (sym (digits_none m) ∙ e) in
+    let i : m ≡ v = same_Some m v (sym (digits_none m) ∙ e) in
     let f : m * 10 + (digit_0 + d - digit_0) ≡ v * 10 + d = omega arith in
-    digit_goes_on m (digit_0 + d) [] (digit_is (digit_0 + d) (omega arith) (omega arith)) ∙ digits_none _ ∙ ap Natural.Is f
+    digit_goes_on m (digit_0 + d) [] (digit_is (digit_0 + d) (omega arith) (omega arith)) ∙ digits_none _ ∙ ap Some f
 read_snoc (b ∷ bs) m v d h e =
     by_bool (is_digit b)
     (λ q.
     digit_goes_on m b (bs ++ (digit_0 + d) ∷ []) q
     ∙ read_snoc bs (m * 10 + (b - digit_0)) v d h (sym (digit_goes_on m b bs q) ∙ e))
-    (λ q. absurd (bad_is v (sym (digit_stops m b bs q) ∙ e)))
+    (λ q. absurd (none-some v (sym (digit_stops m b bs q) ∙ e)))
 
-read_small : (k n : ℕ) → n < 10 → natural_from 0 (decimal_in (suc k) n) ≡ Natural.Is n
+read_small : (k n : ℕ) → n < 10 → natural_from 0 (decimal_in (suc k) n) ≡ Some n
 read_small k n l =
     let f : 0 * 10 + (digit_0 + n - digit_0) ≡ n = omega arith in
     ap (natural_from 0) (decimal_small k n l)
     ∙ digit_goes_on 0 (digit_0 + n) [] (digit_is (digit_0 + n) (omega arith) (omega arith))
     ∙ digits_none _
-    ∙ ap Natural.Is f
+    ∙ ap Some f
 
-read_decimal_in : (k n : ℕ) → n < 10 ^ suc k → natural_from 0 (decimal_in (suc k) n) ≡ Natural.Is n
+read_decimal_in : (k n : ℕ) → n < 10 ^ suc k → natural_from 0 (decimal_in (suc k) n) ≡ Some n
 read_decimal_in zero n h = read_small 0 n (omega arith)
 read_decimal_in (suc k) n h =
     by_size n
@@ -160,19 +165,19 @@ read_decimal_in (suc k) n h =
     let f : n / 10 * 10 + n % 10 ≡ n = omega arith in
     ap (natural_from 0) (decimal_large (suc k) n l)
     ∙ read_snoc (decimal_in (suc k) (n / 10)) 0 (n / 10) (n % 10) (omega arith) (read_decimal_in k (n / 10) (tenth k n h))
-    ∙ ap Natural.Is f)
+    ∙ ap Some f)
 
-natural_zero : read_natural (digit_0 ∷ []) ≡ Natural.Is 0
+natural_zero : read_natural (digit_0 ∷ []) ≡ Some 0
 unfolding read_natural
 natural_zero = refl
 
-pub decimal_read : (n : ℕ) → n < 10 ^ most_digits → read_natural (decimal n) ≡ Natural.Is n
+pub decimal_read : (n : ℕ) → n < 10 ^ most_digits → read_natural (decimal n) ≡ Some n
 unfolding decimal
 decimal_read n h =
     by_bool (eqb n 0)
     (λ e.
     let z = eqb-true n 0 e in
-    ap read_natural (decimal_one n (omega arith)) ∙ ap (λ m. read_natural ((digit_0 + m) ∷ [])) z ∙ natural_zero ∙ ap Natural.Is (sym z))
+    ap read_natural (decimal_one n (omega arith)) ∙ ap (λ m. read_natural ((digit_0 + m) ∷ [])) z ∙ natural_zero ∙ ap Some (sym z))
     (λ e.
     let z = eqb-false n 0 e in
     let s = decimal_some n in
@@ -189,9 +194,9 @@ unfolding is_digit
 digit_high_end b e = leb-true b digit_9 (both_second (leb digit_0 b) (leb b digit_9) e)
 
 -- The digits of n are p, those of the value so far, and those that are left.
-written : (l p : List ℕ) (m k n : ℕ) → 0 < m → m < 10 ^ k → length l + k ≤ most_digits → decimal m ≡ p → natural_from m l ≡ Natural.Is n → decimal n ≡ p ++ l
+written : (l p : List ℕ) (m k n : ℕ) → 0 < m → m < 10 ^ k → length l + k ≤ most_digits → decimal m ≡ p → natural_from m l ≡ Some n → decimal n ≡ p ++ l
 written [] p m k n z s h d e =
-    let i : m ≡ n = is_inj m n (sym (digits_none m) ∙ e) in
+    let i : m ≡ n = same_Some m n (sym (digits_none m) ∙ e) in
     ap decimal (sym i) ∙ d ∙ sym (append-nil p)
 written (b ∷ bs) p m k n z s h d e =
     by_bool (is_digit b)
@@ -207,9 +212,9 @@ written (b ∷ bs) p m k n z s h d e =
     decimal_more m' (omega arith) (omega arith) ∙ (λ j. decimal (x j) ++ y j ∷ []) ∙ ap (λ ds. ds ++ b ∷ []) d in
     written bs (p ++ b ∷ []) m' (suc k) n (omega arith) (omega arith) (omega arith) f (sym (digit_goes_on m b bs q) ∙ e)
     ∙ append_snoc p b bs)
-    (λ q. absurd (bad_is n (sym (digit_stops m b bs q) ∙ e)))
+    (λ q. absurd (none-some n (sym (digit_stops m b bs q) ∙ e)))
 
-natural_empty : read_natural [] ≡ Natural.Bad
+natural_empty : read_natural [] ≡ None
 unfolding read_natural
 natural_empty = refl
 
@@ -218,14 +223,14 @@ length_none [] e = refl
 length_none (b ∷ bs) e = absurd (omega arith)
 
 -- a lone 0
-lone_zero : (b : ℕ) (bs : List ℕ) (n : ℕ) → b ≡ digit_0 → length bs ≡ 0 → read_natural (b ∷ bs) ≡ Natural.Is n → b ∷ bs ≡ decimal n
+lone_zero : (b : ℕ) (bs : List ℕ) (n : ℕ) → b ≡ digit_0 → length bs ≡ 0 → read_natural (b ∷ bs) ≡ Some n → b ∷ bs ≡ decimal n
 lone_zero b bs n f o e =
     let x : b ∷ bs ≡ digit_0 ∷ [] = (λ j. f j ∷ length_none bs o j) in
-    let i = is_inj 0 n (sym natural_zero ∙ sym (ap read_natural x) ∙ e) in
+    let i = same_Some 0 n (sym natural_zero ∙ sym (ap read_natural x) ∙ e) in
     x ∙ sym (decimal_one 0 (omega arith)) ∙ ap decimal i
 
 -- digits, of which the first is not 0
-plain_digits : (b : ℕ) (bs : List ℕ) (n : ℕ) → (b ≡ digit_0 → ⊥) → length bs ≤ pred most_digits → natural_from 0 (b ∷ bs) ≡ Natural.Is n → b ∷ bs ≡ decimal n
+plain_digits : (b : ℕ) (bs : List ℕ) (n : ℕ) → (b ≡ digit_0 → ⊥) → length bs ≤ pred most_digits → natural_from 0 (b ∷ bs) ≡ Some n → b ∷ bs ≡ decimal n
 plain_digits b bs n f h e =
     by_bool (is_digit b)
     (λ q.
@@ -236,13 +241,13 @@ plain_digits b bs n f h e =
     let y : digit_0 + m ≡ b = omega arith in
     let d : decimal m ≡ b ∷ [] = decimal_one m (omega arith) ∙ ap (λ c. c ∷ []) y in
     sym (written bs (b ∷ []) m 1 n z (omega arith) (omega arith) d (sym (digit_goes_on 0 b bs q) ∙ e)))
-    (λ q. absurd (bad_is n (sym (digit_stops 0 b bs q) ∙ e)))
+    (λ q. absurd (none-some n (sym (digit_stops 0 b bs q) ∙ e)))
 
-pub natural_written : (l : List ℕ) (n : ℕ) → read_natural l ≡ Natural.Is n → l ≡ decimal n
-natural_written [] n e = absurd (bad_is n (sym natural_empty ∙ e))
+pub natural_written : (l : List ℕ) (n : ℕ) → read_natural l ≡ Some n → l ≡ decimal n
+natural_written [] n e = absurd (none-some n (sym natural_empty ∙ e))
 natural_written (b ∷ bs) n e =
     by_bool (ltb most_digits (length (b ∷ bs)))
-    (λ t. absurd (bad_is n (sym (natural_long (b ∷ bs) z (ltb-true most_digits (length (b ∷ bs)) t)) ∙ e)))
+    (λ t. absurd (none-some n (sym (natural_long (b ∷ bs) z (ltb-true most_digits (length (b ∷ bs)) t)) ∙ e)))
     (λ t.
     let h = ltb-false most_digits (length (b ∷ bs)) t in
     by_bool (eqb b digit_0)
@@ -251,7 +256,7 @@ natural_written (b ∷ bs) n e =
     (λ o. lone_zero b bs n (eqb-true b digit_0 f) (eqb-true (length bs) 0 o) e)
     (λ o.
     let o' = eqb-false (length bs) 0 o in
-    absurd (bad_is n (sym (natural_padded (b ∷ bs) z h (eqb-true b digit_0 f) (λ q. o' (omega arith))) ∙ e))))
+    absurd (none-some n (sym (natural_padded (b ∷ bs) z h (eqb-true b digit_0 f) (λ q. o' (omega arith))) ∙ e))))
     (λ f.
     let f' = eqb-false b digit_0 f in
     plain_digits b bs n f' (omega arith) (sym (natural_plain (b ∷ bs) z h f') ∙ e)))
@@ -261,7 +266,7 @@ natural_written (b ∷ bs) n e =
 
 -- ---- digits are no spaces
 
-digits_one_word : (l : List ℕ) (m n : ℕ) → natural_from m l ≡ Natural.Is n → word_length l ≡ length l
+digits_one_word : (l : List ℕ) (m n : ℕ) → natural_from m l ≡ Some n → word_length l ≡ length l
 unfolding word_length
 digits_one_word [] m n e = refl
 digits_one_word (b ∷ bs) m n e =
@@ -271,7 +276,7 @@ digits_one_word (b ∷ bs) m n e =
     let s : b ≡ space → ⊥ = λ x. omega arith in
     pick_no (eqb b space) 0 (suc (word_length bs)) (ne_eqb b space s)
     ∙ ap suc (digits_one_word bs (m * 10 + (b - digit_0)) n (sym (digit_goes_on m b bs q) ∙ e)))
-    (λ q. absurd (bad_is n (sym (digit_stops m b bs q) ∙ e)))
+    (λ q. absurd (none-some n (sym (digit_stops m b bs q) ∙ e)))
 
 pub decimal_one_word : (n : ℕ) → n < 10 ^ most_digits → word_length (decimal n) ≡ length (decimal n)
 unfolding decimal
@@ -279,12 +284,12 @@ decimal_one_word n h = digits_one_word (decimal_in most_digits n) 0 n (read_deci
 
 -- ---- nor is one of them a minus sign
 
-digits_unsigned : (l : List ℕ) (m n : ℕ) → natural_from m l ≡ Natural.Is n → get_or l 0 0 ≡ minus_sign → ⊥
+digits_unsigned : (l : List ℕ) (m n : ℕ) → natural_from m l ≡ Some n → get_or l 0 0 ≡ minus_sign → ⊥
 digits_unsigned [] m n e s = omega arith
 digits_unsigned (b ∷ bs) m n e s =
     by_bool (is_digit b)
     (λ q. let l = digit_low_end b q in omega arith)
-    (λ q. bad_is n (sym (digit_stops m b bs q) ∙ e))
+    (λ q. none-some n (sym (digit_stops m b bs q) ∙ e))
 
 pub decimal_unsigned : (n : ℕ) → n < 10 ^ most_digits → get_or (decimal n) 0 0 ≡ minus_sign → ⊥
 unfolding decimal

@@ -1,4 +1,5 @@
 -- Lines of document 01 and lines that it rules out, by computing.
+use Rattle.std.specs.Prelude.{None}
 use mathlib.Core.Bool.{true}
 use mathlib.Core.Path.{◌≡◌, refl}
 use lib.IntN.{pos, negsuc}
@@ -7,7 +8,6 @@ use Rattle.script.specs.Lines.{line_of}
 use Rattle.script.specs.Outputs.{answer_line}
 use Rattle.script.specs.Reading.{read_line}
 use Rattle.script.specs.Texts.{bytes}
-use Rattle.script.specs.declared.Parsed.{Parsed}
 use Rattle.rules.specs.Answers.{refusal_number, number_of, end_of}
 use Rattle.table.specs.declared.Answer.TheVariants.{Refused, Number, Reaped}
 use Rattle.table.specs.declared.Call.TheVariants.{CloneNew, Setns, Kill, Handle}
@@ -34,55 +34,55 @@ least_text = refl
 
 -- ---- lines that are no calls
 
-empty : read_line (bytes "") ≡ Parsed.Bad
+empty : read_line (bytes "") ≡ None
 unfolding script
 empty = refl
 
-needless_zero : read_line (bytes "01 wait") ≡ Parsed.Bad
+needless_zero : read_line (bytes "01 wait") ≡ None
 unfolding script
 needless_zero = refl
 
-minus_zero : read_line (bytes "0 exit -0") ≡ Parsed.Bad
+minus_zero : read_line (bytes "0 exit -0") ≡ None
 unfolding script
 minus_zero = refl
 
-plus : read_line (bytes "0 exit +1") ≡ Parsed.Bad
+plus : read_line (bytes "0 exit +1") ≡ None
 unfolding script
 plus = refl
 
-past_32_bit : read_line (bytes "0 exit 2147483648") ≡ Parsed.Bad
+past_32_bit : read_line (bytes "0 exit 2147483648") ≡ None
 unfolding script
 past_32_bit = refl
 
-below_32_bit : read_line (bytes "0 exit -2147483649") ≡ Parsed.Bad
+below_32_bit : read_line (bytes "0 exit -2147483649") ≡ None
 unfolding script
 below_32_bit = refl
 
-slot_256 : read_line (bytes "256 wait") ≡ Parsed.Bad
+slot_256 : read_line (bytes "256 wait") ≡ None
 unfolding script
 slot_256 = refl
 
-two_spaces : read_line (bytes "0  wait") ≡ Parsed.Bad
+two_spaces : read_line (bytes "0  wait") ≡ None
 unfolding script
 two_spaces = refl
 
-space_at_end : read_line (bytes "0 wait ") ≡ Parsed.Bad
+space_at_end : read_line (bytes "0 wait ") ≡ None
 unfolding script
 space_at_end = refl
 
-tab : read_line (bytes "0\twait") ≡ Parsed.Bad
+tab : read_line (bytes "0\twait") ≡ None
 unfolding script
 tab = refl
 
-third_number : read_line (bytes "0 handle 15 2") ≡ Parsed.Bad
+third_number : read_line (bytes "0 handle 15 2") ≡ None
 unfolding script
 third_number = refl
 
-no_slot : read_line (bytes "wait") ≡ Parsed.Bad
+no_slot : read_line (bytes "wait") ≡ None
 unfolding script
 no_slot = refl
 
-one_more : read_line (bytes "0 getpid 1") ≡ Parsed.Bad
+one_more : read_line (bytes "0 getpid 1") ≡ None
 unfolding script
 one_more = refl
 

@@ -2,8 +2,8 @@
 pub mod Scans
 pub mod Numbers
 pub mod Calls
-pub mod Steps
 pub mod Parts
+pub mod Steps
 pub mod Decimals
 pub mod Words
 pub mod Arguments

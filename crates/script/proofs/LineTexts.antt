@@ -1,4 +1,5 @@
 -- The reader finds a slot and a call in their one text, and in no other line: specs/Claims.antt.
+use Rattle.std.specs.Prelude.{Option, Some, None}
 use Prim.Native.Nat.{ℕ, ◌<◌, ◌≤◌}
 use mathlib.Core.List.{List, ◌∷◌, ◌++◌}
 use mathlib.Core.Path.{◌≡◌, sym, ap, ap₂, ◌∙◌}
@@ -6,6 +7,7 @@ use borrow.Author.Tests.{leb-true, leb-false, ltb-true, ltb-false, le-ltb}
 use lib.Dec.{leb, ltb}
 use lib.ListN.{length, length-append}
 use native.Mathlib.Omega.{arith}
+use Rattle.std.proofs.lemmas.Option.{same_Some, none-some}
 use Rattle.script.proofs.CallTexts.{call_read, call_length, call_written}
 use Rattle.script.proofs.Decimals.{decimal_read, decimal_length, decimal_one_word, natural_written}
 use Rattle.script.proofs.Steps.{too_long, no_call, slot_and_call}
@@ -13,11 +15,8 @@ use Rattle.script.proofs.Words.{first_of, later_of, broken, joined}
 use Rattle.script.specs.Claims.{DecimalsAreRead, OnlyDecimalsAreRead, TextsAreRead, OnlyTextsAreRead, ExactlyTextsAreRead}
 use Rattle.script.specs.Lines.{call_text, line_of, FitsALine}
 use Rattle.script.specs.Sizes.{greatest_slot, line_bytes}
-use Rattle.script.specs.Reading.{word_length, first_word, later_words, read_natural, read_call, asked_by, after_slot, read_line}
+use Rattle.script.specs.Reading.{good, word_length, first_word, later_words, read_natural, read_call, asked_by, after_slot, read_line}
 use Rattle.script.specs.Texts.{space, decimal}
-use Rattle.script.specs.declared.Natural.{Natural}
-use Rattle.script.specs.declared.Parsed.{Parsed}
-use Rattle.script.specs.declared.Request.{Request}
 use Rattle.table.proofs.Chains.{by_bool, pick_yes, pick_no}
 use Rattle.table.specs.declared.Call.{Call}
 use Rattle.table.specs.declared.ProcSlot.{ProcSlot}
@@ -30,10 +29,10 @@ only_decimals_are_read l n e = natural_written l n e
 
 -- ---- the text of a slot and a call is read as them
 
-slot_read : (n : ℕ) (l : List ℕ) (c : Call) → n ≤ greatest_slot → read_call l ≡ Request.Is c → after_slot (Natural.Is n) l ≡ Parsed.Good (record { 0 = n }) c
+slot_read : (n : ℕ) (l : List ℕ) (c : Call) → n ≤ greatest_slot → read_call l ≡ Some c → after_slot (Some n) l ≡ good (record { 0 = n }) c
 unfolding after_slot asked_by
 slot_read n l c h e =
-    pick_no (ltb greatest_slot n) Parsed.Bad (asked_by n (read_call l)) (le-ltb greatest_slot n h) ∙ ap (asked_by n) e
+    pick_no (ltb greatest_slot n) None (asked_by n (read_call l)) (le-ltb greatest_slot n h) ∙ ap (asked_by n) e
 
 pub texts_are_read : TextsAreRead
 unfolding line_of
@@ -51,33 +50,29 @@ texts_are_read slot c h =
 
 -- ---- nothing else is
 
-parsed_bad : (slot : ProcSlot) (c : Call) → Parsed.Bad ≡ Parsed.Good slot c → ⊥
-parsed_bad slot c e = let o : ◌≡◌ {A = ℕ} 0 1 = cc in omega arith
-
-record Found (m : Natural) (l : List ℕ) (slot : ProcSlot) (c : Call) : Type 0 where
-  read : m ≡ Natural.Is slot.0
+record Found (m : Option ℕ) (l : List ℕ) (slot : ProcSlot) (c : Call) : Type 0 where
+  read : m ≡ Some slot.0
   fits : slot.0 ≤ greatest_slot
-  asks : read_call l ≡ Request.Is c
+  asks : read_call l ≡ Some c
 
-asked : (n : ℕ) (q : Request) (slot : ProcSlot) (c : Call) → asked_by n q ≡ Parsed.Good slot c → (n ≡ slot.0) × (q ≡ Request.Is c)
+asked : (n : ℕ) (q : Option Call) (slot : ProcSlot) (c : Call) → asked_by n q ≡ good slot c → (n ≡ slot.0) × (q ≡ Some c)
 unfolding asked_by
-asked n Request.Bad slot c e = absurd (parsed_bad slot c e)
-asked n (Request.Is d) slot c e =
-    let s : ◌≡◌ {A = ProcSlot} (record { 0 = n }) slot = cc in
-    let t : d ≡ c = cc in
-    (ap (λ p. p.0) s, ap Request.Is t)
+asked n None slot c e = absurd (none-some _ e)
+asked n (Some d) slot c e =
+    let r = same_Some _ _ e in
+    (ap (λ a. a.slot.0) r, ap (λ a. Some a.call) r)
 
-slot_found : (m : Natural) (l : List ℕ) (slot : ProcSlot) (c : Call) → after_slot m l ≡ Parsed.Good slot c → Found m l slot c
+slot_found : (m : Option ℕ) (l : List ℕ) (slot : ProcSlot) (c : Call) → after_slot m l ≡ good slot c → Found m l slot c
 unfolding after_slot
-slot_found Natural.Bad l slot c e = absurd (parsed_bad slot c e)
-slot_found (Natural.Is n) l slot c e =
+slot_found None l slot c e = absurd (none-some _ e)
+slot_found (Some n) l slot c e =
     by_bool (ltb greatest_slot n)
-    (λ t. absurd (parsed_bad slot c (sym (pick_yes (ltb greatest_slot n) Parsed.Bad (asked_by n (read_call l)) t) ∙ e)))
+    (λ t. absurd (none-some _ (sym (pick_yes (ltb greatest_slot n) None (asked_by n (read_call l)) t) ∙ e)))
     (λ t.
     let h = ltb-false greatest_slot n t in
-    let a = asked n (read_call l) slot c (sym (pick_no (ltb greatest_slot n) Parsed.Bad (asked_by n (read_call l)) t) ∙ e) in
+    let a = asked n (read_call l) slot c (sym (pick_no (ltb greatest_slot n) None (asked_by n (read_call l)) t) ∙ e) in
     let s = a.0 in
-    record { read = ap Natural.Is s; fits = omega arith; asks = a.1 })
+    record { read = ap Some s; fits = omega arith; asks = a.1 })
 
 line_found : (l : List ℕ) (slot : ProcSlot) (c : Call) → word_length l < length l → Found (read_natural (first_word l)) (later_words l) slot c → (l ≡ line_of slot.0 c) × FitsALine slot.0 c
 unfolding line_of
@@ -89,11 +84,11 @@ line_found l slot c h f =
 pub only_texts_are_read : OnlyTextsAreRead
 only_texts_are_read l slot c e =
     by_bool (ltb line_bytes (length l))
-    (λ t. absurd (parsed_bad slot c (sym (too_long l (ltb-true line_bytes (length l) t)) ∙ e)))
+    (λ t. absurd (none-some _ (sym (too_long l (ltb-true line_bytes (length l) t)) ∙ e)))
     (λ t.
     let s = ltb-false line_bytes (length l) t in
     by_bool (leb (length l) (word_length l))
-    (λ u. absurd (parsed_bad slot c (sym (no_call l s (leb-true (length l) (word_length l) u)) ∙ e)))
+    (λ u. absurd (none-some _ (sym (no_call l s (leb-true (length l) (word_length l) u)) ∙ e)))
     (λ u.
     let h = leb-false (length l) (word_length l) u in
     line_found l slot c h (slot_found (read_natural (first_word l)) (later_words l) slot c (sym (slot_and_call l s h) ∙ e))))

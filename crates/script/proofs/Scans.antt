@@ -1,21 +1,26 @@
--- The reader's three loops over bytes. Each has a record, its invariant, that says what is still to be read from place
--- i on, and laws for its first turn, a next turn and each way out. The rulesets close the loops' needs.
+-- How the reader goes over bytes: to the first space, through two texts, and over digits. The loop over digits has a
+-- record, its invariant, and laws for its first turn, a next turn and each way out.
+use Rattle.std.specs.Prelude.{Some, None, ◌==◌, position, bytes_eq, cond, ◌&&◌}
+use Rattle.std.specs.Char.{is_ascii_digit}
+use Rattle.std.specs.List.{position_or_len}
+use Rattle.std.proofs.lemmas.List.Recursion.{is_position_or_len}
+use Rattle.std.proofs.lemmas.Option.{cond_some, none-some}
 use Prim.Native.Nat.{ℕ, suc, pred, ◌<◌, ◌≤◌, ◌+◌, ◌-◌, ◌*◌, ◌^◌}
-use mathlib.Core.Bool.{true, false, false≢true}
+use mathlib.Core.Bool.{Bool, true, false, false≢true}
 use mathlib.Core.List.{List, [], ◌∷◌}
 use mathlib.Core.Path.{◌≡◌, refl, sym, ap, ◌∙◌}
-use borrow.Author.Tests.{eq-eqb, ne_eqb, le-leb, lt-leb, eqb-true}
+use borrow.Author.Tests.{eq-eqb, ne_eqb, le-leb, eqb-true, ltb-true, ltb-false, leb-true}
 use lib.Dec.{eqb, leb}
-use lib.ListN.{length, get_or, drop, drop_of_length-le}
-use lib.Seq.{drop-cons}
-use native.Mathlib.Nat.{zero-add, pow-suc, pow-le-pow_right}
+use lib.ListN.{length, get_or, take, drop, length-drop, drop_of_length-le}
+use lib.Seq.{drop-cons, take_all}
+use native.Mathlib.Nat.{pow-suc, pow-le-pow_right}
 use native.Mathlib.Numerals.{add-one}
 use native.Mathlib.Omega.{arith}
-use Rattle.script.specs.Reading.{word_length, same, is_digit, natural_from}
+use Rattle.script.specs.Reading.{word_length, first_word, later_words, same, is_digit, natural_from}
 use Rattle.script.specs.Sizes.{most_digits}
 use Rattle.script.specs.Texts.{space, digit_0, digit_9}
-use Rattle.script.specs.declared.Natural.{Natural}
-use Rattle.table.proofs.Chains.{by_bool, pick_yes, pick_no, and_true, and_false, and_false_later}
+use Rattle.table.specs.Tests.{◌and◌}
+use Rattle.table.proofs.Chains.{by_bool, pick_yes, pick_no, and_true}
 
 -- ---- the end of a word
 
@@ -31,34 +36,44 @@ pub word_none : word_length [] ≡ 0
 unfolding word_length
 word_none = refl
 
-pub record InWord (s : List ℕ) (i : ℕ) : Type 0 where
-  pub within : i ≤ length s
-  pub rest : word_length s ≡ i + word_length (drop i s)
+-- the length of a word by the library's search
+word_first : (l : List ℕ) → word_length l ≡ position_or_len (λ b. b == space) l
+unfolding word_length
+word_first = is_position_or_len word_length (λ b. b == space) refl (λ b bs. go (eqb b space) (word_length bs))
+  where
+    go : (t : Bool) (n : ℕ) → (elim t as (λ _. ℕ) [ true ↦ 0 | false ↦ suc n ]) ≡ cond t 0 (1 + n)
+    go true n = refl
+    go false n = omega arith
 
-pub word_starts : (s : List ℕ) → InWord s 0
-word_starts s = record { within = omega arith; rest = sym (zero-add _) }
+-- a space that is found ends the first word
+space_found : (l : List ℕ) (n : ℕ) → Some n ≡ position (λ b. b == space) l → (n ≡ word_length l) × (word_length l < length l)
+space_found l n e =
+    let w = word_first l in
+    let p = cond_some _ _ _ (sym e) in
+    let h = ltb-true _ _ p.0 in
+    (sym (w ∙ p.1), omega arith)
 
-pub word_next : (s : List ℕ) (i : ℕ) → InWord s i → i < length s → (get_or s i 0 ≡ space → ⊥) → InWord s (i + 1)
-word_next s i k h e =
-    let q = word_goes_on (get_or s i 0) (drop (suc i) s) e in
-    let p : word_length (drop i s) ≡ suc (word_length (drop (suc i) s)) = ap word_length (drop-cons s i 0 h) ∙ q in
-    let r = k.rest in
-    record { within = omega arith; rest = rw add-one (omega arith) }
-
-pub word_found : (s : List ℕ) (i : ℕ) → InWord s i → i < length s → get_or s i 0 ≡ space → i ≡ word_length s
-word_found s i k h e =
-    let q = word_ends (get_or s i 0) (drop (suc i) s) e in
-    let p : word_length (drop i s) ≡ 0 = ap word_length (drop-cons s i 0 h) ∙ q in
-    let r = k.rest in
+pub space_missing : (l : List ℕ) → None ≡ position (λ b. b == space) l → length l ≤ word_length l
+space_missing l e =
+    let w = word_first l in
+    let h = ltb-false _ _ (go _ _ e) in
     omega arith
+  where
+    go : (t : Bool) (n : ℕ) → None ≡ cond t (Some n) None → t ≡ false
+    go true n e = absurd (none-some n e)
+    go false n e = refl
 
-pub word_over : (s : List ℕ) (i : ℕ) → InWord s i → length s ≤ i → i ≡ word_length s
-word_over s i k h =
-    let p : word_length (drop i s) ≡ 0 = ap word_length (drop_of_length-le s h) ∙ word_none in
-    let r = k.rest in
-    omega arith
+-- the part from a place on, as code slices it
+pub part_from : (l : List ℕ) (a : ℕ) → take (length l - a) (drop a l) ≡ drop a l
+part_from l a =
+    let h : length (drop a l) ≤ length l - a = omega (arith, length-drop a l) in
+    take_all (length l - a) (drop a l) h
 
-pub ruleset word_loop = (word_starts, word_next, word_found, word_over)
+-- the two parts of a text with a space
+pub space_parts : (l : List ℕ) (n : ℕ) → Some n ≡ position (λ b. b == space) l → (word_length l < length l) × (take n l ≡ first_word l) × (take (length l - (n + 1)) (drop (n + 1) l) ≡ later_words l)
+space_parts l n e =
+    let f = space_found l n e in
+    (f.1, ap (λ k. take k l) f.0, part_from l (n + 1) ∙ ap (λ k. drop k l) (add-one n ∙ ap suc f.0))
 
 -- ---- two texts
 
@@ -91,35 +106,20 @@ pub same_refl : (a : List ℕ) → same a a ≡ true
 same_refl [] = same_none
 same_refl (x ∷ xs) = same_goes_on x x xs xs refl ∙ same_refl xs
 
-pub same_other_length : (a b : List ℕ) → (length a ≡ length b → ⊥) → false ≡ same a b
-same_other_length a b h =
-    by_bool (same a b) (λ q. absurd (h (ap length (same_true a b q)))) (λ q. sym q)
+-- what `==` says of two texts
+pub same_is : (a b : List ℕ) (r : Bool) → r ≡ bytes_eq a b → r ≡ same a b
+unfolding same
+same_is a b r e = e ∙ both a b
+  where
+    go : (t x y : Bool) → x ≡ y → (t && x) ≡ (elim t as (λ _. Bool) [ true ↦ y | false ↦ false ])
+    go true x y p = p
+    go false x y p = refl
 
-pub record Alike (a b : List ℕ) (i : ℕ) : Type 0 where
-  pub within : i ≤ length a
-  pub rest : same a b ≡ same (drop i a) (drop i b)
-
-pub alike_starts : (a b : List ℕ) → Alike a b 0
-alike_starts a b = record { within = omega arith; rest = refl }
-
-pub alike_next : (a b : List ℕ) (i : ℕ) → Alike a b i → length a ≡ length b → i < length a → get_or a i 0 ≡ get_or b i 0 → Alike a b (i + 1)
-alike_next a b i k l h e =
-    let g : i < length b = omega arith in
-    let q = same_goes_on (get_or a i 0) (get_or b i 0) (drop (suc i) a) (drop (suc i) b) e in
-    record { within = omega arith; rest = k.rest ∙ rw (add-one, drop-cons a i 0 h, drop-cons b i 0 g) q }
-
-pub alike_stops : (a b : List ℕ) (i : ℕ) → Alike a b i → length a ≡ length b → i < length a → (get_or a i 0 ≡ get_or b i 0 → ⊥) → false ≡ same a b
-alike_stops a b i k l h e =
-    let g : i < length b = omega arith in
-    let q = same_stops (get_or a i 0) (get_or b i 0) (drop (suc i) a) (drop (suc i) b) e in
-    sym (k.rest ∙ rw (drop-cons a i 0 h, drop-cons b i 0 g) q)
-
-pub alike_over : (a b : List ℕ) (i : ℕ) → Alike a b i → length a ≡ length b → length a ≤ i → true ≡ same a b
-alike_over a b i k l h =
-    let g : length b ≤ i = omega arith in
-    sym (k.rest ∙ rw (drop_of_length-le a h, drop_of_length-le b g) same_none)
-
-pub ruleset alike_loop = (same_other_length, alike_starts, alike_next, alike_stops, alike_over)
+    both : (a b : List ℕ) → bytes_eq a b ≡ same a b
+    both [] [] = refl
+    both [] (y ∷ ys) = refl
+    both (x ∷ xs) [] = refl
+    both (x ∷ xs) (y ∷ ys) = go (eqb x y) (bytes_eq xs ys) (same xs ys) (both xs ys)
 
 -- ---- digits
 
@@ -127,23 +127,32 @@ pub digit_is : (b : ℕ) → digit_0 ≤ b → b ≤ digit_9 → is_digit b ≡ 
 unfolding is_digit
 digit_is b l h = and_true (leb digit_0 b) (leb b digit_9) (le-leb digit_0 b l) (le-leb b digit_9 h)
 
-digit_low : (b : ℕ) → b < digit_0 → is_digit b ≡ false
-unfolding is_digit
-digit_low b h = and_false (leb digit_0 b) (leb b digit_9) (lt-leb digit_0 b h)
+-- the library's test is the definition's
+digit_test : (b : ℕ) → is_ascii_digit b ≡ is_digit b
+unfolding is_digit ◌and◌
+digit_test b = go (leb digit_0 b) (leb b digit_9)
+  where
+    go : (x y : Bool) → (x && y) ≡ x and y
+    go true y = refl
+    go false y = refl
 
-digit_high : (b : ℕ) → digit_9 < b → is_digit b ≡ false
-unfolding is_digit
-digit_high b h = and_false_later (leb digit_0 b) (leb b digit_9) (lt-leb b digit_9 h)
+digit_bounds : (b : ℕ) → is_ascii_digit b ≡ true → (digit_0 ≤ b) × (b ≤ digit_9)
+digit_bounds b e = go (leb digit_0 b) (leb b digit_9) refl refl e
+  where
+    go : (x y : Bool) → leb digit_0 b ≡ x → leb b digit_9 ≡ y → (x && y) ≡ true → (digit_0 ≤ b) × (b ≤ digit_9)
+    go true true p q t = (leb-true digit_0 b p, leb-true b digit_9 q)
+    go true false p q t = absurd (false≢true t)
+    go false y p q t = absurd (false≢true t)
 
 pub digit_goes_on : (n b : ℕ) (bs : List ℕ) → is_digit b ≡ true → natural_from n (b ∷ bs) ≡ natural_from (n * 10 + (b - digit_0)) bs
 unfolding natural_from
-digit_goes_on n b bs e = pick_yes (is_digit b) (natural_from (n * 10 + (b - digit_0)) bs) Natural.Bad e
+digit_goes_on n b bs e = pick_yes (is_digit b) (natural_from (n * 10 + (b - digit_0)) bs) None e
 
-pub digit_stops : (n b : ℕ) (bs : List ℕ) → is_digit b ≡ false → natural_from n (b ∷ bs) ≡ Natural.Bad
+pub digit_stops : (n b : ℕ) (bs : List ℕ) → is_digit b ≡ false → natural_from n (b ∷ bs) ≡ None
 unfolding natural_from
-digit_stops n b bs e = pick_no (is_digit b) (natural_from (n * 10 + (b - digit_0)) bs) Natural.Bad e
+digit_stops n b bs e = pick_no (is_digit b) (natural_from (n * 10 + (b - digit_0)) bs) None e
 
-pub digits_none : (n : ℕ) → natural_from n [] ≡ Natural.Is n
+pub digits_none : (n : ℕ) → natural_from n [] ≡ Some n
 unfolding natural_from
 digits_none n = refl
 
@@ -156,9 +165,12 @@ pub record Valued (s : List ℕ) (n i : ℕ) : Type 0 where
 pub value_starts : (s : List ℕ) → Valued s 0 0
 value_starts s = record { within = omega arith; small = omega arith; rest = refl }
 
-pub value_next : (s : List ℕ) (n i : ℕ) → Valued s n i → i < length s → digit_0 ≤ get_or s i 0 → get_or s i 0 ≤ digit_9 → Valued s (n * 10 + (get_or s i 0 - digit_0)) (i + 1)
-value_next s n i k h l u =
-    let q = digit_goes_on n (get_or s i 0) (drop (suc i) s) (digit_is (get_or s i 0) l u) in
+pub value_next : (s : List ℕ) (n i : ℕ) (r : Bool) → Valued s n i → i < length s → r ≡ is_ascii_digit (get_or s i 0) → r ≡ true → Valued s (n * 10 + (get_or s i 0 - digit_0)) (i + 1)
+value_next s n i r k h e t =
+    let q = digit_goes_on n (get_or s i 0) (drop (suc i) s) (sym (digit_test (get_or s i 0)) ∙ sym e ∙ t) in
+    let d = digit_bounds (get_or s i 0) (sym e ∙ t) in
+    let a = d.0 in
+    let b = d.1 in
     let w = k.small in
     let p = pow-suc 10 i in
     record {
@@ -167,17 +179,12 @@ value_next s n i k h l u =
       rest = k.rest ∙ rw (add-one, drop-cons s i 0 h) q;
     }
 
-pub value_low : (s : List ℕ) (n i : ℕ) → Valued s n i → i < length s → get_or s i 0 < digit_0 → Natural.Bad ≡ natural_from 0 s
-value_low s n i k h l =
-    let q = digit_stops n (get_or s i 0) (drop (suc i) s) (digit_low (get_or s i 0) l) in
+pub value_out : (s : List ℕ) (n i : ℕ) (r : Bool) → Valued s n i → i < length s → r ≡ is_ascii_digit (get_or s i 0) → r ≡ false → None ≡ natural_from 0 s
+value_out s n i r k h e t =
+    let q = digit_stops n (get_or s i 0) (drop (suc i) s) (sym (digit_test (get_or s i 0)) ∙ sym e ∙ t) in
     sym (k.rest ∙ rw (drop-cons s i 0 h) q)
 
-pub value_high : (s : List ℕ) (n i : ℕ) → Valued s n i → i < length s → digit_9 < get_or s i 0 → Natural.Bad ≡ natural_from 0 s
-value_high s n i k h l =
-    let q = digit_stops n (get_or s i 0) (drop (suc i) s) (digit_high (get_or s i 0) l) in
-    sym (k.rest ∙ rw (drop-cons s i 0 h) q)
-
-pub value_over : (s : List ℕ) (n i : ℕ) → Valued s n i → length s ≤ i → Natural.Is n ≡ natural_from 0 s
+pub value_over : (s : List ℕ) (n i : ℕ) → Valued s n i → length s ≤ i → Some n ≡ natural_from 0 s
 value_over s n i k h = sym (k.rest ∙ rw (drop_of_length-le s h) (digits_none n))
 
 -- before the last digit the value has one digit less than the most
@@ -187,4 +194,4 @@ value_small s n i k h l =
     let p : 10 ^ i ≤ 10 ^ pred most_digits = pow-le-pow_right {n = 10} (omega arith) {i = i} {j = pred most_digits} (omega arith) in
     omega arith
 
-pub ruleset value_loop = (value_starts, value_next, value_low, value_high, value_over)
+pub ruleset value_loop = (value_starts, value_next, value_out, value_over)

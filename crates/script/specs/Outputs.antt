@@ -1,9 +1,9 @@
 -- The lines that are written.
 use Rattle.std.specs.Prelude.{ℕ, ◌+◌, ◌≤◌, List, [], ◌∷◌, ◌++◌, ◌≡◌, length, take, drop}
 use Rattle.std.proofs.Math.Option.{Option, none, some}
+use Rattle.arrayvec.specs.ArrayString.{ArrayString}
 use Rattle.script.specs.Sizes.{answer_bytes}
 use Rattle.script.specs.Texts.{bytes, line_feed, decimal, number}
-use Rattle.script.specs.declared.Text.{Text}
 use Rattle.rules.specs.Answers.{number_of, end_of}
 use Rattle.table.specs.declared.Answer.{Answer}
 use Rattle.table.specs.declared.End.{End}
@@ -26,24 +26,15 @@ answer_line a = number (number_of a) ++ removed_text (end_of a) ++ line_feed ∷
 unfoldable pub bad_line : List ℕ
 bad_line = bytes "?" ++ line_feed ∷ []
 
--- ---- a text in the code: the first len of its bytes
-
-abbrev pub text : Text → List ℕ
-text t = take t.len t.bytes
+-- ---- a text in the code
 
 -- t holds the bytes l and no more
-pub record Written (t : Text) (l : List ℕ) : Type 0 where
-  pub size : t.len ≡ length l
-  pub room : t.len ≤ answer_bytes
-  pub holds : text t ≡ l
+pub record Written (t : ArrayString) (l : List ℕ) : Type 0 where
+  pub room : length t.bytes ≤ answer_bytes
+  pub holds : t.bytes ≡ l
 
--- u is t with the bytes l after it
-pub record Appended (t : Text) (l : List ℕ) (u : Text) : Type 0 where
-  pub size : u.len ≡ t.len + length l
-  pub holds : text u ≡ text t ++ l
-
--- What a lent buffer holds after t was copied into it from place `at` on, and the place after it: t there, and all else
--- as before.
-pub record Copied (t : Text) (at : ℕ) (before after : List ℕ) (next : ℕ) : Type 0 where
-  pub place : next ≡ at + t.len
-  pub holds : after ≡ take at before ++ text t ++ drop next before
+-- What a lent buffer holds after a text was copied into it from place `at` on, and the place after it: the text there,
+-- and all else as before.
+pub record Copied (text : List ℕ) (at : ℕ) (before after : List ℕ) (next : ℕ) : Type 0 where
+  pub place : next ≡ at + length text
+  pub holds : after ≡ take at before ++ text ++ drop next before

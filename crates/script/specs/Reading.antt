@@ -1,14 +1,13 @@
 -- How a line is read, word by word. It finds a slot and a call in their one text, and in no other line:
 -- specs/Claims.antt says so, and proofs/LineTexts.antt shows it.
-use Rattle.std.specs.Prelude.{ℕ, suc, ◌+◌, ◌-◌, ◌*◌, Bool, true, false, List, [], ◌∷◌, eqb, ltb, leb, pos, neg_ℤ, length, get_or, take, drop}
+use Rattle.std.specs.Prelude.{ℕ, suc, ◌+◌, ◌-◌, ◌*◌, Bool, true, false, List, [], ◌∷◌, eqb, ltb, leb, ℤ, pos, neg_ℤ, length, get_or, take, drop, Option, Some, None}
 use Rattle.script.specs.Texts.{bytes, space, minus_sign, digit_0, digit_9}
 use Rattle.script.specs.Sizes.{line_bytes, greatest_slot, past_32_bit, most_digits}
-use Rattle.script.specs.declared.Natural.{Natural}
-use Rattle.script.specs.declared.Number.{Number}
-use Rattle.script.specs.declared.Request.{Request}
-use Rattle.script.specs.declared.Parsed.{Parsed}
+use Rattle.script.specs.declared.Asked.{Asked}
 use Rattle.table.specs.Tests.{◌and◌, when◌then◌else◌}
+use Rattle.table.specs.declared.Call.{Call}
 use Rattle.table.specs.declared.Call.TheVariants.{Clone, CloneNew, Unshare, Setns, Kill, Exit, Wait, Getpid, Getppid, Handle, Poll}
+use Rattle.table.specs.declared.ProcSlot.{ProcSlot}
 
 -- ---- words
 
@@ -40,87 +39,87 @@ unfoldable pub is_digit : ℕ → Bool
 is_digit b = leb digit_0 b and leb b digit_9
 
 -- the value of digits that follow the digits of n
-unfoldable pub natural_from : ℕ → List ℕ → Natural
-natural_from n [] = Natural.Is n
-natural_from n (b ∷ bs) = elim (is_digit b) [ true ↦ natural_from (n * 10 + (b - digit_0)) bs | false ↦ Natural.Bad ]
+unfoldable pub natural_from : ℕ → List ℕ → Option ℕ
+natural_from n [] = Some n
+natural_from n (b ∷ bs) = elim (is_digit b) [ true ↦ natural_from (n * 10 + (b - digit_0)) bs | false ↦ None ]
 
 -- one to ten digits, and 0 comes first only where it stands alone
-unfoldable pub read_natural : List ℕ → Natural
+unfoldable pub read_natural : List ℕ → Option ℕ
 read_natural l =
-    when eqb (length l) 0 then Natural.Bad else
-    when ltb most_digits (length l) then Natural.Bad else
-    when eqb (get_or l 0 0) digit_0 then (when eqb (length l) 1 then Natural.Is 0 else Natural.Bad) else
+    when eqb (length l) 0 then None else
+    when ltb most_digits (length l) then None else
+    when eqb (get_or l 0 0) digit_0 then (when eqb (length l) 1 then Some 0 else None) else
     natural_from 0 l
 
 -- a number from 0
-unfoldable pub from_zero : Natural → Number
-from_zero Natural.Bad = Number.Bad
-from_zero (Natural.Is n) = when ltb n past_32_bit then Number.Is (pos n) else Number.Bad
+unfoldable pub from_zero : Option ℕ → Option ℤ
+from_zero None = None
+from_zero (Some n) = when ltb n past_32_bit then Some (pos n) else None
 
 -- a number below 0, by what follows its sign
-unfoldable pub below_zero : Natural → Number
-below_zero Natural.Bad = Number.Bad
-below_zero (Natural.Is n) =
-    when eqb n 0 then Number.Bad else when ltb past_32_bit n then Number.Bad else Number.Is (neg_ℤ (pos n))
+unfoldable pub below_zero : Option ℕ → Option ℤ
+below_zero None = None
+below_zero (Some n) =
+    when eqb n 0 then None else when ltb past_32_bit n then None else Some (neg_ℤ (pos n))
 
-unfoldable pub read_number : List ℕ → Number
+unfoldable pub read_number : List ℕ → Option ℤ
 read_number l =
-    when eqb (length l) 0 then Number.Bad else
+    when eqb (length l) 0 then None else
     when eqb (get_or l 0 0) minus_sign then below_zero (read_natural (drop 1 l)) else
     from_zero (read_natural l)
 
 -- ---- calls
 
 -- a question of the caller about itself
-unfoldable pub own_call : List ℕ → Request
+unfoldable pub own_call : List ℕ → Option Call
 own_call w =
-    when same w (bytes "getpid") then Request.Is Getpid else
-    when same w (bytes "getppid") then Request.Is Getppid else
-    when same w (bytes "poll") then Request.Is Poll else
-    Request.Bad
+    when same w (bytes "getpid") then Some Getpid else
+    when same w (bytes "getppid") then Some Getppid else
+    when same w (bytes "poll") then Some Poll else
+    None
 
 -- a call of one word
-unfoldable pub plain_call : List ℕ → Request
+unfoldable pub plain_call : List ℕ → Option Call
 plain_call w =
-    when same w (bytes "clone") then Request.Is Clone else
-    when same w (bytes "unshare") then Request.Is Unshare else
-    when same w (bytes "wait") then Request.Is Wait else
+    when same w (bytes "clone") then Some Clone else
+    when same w (bytes "unshare") then Some Unshare else
+    when same w (bytes "wait") then Some Wait else
     own_call w
 
-unfoldable pub with_number : List ℕ → Number → Request
-with_number w Number.Bad = Request.Bad
-with_number w (Number.Is n) =
-    when same w (bytes "setns") then Request.Is (Setns n) else
-    when same w (bytes "exit") then Request.Is (Exit n) else
-    Request.Bad
+unfoldable pub with_number : List ℕ → Option ℤ → Option Call
+with_number w None = None
+with_number w (Some n) =
+    when same w (bytes "setns") then Some (Setns n) else
+    when same w (bytes "exit") then Some (Exit n) else
+    None
 
 -- a call of a word and an argument
-unfoldable pub call_with : List ℕ → List ℕ → Request
+unfoldable pub call_with : List ℕ → List ℕ → Option Call
 call_with w a =
-    when same w (bytes "clone") then (when same a (bytes "new") then Request.Is CloneNew else Request.Bad) else
+    when same w (bytes "clone") then (when same a (bytes "new") then Some CloneNew else None) else
     with_number w (read_number a)
 
-unfoldable pub kill_call : Number → Number → Request
-kill_call Number.Bad b = Request.Bad
-kill_call (Number.Is n) Number.Bad = Request.Bad
-kill_call (Number.Is n) (Number.Is s) = Request.Is (Kill n s)
+unfoldable pub kill_call : Option ℤ → Option ℤ → Option Call
+kill_call None b = None
+kill_call (Some n) None = None
+kill_call (Some n) (Some s) = Some (Kill n s)
 
-unfoldable pub handle_call : Number → List ℕ → Request
-handle_call Number.Bad b = Request.Bad
-handle_call (Number.Is s) b =
-    when same b (bytes "1") then Request.Is (Handle s true) else
-    when same b (bytes "0") then Request.Is (Handle s false) else
-    Request.Bad
+unfoldable pub handle_call : Option ℤ → List ℕ → Option Call
+handle_call None b = None
+handle_call (Some s) b =
+    when same b (bytes "1") then Some (Handle s true) else
+    when same b (bytes "0") then Some (Handle s false) else
+    None
 
 -- a call of a word and two arguments
-unfoldable pub call_with_two : List ℕ → List ℕ → List ℕ → Request
+unfoldable pub call_with_two : List ℕ → List ℕ → List ℕ → Option Call
 call_with_two w a b =
     when same w (bytes "kill") then kill_call (read_number a) (read_number b) else
     when same w (bytes "handle") then handle_call (read_number a) b else
-    Request.Bad
+    None
 
 -- a call and its arguments
-unfoldable pub read_call : List ℕ → Request
+unfoldable pub read_call : List ℕ → Option Call
 read_call l =
     when one_word l then plain_call l else
     when one_word (later_words l) then call_with (first_word l) (later_words l) else
@@ -128,17 +127,21 @@ read_call l =
 
 -- ---- lines
 
-unfoldable pub asked_by : ℕ → Request → Parsed
-asked_by n Request.Bad = Parsed.Bad
-asked_by n (Request.Is c) = Parsed.Good (record { 0 = n }) c
+-- what a good line asks for: a slot and a call
+abbrev pub good : ProcSlot → Call → Option Asked
+good slot c = Some (record { slot = slot; call = c })
 
-unfoldable pub after_slot : Natural → List ℕ → Parsed
-after_slot Natural.Bad l = Parsed.Bad
-after_slot (Natural.Is n) l = when ltb greatest_slot n then Parsed.Bad else asked_by n (read_call l)
+unfoldable pub asked_by : ℕ → Option Call → Option Asked
+asked_by n None = None
+asked_by n (Some c) = good (record { 0 = n }) c
+
+unfoldable pub after_slot : Option ℕ → List ℕ → Option Asked
+after_slot None l = None
+after_slot (Some n) l = when ltb greatest_slot n then None else asked_by n (read_call l)
 
 -- a line without its line feed
-unfoldable pub read_line : List ℕ → Parsed
+unfoldable pub read_line : List ℕ → Option Asked
 read_line l =
-    when ltb line_bytes (length l) then Parsed.Bad else
-    when one_word l then Parsed.Bad else
+    when ltb line_bytes (length l) then None else
+    when one_word l then None else
     after_slot (read_natural (first_word l)) (later_words l)

@@ -1,13 +1,15 @@
 // The script: a line of text to a call, and an answer to a line of text.
 #![tactic(auto)]
 
-ghost use Rattle.std.specs.Prelude.{◌≡◌, ◌+◌, ◌*◌, ◌<◌, ◌≤◌, [], ◌∷◌, length};
-ghost use Rattle.rules.specs.Answers.{refusal_number};
+ghost use Rattle.std.specs.Prelude.{◌≡◌, ◌+◌, ◌<◌, ◌≤◌, [], ◌∷◌, ◌++◌, length, MatchOption, position, ◌==◌};
+ghost use Rattle.rules.specs.Answers.{refusal_number, number_of, end_of};
 ghost use Rattle.script.specs.Sizes.{answer_bytes, most_digits};
-ghost use Rattle.script.specs.Outputs.{end_text, answer_line, bad_line, Written, Appended, Copied};
+ghost use Rattle.script.specs.Outputs.{end_text, removed_text, answer_line, bad_line, Written, Copied};
 ghost use Rattle.script.specs.Texts.{minus_sign, decimal, number as number_text};
-ghost use Rattle.script.specs.Reading.{word_length, same as same_text, natural_from, read_natural, from_zero as from_zero_to, below_zero as below_zero_to, read_number, own_call, plain_call, with_number, call_with, kill_call, handle_call, call_with_two, read_call, asked_by, after_slot, read_line};
+ghost use Rattle.script.specs.Reading.{word_length, first_word, later_words, same as same_text, natural_from, read_natural, from_zero as from_zero_to, below_zero as below_zero_to, read_number, own_call, plain_call, with_number, call_with, kill_call, handle_call, call_with_two, read_call, after_slot, read_line};
 
+use arrayvec::ArrayString;
+use itoa::Buffer;
 use table::{Answer, Call, End, ProcSlot, Refusal};
 
 // ---- sizes, each named once
@@ -24,242 +26,173 @@ const MOST_DIGITS: usize = 10;
 // An argument has 32 bits with its sign: it is below this number, and not below its negative.
 const PAST_32_BIT: u64 = 2147483648;
 
-const GREATEST_SLOT: u64 = 255;
-
 // ---- what is read
 
-// The value of decimal digits.
+// What a line asks for: the call of a slot.
 #[derive(Clone, Copy)]
-pub enum Natural {
-    Bad,
-    Is(u64),
-}
-
-// An argument of a call.
-#[derive(Clone, Copy)]
-pub enum Number {
-    Bad,
-    Is(i32),
-}
-
-// What stands after the slot.
-#[derive(Clone, Copy)]
-pub enum Request {
-    Bad,
-    Is(Call),
-}
-
-// A line: the call of a slot, or any other line.
-#[derive(Clone, Copy)]
-pub enum Parsed {
-    Bad,
-    Good(ProcSlot, Call),
+pub struct Asked {
+    pub slot: ProcSlot,
+    pub call: Call,
 }
 
 // ---- words
 
-// How many bytes stand before the first space.
-fn word_length(s: &[u8]) -> usize
-    ensures { result ≡ word_length s.now }
+// Where a byte first stands in a text, if it does.
+pub fn first_place(s: &[u8], byte: u8) -> Option<usize>
+    ensures { result ≡ position (λ b. b == byte) s.now }
 {
-    let mut i: usize = 0;
-    while i < s.len() {
-        if s[i] == b' ' {
-            return i;
-        }
-        i += 1;
-    }
-    i
+    s.iter().position(|b| *b == byte)
+}
+
+// The bytes before the first space, and those after it. None: there is no space.
+fn split_word(s: &[u8]) -> Option<(&[u8], &[u8])>
+    ensures { MatchOption result (length s.now ≤ word_length s.now) (λ parts. (word_length s.now < length s.now) × (parts.0.now ≡ first_word s.now) × (parts.1.now ≡ later_words s.now)) }
+{
+    let end = first_place(s, b' ')?;
+    Some((&s[..end], &s[end + 1..]))
 }
 
 // Whether two texts are the same.
 pub fn same(a: &[u8], b: &[u8]) -> bool
     ensures { result ≡ same_text a.now b.now }
 {
-    if a.len() != b.len() {
-        return false;
-    }
-    let mut i: usize = 0;
-    while i < a.len() {
-        if a[i] != b[i] {
-            return false;
-        }
-        i += 1;
-    }
-    true
+    a == b
 }
 
 // ---- numbers
 
 // The value of few enough digits that it fits.
-fn digits_value(s: &[u8]) -> Natural
+fn digits_value(s: &[u8]) -> Option<u64>
     requires { length s.now ≤ most_digits }
     ensures { result ≡ natural_from 0 s.now }
 {
     let mut value: u64 = 0;
-    let mut i: usize = 0;
-    while i < s.len() {
-        let b = s[i];
-        if b < b'0' {
-            return Natural::Bad;
+    for b in s {
+        if !b.is_ascii_digit() {
+            return None;
         }
-        if b > b'9' {
-            return Natural::Bad;
-        }
-        value = value * 10 + (b - b'0') as u64;
-        i += 1;
+        value = value * 10 + (*b - b'0') as u64;
     }
-    Natural::Is(value)
+    Some(value)
 }
 
-fn read_natural(s: &[u8]) -> Natural
+// One to ten digits and no needless zero. `str::parse` would take `+5` and `007` too.
+fn read_natural(s: &[u8]) -> Option<u64>
     ensures { result ≡ read_natural s.now }
 {
-    if s.len() == 0 {
-        return Natural::Bad;
-    }
-    if s.len() > MOST_DIGITS {
-        return Natural::Bad;
+    if s.is_empty() || s.len() > MOST_DIGITS {
+        return None;
     }
     if s[0] == b'0' {
-        if s.len() == 1 {
-            return Natural::Is(0);
-        }
-        return Natural::Bad;
+        return (s.len() == 1).then_some(0);
     }
     digits_value(s)
 }
 
-fn from_zero(natural: Natural) -> Number
+fn from_zero(natural: Option<u64>) -> Option<i32>
     ensures { result ≡ from_zero_to natural }
 {
-    let Natural::Is(n) = natural else {
-        return Number::Bad;
-    };
-    if n < PAST_32_BIT {
-        return Number::Is(n as i32);
-    }
-    Number::Bad
+    i32::try_from(natural?).ok()
 }
 
-fn below_zero(natural: Natural) -> Number
+fn below_zero(natural: Option<u64>) -> Option<i32>
     ensures { result ≡ below_zero_to natural }
 {
-    let Natural::Is(n) = natural else {
-        return Number::Bad;
-    };
-    if n == 0 {
-        return Number::Bad;
+    let n = natural?;
+    if n == 0 || n > PAST_32_BIT {
+        return None;
     }
-    if n > PAST_32_BIT {
-        return Number::Bad;
-    }
-    Number::Is((0 - n as i64) as i32)
+    Some((0 - n as i64) as i32)
 }
 
-fn read_number(s: &[u8]) -> Number
+fn read_number(s: &[u8]) -> Option<i32>
     ensures { result ≡ read_number s.now }
 {
-    if s.len() == 0 {
-        return Number::Bad;
+    match s {
+        [] => None,
+        [b'-', digits @ ..] => below_zero(read_natural(digits)),
+        _ => from_zero(read_natural(s)),
     }
-    if s[0] == b'-' {
-        return below_zero(read_natural(&s[1..]));
-    }
-    from_zero(read_natural(s))
 }
 
 // ---- calls
 
 // A question of the caller about itself.
-fn own_call(word: &[u8]) -> Request
+fn own_call(word: &[u8]) -> Option<Call>
     ensures { result ≡ own_call word.now }
 {
     if same(word, b"getpid") {
-        return Request::Is(Call::Getpid);
+        return Some(Call::Getpid);
     }
     if same(word, b"getppid") {
-        return Request::Is(Call::Getppid);
+        return Some(Call::Getppid);
     }
     if same(word, b"poll") {
-        return Request::Is(Call::Poll);
+        return Some(Call::Poll);
     }
-    Request::Bad
+    None
 }
 
 // A call of one word.
-fn plain_call(word: &[u8]) -> Request
+fn plain_call(word: &[u8]) -> Option<Call>
     ensures { result ≡ plain_call word.now }
 {
     if same(word, b"clone") {
-        return Request::Is(Call::Clone);
+        return Some(Call::Clone);
     }
     if same(word, b"unshare") {
-        return Request::Is(Call::Unshare);
+        return Some(Call::Unshare);
     }
     if same(word, b"wait") {
-        return Request::Is(Call::Wait);
+        return Some(Call::Wait);
     }
     own_call(word)
 }
 
-fn with_number(word: &[u8], number: Number) -> Request
+fn with_number(word: &[u8], number: Option<i32>) -> Option<Call>
     ensures { result ≡ with_number word.now number }
 {
-    let Number::Is(n) = number else {
-        return Request::Bad;
-    };
+    let n = number?;
     if same(word, b"setns") {
-        return Request::Is(Call::Setns(n));
+        return Some(Call::Setns(n));
     }
     if same(word, b"exit") {
-        return Request::Is(Call::Exit(n));
+        return Some(Call::Exit(n));
     }
-    Request::Bad
+    None
 }
 
 // A call of a word and an argument.
-fn call_with(word: &[u8], argument: &[u8]) -> Request
+fn call_with(word: &[u8], argument: &[u8]) -> Option<Call>
     ensures { result ≡ call_with word.now argument.now }
 {
     if same(word, b"clone") {
-        if same(argument, b"new") {
-            return Request::Is(Call::CloneNew);
-        }
-        return Request::Bad;
+        return same(argument, b"new").then_some(Call::CloneNew);
     }
     with_number(word, read_number(argument))
 }
 
-fn kill_call(target: Number, signal: Number) -> Request
+fn kill_call(target: Option<i32>, signal: Option<i32>) -> Option<Call>
     ensures { result ≡ kill_call target signal }
 {
-    let Number::Is(n) = target else {
-        return Request::Bad;
-    };
-    let Number::Is(s) = signal else {
-        return Request::Bad;
-    };
-    Request::Is(Call::Kill(n, s))
+    Some(Call::Kill(target?, signal?))
 }
 
-fn handle_call(signal: Number, switch: &[u8]) -> Request
+fn handle_call(signal: Option<i32>, switch: &[u8]) -> Option<Call>
     ensures { result ≡ handle_call signal switch.now }
 {
-    let Number::Is(s) = signal else {
-        return Request::Bad;
-    };
+    let s = signal?;
     if same(switch, b"1") {
-        return Request::Is(Call::Handle(s, true));
+        return Some(Call::Handle(s, true));
     }
     if same(switch, b"0") {
-        return Request::Is(Call::Handle(s, false));
+        return Some(Call::Handle(s, false));
     }
-    Request::Bad
+    None
 }
 
 // A call of a word and two arguments.
-fn call_with_two(word: &[u8], first: &[u8], second: &[u8]) -> Request
+fn call_with_two(word: &[u8], first: &[u8], second: &[u8]) -> Option<Call>
     ensures { result ≡ call_with_two word.now first.now second.now }
 {
     if same(word, b"kill") {
@@ -268,121 +201,69 @@ fn call_with_two(word: &[u8], first: &[u8], second: &[u8]) -> Request
     if same(word, b"handle") {
         return handle_call(read_number(first), second);
     }
-    Request::Bad
+    None
 }
 
 // A call and its arguments: a word, and at most two more.
-fn read_call(s: &[u8]) -> Request
+fn read_call(s: &[u8]) -> Option<Call>
     ensures { result ≡ read_call s.now }
 {
-    let a = word_length(s);
-    if a >= s.len() {
+    let Some((word, rest)) = split_word(s) else {
         return plain_call(s);
-    }
-    let rest = &s[a + 1..];
-    let b = word_length(rest);
-    if b >= rest.len() {
-        return call_with(&s[0..a], rest);
-    }
-    call_with_two(&s[0..a], &rest[0..b], &rest[b + 1..])
+    };
+    let Some((first, second)) = split_word(rest) else {
+        return call_with(word, rest);
+    };
+    call_with_two(word, first, second)
 }
 
 // ---- lines
 
-fn asked_by(slot: ProcSlot, request: Request) -> Parsed
-    ensures { result ≡ asked_by slot.0 request }
-{
-    match request {
-        Request::Bad => Parsed::Bad,
-        Request::Is(c) => Parsed::Good(slot, c),
-    }
-}
-
-fn after_slot(slot: Natural, rest: &[u8]) -> Parsed
+fn after_slot(slot: Option<u64>, rest: &[u8]) -> Option<Asked>
     ensures { result ≡ after_slot slot rest.now }
 {
-    let Natural::Is(n) = slot else {
-        return Parsed::Bad;
-    };
-    if n > GREATEST_SLOT {
-        return Parsed::Bad;
-    }
-    asked_by(ProcSlot(n as u8), read_call(rest))
+    let slot = ProcSlot(u8::try_from(slot?).ok()?);
+    let call = read_call(rest)?;
+    Some(Asked { slot, call })
 }
 
-// A line of a script without its line feed.
-pub fn parse(line: &[u8]) -> Parsed
+// A line of a script without its line feed. None: it asks for nothing.
+pub fn parse(line: &[u8]) -> Option<Asked>
     ensures { result ≡ read_line line.now }
 {
     if line.len() > LINE_BYTES {
-        return Parsed::Bad;
+        return None;
     }
-    let a = word_length(line);
-    if a >= line.len() {
-        return Parsed::Bad;
-    }
-    after_slot(read_natural(&line[0..a]), &line[a + 1..])
+    let (slot, rest) = split_word(line)?;
+    after_slot(read_natural(slot), rest)
 }
 
 // ---- what is written
 
-// A short text by value: the first len bytes.
-#[derive(Clone, Copy)]
-pub struct Text {
-    pub bytes: [u8; ANSWER_BYTES],
-    pub len: usize,
-}
+// A line of the output.
+pub type Text = ArrayString<ANSWER_BYTES>;
 
-fn empty() -> Text
-    ensures { result.len ≡ 0 }
+fn push_decimal(text: &mut Text, n: u32)
+    requires { length text.old.bytes + length (decimal n) ≤ answer_bytes }
+    ensures { text.new.bytes ≡ text.old.bytes ++ decimal n }
 {
-    Text {
-        bytes: [0; ANSWER_BYTES],
-        len: 0,
-    }
+    let mut buffer = Buffer::new();
+    text.push_str(buffer.format(n));
 }
 
-fn push(text: Text, b: u8) -> Text
-    requires { text.len < answer_bytes }
-    ensures { Appended text (b ∷ []) result }
-{
-    let mut t = text;
-    let at = t.len;
-    t.bytes[at] = b;
-    t.len = at + 1;
-    t
-}
-
-fn push_word(text: Text, word: &[u8]) -> Text
-    requires { text.len + length word.now ≤ answer_bytes }
-    ensures { Appended text word.now result }
-{
-    let mut t = text;
-    let mut i: usize = 0;
-    while i < word.len() {
-        t = push(t, word[i]);
-        i += 1;
-    }
-    t
-}
-
-fn push_decimal(text: Text, n: u32) -> Text
-    requires { text.len + length (decimal n) ≤ answer_bytes }
-    ensures { Appended text (decimal n) result }
-{
-    if n < 10 {
-        return push(text, b'0' + n as u8);
-    }
-    push(push_decimal(text, n / 10), b'0' + (n % 10) as u8)
-}
-
-fn push_end(text: Text, how: End) -> Text
-    requires { text.len ≤ most_digits }
-    ensures { Appended text (end_text how) result }
+fn push_end(text: &mut Text, how: End)
+    requires { length text.old.bytes ≤ most_digits }
+    ensures { text.new.bytes ≡ text.old.bytes ++ end_text how }
 {
     match how {
-        End::Exited(s) => push_decimal(push_word(text, b" gave "), s as u32),
-        End::Signaled(s) => push_decimal(push_word(text, b" signal "), s as u32),
+        End::Exited(s) => {
+            text.push_str(" gave ");
+            push_decimal(text, s as u32);
+        }
+        End::Signaled(s) => {
+            text.push_str(" signal ");
+            push_decimal(text, s as u32);
+        }
     }
 }
 
@@ -405,37 +286,49 @@ fn refusal_size(e: Refusal) -> u32
     }
 }
 
+// An answer without its line feed.
+fn push_answer(text: &mut Text, answer: Answer)
+    requires { text.old.bytes ≡ [] }
+    ensures { text.new.bytes ≡ number_text (number_of answer) ++ removed_text (end_of answer) }
+{
+    match answer {
+        Answer::Number(n) => push_decimal(text, n as u32),
+        Answer::Reaped(pid, how) => {
+            push_decimal(text, pid.0 as u32);
+            push_end(text, how);
+        }
+        Answer::Refused(e) => {
+            text.push_str("-");
+            push_decimal(text, refusal_size(e));
+        }
+    }
+}
+
 // The output line of an answer.
 pub fn answer_text(answer: Answer) -> Text
     ensures { Written result (answer_line answer) }
 {
-    match answer {
-        Answer::Number(n) => push(push_decimal(empty(), n as u32), b'\n'),
-        Answer::Reaped(pid, how) => push(push_end(push_decimal(empty(), pid.0 as u32), how), b'\n'),
-        Answer::Refused(e) => push(push_decimal(push(empty(), b'-'), refusal_size(e)), b'\n'),
-    }
+    let mut text = Text::new();
+    push_answer(&mut text, answer);
+    text.push_str("\n");
+    text
 }
 
 // The output line of any line that is no call.
 pub fn bad_text() -> Text
     ensures { Written result bad_line }
 {
-    push(push(empty(), b'?'), b'\n')
+    let mut text = Text::new();
+    text.push_str("?\n");
+    text
 }
 
 // Copies a text into a lent buffer from a place on, and gives the place after it.
-pub fn put(text: Text, out: &mut [u8], at: usize) -> usize
-    requires { (text.len ≤ answer_bytes) × (at + text.len ≤ length out.old) }
-    ensures { Copied text at out.old out.new result }
+pub fn put(text: &[u8], out: &mut [u8], at: usize) -> usize
+    requires { at + length text.now ≤ length out.old }
+    ensures { Copied text.now at out.old out.new result }
 {
-    let bytes = text.bytes;
-    let n = text.len;
-    let mut i: usize = 0;
-    let mut o = at;
-    while i < n {
-        out[o] = bytes[i];
-        o += 1;
-        i += 1;
-    }
-    o
+    let next = at + text.len();
+    out[at..next].copy_from_slice(text);
+    next
 }

@@ -1,5 +1,5 @@
 -- `call_with_two` tries the words in turn.
-use Rattle.script.proofs.Parts.{kill_read, handle_read}
+use Rattle.script.proofs.Calls.{kill_read, handle_read}
 use Rattle.script.specs.Reading.{call_with_two}
 use Rattle.table.proofs.Chains.{chains}
 use Rattle.script.proofs.call_with_two.Goals as goal

@@ -1,12 +1,12 @@
 -- `read_call` takes a line apart at its first two spaces.
-use Rattle.script.proofs.Parts.{read_call_laws}
+use Rattle.script.proofs.Parts.{call_plain, call_one, call_two}
 use Rattle.script.proofs.read_call.Goals as goal
 
-pub returns-then-a-s : goal.returns-then-a-s
-returns-then-a-s c = search read_call_laws
+pub returns-in_default : goal.returns-in_default
+returns-in_default c = call_plain _ _ c.in_default.ensures c.plain_call.ensures
 
-pub returns-then-b-rest : goal.returns-then-b-rest
-returns-then-b-rest c = search read_call_laws
+pub returns-in_default-split_word : goal.returns-in_default-split_word
+returns-in_default-split_word c = call_one _ _ _ _ c.in-Some.ensures c.in_default-split_word.ensures c.call_with.ensures
 
 pub returns : goal.returns
-returns c = search read_call_laws
+returns c = call_two _ _ _ _ _ _ c.in-Some.ensures c.in-Some-split_word.ensures c.call_with_two.ensures

@@ -2,14 +2,8 @@
 use Rattle.script.proofs.Parts.{read_natural_laws}
 use Rattle.script.proofs.read_natural.Goals as goal
 
-pub returns-then-s-eq0 : goal.returns-then-s-eq0
-returns-then-s-eq0 c = search read_natural_laws
-
-pub returns-then-s-gt-MOST_DIGITS : goal.returns-then-s-gt-MOST_DIGITS
-returns-then-s-gt-MOST_DIGITS c = search read_natural_laws
-
-pub returns-then-s-eq1 : goal.returns-then-s-eq1
-returns-then-s-eq1 c = search read_natural_laws
+pub returns-then-is_empty : goal.returns-then-is_empty
+returns-then-is_empty c = search (read_natural_laws, c.then-is_empty.either)
 
 pub returns-then-s-eq48 : goal.returns-then-s-eq48
 returns-then-s-eq48 c = search read_natural_laws

@@ -1,15 +1,15 @@
--- `with_number` tries the words of the calls with one number in turn.
-use Rattle.script.proofs.Calls.{number_laws}
+-- `with_number` takes a number, and tries the words in turn.
+use Rattle.script.proofs.Calls.{number_none, number_laws}
 use Rattle.script.proofs.with_number.Goals as goal
 
-pub returns-in_default : goal.returns-in_default
-returns-in_default c = search number_laws depth 8
+pub returns-in_err-n : goal.returns-in_err-n
+returns-in_err-n c = number_none _ _ _ c.from_residual.ensures c.in_err-n.was
 
 pub returns-then-same : goal.returns-then-same
-returns-then-same c = search number_laws depth 8
+returns-then-same c = search (number_laws, c.in_ok-n.was) depth 8
 
 pub returns-then-same-2 : goal.returns-then-same-2
-returns-then-same-2 c = search number_laws depth 8
+returns-then-same-2 c = search (number_laws, c.in_ok-n.was) depth 8
 
 pub returns : goal.returns
-returns c = search number_laws depth 8
+returns c = search (number_laws, c.in_ok-n.was) depth 8
