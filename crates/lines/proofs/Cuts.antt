@@ -63,7 +63,7 @@ ended_few l (b ∷ bs) =
 
 -- ---- two parts
 
-ended_parts : (l xs ys : List ℕ) → ended l (xs ++ ys) ≡ ended l xs ++ ended (left l xs) ys
+pub ended_parts : (l xs ys : List ℕ) → ended l (xs ++ ys) ≡ ended l xs ++ ended (left l xs) ys
 ended_parts l [] ys = sym (ap₂ (λ e m. e ++ ended m ys) (ended_none l) (left_none l))
 ended_parts l (b ∷ bs) ys =
     by_bool (eqb b line_feed)
@@ -74,7 +74,7 @@ ended_parts l (b ∷ bs) ys =
     ended_later l b (bs ++ ys) e ∙ ended_parts (l ++ b ∷ []) bs ys
     ∙ sym (ap₂ (λ s m. s ++ ended m ys) (ended_later l b bs e) (left_later l b bs e)))
 
-left_parts : (l xs ys : List ℕ) → left l (xs ++ ys) ≡ left (left l xs) ys
+pub left_parts : (l xs ys : List ℕ) → left l (xs ++ ys) ≡ left (left l xs) ys
 left_parts l [] ys = sym (ap (λ m. left m ys) (left_none l))
 left_parts l (b ∷ bs) ys =
     by_bool (eqb b line_feed)

@@ -1,9 +1,9 @@
 -- "A small program runs a script of calls": what a script gives, from the fresh table.
-use Rattle.std.specs.Prelude.{ℕ, List, [], ◌∷◌, ◌++◌, ◌≡◌}
+use Rattle.std.specs.Prelude.{ℕ, List, [], ◌∷◌, ◌++◌, ◌≡◌, Option, Some, None}
 use Rattle.lines.specs.Splitting.{ended, left, last_line, lines, whole}
 use Rattle.script.specs.Outputs.{answer_line, bad_line}
 use Rattle.script.specs.Reading.{read_line}
-use Rattle.script.specs.declared.Parsed.{Parsed}
+use Rattle.script.specs.declared.Asked.{Asked}
 use Rattle.table.specs.Fresh.{fresh}
 use Rattle.rules.specs.Step.{step}
 use Rattle.table.specs.declared.Table.{Table}
@@ -14,10 +14,10 @@ pub record Ran : Type 0 where
   pub table : Table
 
 -- "Any other line, an empty one included, gives `?` and does nothing."
-unfoldable pub run_line : Table → Parsed → Ran
-run_line t Parsed.Bad = record { text = bad_line; table = t }
-run_line t (Parsed.Good slot c) =
-    let o = step t slot.0 c in
+unfoldable pub run_line : Table → Option Asked → Ran
+run_line t None = record { text = bad_line; table = t }
+run_line t (Some a) =
+    let o = step t a.slot.0 a.call in
     record { text = answer_line o.reply.answer; table = o.table }
 
 -- "Each line gives one output line. No header."

@@ -1,16 +1,17 @@
 // An input that comes in chunks, cut into lines.
 #![tactic(auto)]
 
-ghost use Rattle.std.specs.Prelude.{◌≡◌, List, [], ◌∷◌, ◌++◌, ℕ, take};
+ghost use Rattle.std.specs.Prelude.{◌≡◌, List, [], ◌++◌, ℕ, take};
 ghost use Rattle.lines.specs.Carried.{Carries, cut as cut_line, Took};
 ghost use Rattle.script.specs.Reading.{read_line};
 
-use script::{LINE_BYTES, Parsed, parse};
+use script::{Asked, LINE_BYTES, first_place, parse, put};
 
 // What is kept of a line is one byte more than a line may have: enough to see that it is too long.
 const CARRIED: usize = LINE_BYTES + 1;
 
-// The first bytes of a line.
+// The first bytes of a line. It is no `ArrayVec`: `take_line` also takes a line whose length says more than there is
+// room for, of which `cut` in its clause speaks (must-fail/keeps_a_length_of_66.edit).
 #[derive(Clone, Copy)]
 pub struct Line {
     pub bytes: [u8; CARRIED],
@@ -26,33 +27,19 @@ pub fn empty() -> Line
     }
 }
 
-// A length above CARRIED counts as CARRIED.
-fn cut(line: Line) -> Line
-    ensures { result ≡ cut_line line }
+// The line with more bytes. A length above CARRIED counts as CARRIED, and what there is no room for is dropped.
+fn append(line: Line, more: &[u8]) -> Line
+    ensures { (l : List ℕ) → Carries (cut_line line) l → Carries result (l ++ more.now) }
 {
-    if line.len <= CARRIED {
-        return line;
-    }
-    let mut t = line;
-    t.len = CARRIED;
-    t
+    let at = line.len.min(CARRIED);
+    let fits = more.len().min(CARRIED - at);
+    let mut bytes = line.bytes;
+    let len = put(&more[..fits], &mut bytes, at);
+    Line { bytes, len }
 }
 
-// The line with one byte more. What there is no room for is dropped.
-fn add(line: Line, b: u8) -> Line
-    ensures { (l : List ℕ) → Carries line l → Carries result (l ++ b ∷ []) }
-{
-    let at = line.len;
-    if at >= CARRIED {
-        return line;
-    }
-    let mut t = line;
-    t.bytes[at] = b;
-    t.len = at + 1;
-    t
-}
-
-// What a part of a chunk gave: the line, whether it ended, and the place after it.
+// What a part of a chunk gave: the line, whether it ended, and the place after it. The place is told of an open line
+// too, so that `at` is no Option in place of `ended`.
 #[derive(Clone, Copy)]
 pub struct Taken {
     pub line: Line,
@@ -64,34 +51,29 @@ pub struct Taken {
 pub fn take_line(line: Line, chunk: &[u8], from: usize) -> Taken
     ensures { (l : List ℕ) → Carries (cut_line line) l → Took l chunk.now from result }
 {
-    let mut t = cut(line);
-    let mut i = from;
-    while i < chunk.len() {
-        let b = chunk[i];
-        if b == b'\n' {
-            return Taken {
-                line: t,
-                ended: true,
-                at: i + 1,
-            };
-        }
-        t = add(t, b);
-        i += 1;
-    }
-    Taken {
-        line: t,
-        ended: false,
-        at: i,
+    let start = from.min(chunk.len());
+    let rest = &chunk[start..];
+    match first_place(rest, b'\n') {
+        Some(n) => Taken {
+            line: append(line, &rest[..n]),
+            ended: true,
+            at: start + n + 1,
+        },
+        None => Taken {
+            line: append(line, rest),
+            ended: false,
+            at: from.max(chunk.len()),
+        },
     }
 }
 
 // Reads a line that is carried: as if it stood there whole, as `carried_read` of proofs/Carrying.antt shows.
-pub fn read(line: Line) -> Parsed
+pub fn read(line: Line) -> Option<Asked>
     ensures { result ≡ read_line (take line.len line.bytes) }
 {
     let n = line.len;
     if n > LINE_BYTES {
-        return Parsed::Bad;
+        return None;
     }
     let bytes = line.bytes;
     parse(&bytes[..n])

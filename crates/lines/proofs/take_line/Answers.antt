@@ -1,28 +1,10 @@
 -- `take_line` takes bytes in up to a line feed, or to the end of the chunk.
-use native.Mathlib.Omega.{arith}
-use Rattle.lines.proofs.Carrying.{take_loop}
+use mathlib.Core.Path.{refl}
+use Rattle.lines.proofs.Carrying.{taken_ended, taken_open}
 use Rattle.lines.proofs.take_line.Goals as goal
 
-pub loop-i-init : goal.loop-i-init
-loop-i-init c = search take_loop
+pub returns-in-Some : goal.returns-in-Some
+returns-in-Some c = taken_ended _ _ _ _ _ _ _ c.min-start.ensures refl c.in-Some.ensures c.append.ensures
 
-pub bounds-chunk-i : goal.bounds-chunk-i
-bounds-chunk-i c = omega arith
-
-pub overflow_add-result : goal.overflow_add-result
-overflow_add-result c = omega arith
-
-pub returns-then-b-eq10 : goal.returns-then-b-eq10
-returns-then-b-eq10 c = search take_loop
-
-pub overflow_add-i : goal.overflow_add-i
-overflow_add-i c = omega arith
-
-pub loop-i-smaller : goal.loop-i-smaller
-loop-i-smaller c = omega arith
-
-pub loop-i-preserved : goal.loop-i-preserved
-loop-i-preserved c = search take_loop
-
-pub returns : goal.returns
-returns c = search take_loop
+pub returns-in-None : goal.returns-in-None
+returns-in-None c = taken_open _ _ _ _ _ _ _ c.min-start.ensures refl c.in-None.ensures c.append-in-None.ensures c.max.ensures
