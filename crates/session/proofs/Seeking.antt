@@ -1,10 +1,13 @@
 -- To the next call of a chunk: the loop of `seek`, and the answer before it.
 use Prim.Native.Nat.{ℕ, suc, ◌<◌, ◌≤◌, ◌+◌, ◌*◌, ◌-◌}
-use mathlib.Core.Bool.{true, false, true≢false, false≢true}
+use mathlib.Core.Bool.{Bool, true, false, true≢false, false≢true}
 use mathlib.Core.List.{List, [], ◌∷◌, ◌++◌, append_assoc}
 use mathlib.Core.Path.{◌≡◌, refl, sym, ap, subst, ◌∙◌}
 use lib.ListN.{length, take, drop}
 use native.Mathlib.Omega.{arith}
+use Rattle.std.specs.Prelude.{Option, Some, None, is_some}
+use Rattle.std.proofs.lemmas.Option.{none-some}
+use Rattle.arrayvec.specs.ArrayString.{ArrayString}
 use Rattle.lines.proofs.Carrying.{carries_cut, carries_own, carried_read}
 use Rattle.lines.proofs.Cuts.{ended_count}
 use Rattle.lines.specs.Carried.{carried, Carries, cut, LineEnded, StillOpen, Took}
@@ -15,14 +18,11 @@ use Rattle.lines.specs.declared.Taken.{Taken}
 use Rattle.script.specs.Outputs.{bad_line, Written, Copied}
 use Rattle.script.specs.Reading.{read_line}
 use Rattle.script.specs.Sizes.{answer_bytes}
-use Rattle.script.specs.declared.Parsed.{Parsed}
-use Rattle.script.specs.declared.Text.{Text}
+use Rattle.script.specs.declared.Asked.{Asked}
 use Rattle.session.proofs.Writing.{puts_none, puts_text, puts_more, puts_length}
 use Rattle.session.specs.Places.{left_at, and_then, run_at, Puts, Sought}
 use Rattle.session.specs.declared.Place.{Place}
 use Rattle.table.proofs.Chains.{by_bool, pick_yes, pick_no}
-use Rattle.table.specs.declared.Call.{Call}
-use Rattle.table.specs.declared.ProcSlot.{ProcSlot}
 use Rattle.table.specs.declared.Table.{Table}
 
 -- ---- the loop's invariant
@@ -53,37 +53,36 @@ lines_left chunk k = elim k.ended [ true ↦ suc (length chunk - k.at) | false �
 -- ---- one line
 
 -- a line that is no call
-bad_next : (t : Table) (l : List ℕ) (ls : List (List ℕ)) → read_line l ≡ Parsed.Bad → run_all t (l ∷ ls) ≡ and_then bad_line (run_all t ls)
+bad_next : (t : Table) (l : List ℕ) (ls : List (List ℕ)) → read_line l ≡ None → run_all t (l ∷ ls) ≡ and_then bad_line (run_all t ls)
 unfolding run_all run_line
 bad_next t l ls e = ap (λ p. let r = run_line t p in and_then r.text (run_all r.table ls)) e
 
 -- a line that is one, where the reading stops
-call_next : (t : Table) (chunk l : List ℕ) (p : Place) → p.found ≡ true → read_line l ≡ Parsed.Good p.slot p.call → run_all t (l ∷ ended [] (drop p.at chunk)) ≡ run_at t chunk p
+call_next : (t : Table) (chunk l : List ℕ) (p : Place) (a : Asked) → p.asked ≡ Some a → read_line l ≡ Some a → run_all t (l ∷ ended [] (drop p.at chunk)) ≡ run_at t chunk p
 unfolding run_all run_at
-call_next t chunk l p f e =
+call_next t chunk l p a f e =
     let rest : List (List ℕ) = ended [] (drop p.at chunk) in
-    let r = run_line t (Parsed.Good p.slot p.call) in
-    ap (λ q. let s = run_line t q in and_then s.text (run_all s.table rest)) e
-    ∙ sym (pick_yes p.found (and_then r.text (run_all r.table rest)) (run_all t []) f)
+    rw f (ap (λ q. let s = run_line t q in and_then s.text (run_all s.table rest)) e)
 
 -- a text after a text
 pub twice : (a b : List ℕ) (r : Ran) → and_then a (and_then b r) ≡ and_then (a ++ b) r
 twice a b r = ap (λ s. record { text = s; table = r.table }) (sym (append_assoc a b r.text))
 
-abbrev Read : Line → Parsed → Type 0
+abbrev Read : Line → Option Asked → Type 0
 Read k p = p ≡ read_line (take k.len k.bytes)
 
 -- what a line that has ended reads as
-line_read : (k : Line) (l : List ℕ) (p q : Parsed) → Carries k l → Read k p → p ≡ q → read_line l ≡ q
+line_read : (k : Line) (l : List ℕ) (p q : Option Asked) → Carries k l → Read k p → p ≡ q → read_line l ≡ q
 line_read k l p q c r e = sym (carried_read k p r l c) ∙ e
 
-going_next : (l chunk : List ℕ) (from start : ℕ) (before : List ℕ) (k : Taken) (used : ℕ) (out : List ℕ) (p : Parsed) (u : Text) (next : ℕ) (k' : Taken) (after : List ℕ) → Going l chunk from start before k used out → k.ended ≡ true → Read k.line p → p ≡ Parsed.Bad → Written u bad_line → Copied u used out after next → Took [] chunk k.at k' → Going l chunk from start before k' next after
-going_next l chunk from start before k used out p u next k' after g h r b w c q =
+going_next : (l chunk : List ℕ) (from start : ℕ) (before : List ℕ) (k : Taken) (used : ℕ) (out : List ℕ) (p : Option Asked) (u : ArrayString) (v : List ℕ) (next : ℕ) (k' : Taken) (after : List ℕ) → Going l chunk from start before k used out → k.ended ≡ true → Read k.line p → p ≡ None → Written u bad_line → v ≡ u.bytes → Copied v used out after next → Took [] chunk k.at k' → Going l chunk from start before k' next after
+going_next l chunk from start before k used out p u v next k' after g h r b w i c q =
     let e : LineEnded g.line chunk g.at k = g.took.on_end h in
     let n = ap length e.lines_are in
     let m = g.room in
     let f = g.fits in
     let s = w.room in
+    let j = ap length i in
     let y = c.place in
     record {
       text = g.text ++ bad_line;
@@ -93,12 +92,12 @@ going_next l chunk from start before k used out p u next k' after g h r b w c q 
       gives =
           λ t.
           g.gives t
-          ∙ ap (and_then g.text) (ap (run_all t) e.lines_are ∙ bad_next t e.line (ended [] (drop k.at chunk)) (line_read k.line e.line p Parsed.Bad e.carries r b))
+          ∙ ap (and_then g.text) (ap (run_all t) e.lines_are ∙ bad_next t e.line (ended [] (drop k.at chunk)) (line_read k.line e.line p None e.carries r b))
           ∙ twice g.text bad_line (run_all t (ended [] (drop k.at chunk)));
       left_is = g.left_is ∙ e.left_is;
       wrote =
           puts_more g.text bad_line start used next before out after (omega arith) g.wrote
-          (puts_text u bad_line used next out after w c);
+          (puts_text u v bad_line used next out after w i c);
       room = omega arith;
       fits = f;
     }
@@ -137,22 +136,30 @@ seeking_length k₀ chunk from start before k used out w =
     let f = a.fits in
     puts_length a.text start used before out a.wrote (omega arith)
 
-pub seeking_room : (k₀ : Taken) (chunk : List ℕ) (from start : ℕ) (before : List ℕ) (k : Taken) (used : ℕ) (out : List ℕ) (u : Text) → Seeking k₀ chunk from start before k used out → k.ended ≡ true → Written u bad_line → (u.len ≤ answer_bytes) × (used + u.len ≤ length out)
-seeking_room k₀ chunk from start before k used out u w h v =
+pub seeking_room : (k₀ : Taken) (chunk : List ℕ) (from start : ℕ) (before : List ℕ) (k : Taken) (used : ℕ) (out : List ℕ) (u : ArrayString) (v : List ℕ) → Seeking k₀ chunk from start before k used out → k.ended ≡ true → Written u bad_line → v ≡ u.bytes → used + length v ≤ length out
+seeking_room k₀ chunk from start before k used out u v w h r i =
     let a = any_of k₀ chunk from start before k used out w in
     let n = ap length (a.took.on_end h).lines_are in
     let m = a.room in
     let f = a.fits in
-    let x = v.room in
+    let x = r.room in
+    let j = ap length i in
     let y = seeking_length k₀ chunk from start before k used out w in
-    (x, omega arith)
+    omega arith
 
-pub seeking_next : (k₀ : Taken) (chunk : List ℕ) (from start : ℕ) (before : List ℕ) (k : Taken) (used : ℕ) (out : List ℕ) (p : Parsed) (u : Text) (next : ℕ) (e : Line) (k' : Taken) (after : List ℕ) → Seeking k₀ chunk from start before k used out → k.ended ≡ true → Read k.line p → p ≡ Parsed.Bad → Written u bad_line → Copied u used out after next → Carries e [] → ((l : List ℕ) → Carries (cut e) l → Took l chunk k.at k') → Seeking k₀ chunk from start before k' next after
-seeking_next k₀ chunk from start before k used out p u next e k' after w h r b v c z q =
+-- s is whether the line was a call
+no_call : (p : Option Asked) (s : Bool) → s ≡ is_some p → s ≡ false → p ≡ None
+no_call None s e f = refl
+no_call (Some c) s e f = absurd (true≢false (sym e ∙ f))
+
+pub seeking_next : (k₀ : Taken) (chunk : List ℕ) (from start : ℕ) (before : List ℕ) (k : Taken) (used : ℕ) (out : List ℕ) (p : Option Asked) (s : Bool) (u : ArrayString) (v : List ℕ) (next : ℕ) (e : Line) (k' : Taken) (after : List ℕ) → Seeking k₀ chunk from start before k used out → k.ended ≡ true → Read k.line p → s ≡ is_some p → s ≡ false → Written u bad_line → v ≡ u.bytes → Copied v used out after next → Carries e [] → ((l : List ℕ) → Carries (cut e) l → Took l chunk k.at k') → Seeking k₀ chunk from start before k' next after
+seeking_next k₀ chunk from start before k used out p s u v next e k' after w h r b d f i c z q =
     record {
       first = w.first;
       took = w.took;
-      going = λ l x. going_next l chunk from start before k used out p u next k' after (w.going l x) h r b v c (q [] (carries_cut e [] z));
+      going =
+          λ l x. going_next l chunk from start before k used out p u v next k' after (w.going l x) h r (no_call p s b d) f i c
+          (q [] (carries_cut e [] z));
     }
 
 pub seeking_less : (k₀ : Taken) (chunk : List ℕ) (from start : ℕ) (before : List ℕ) (k : Taken) (used : ℕ) (out : List ℕ) (e : Line) (k' : Taken) → Seeking k₀ chunk from start before k used out → k.ended ≡ true → Carries e [] → ((l : List ℕ) → Carries (cut e) l → Took l chunk k.at k') → lines_left chunk k' < lines_left chunk k
@@ -172,66 +179,70 @@ seeking_less k₀ chunk from start before k used out e k' w h z q =
 
 -- ---- where it stops
 
-pub seeking_found : (line : Line) (k₀ : Taken) (chunk : List ℕ) (from start : ℕ) (before : List ℕ) (k : Taken) (used : ℕ) (out : List ℕ) (p : Parsed) (slot : ProcSlot) (c : Call) → Seeking k₀ chunk from start before k used out → k.ended ≡ true → Read k.line p → p ≡ Parsed.Good slot c → ((l : List ℕ) → Carries (cut line) l → Took l chunk from k₀) → (l : List ℕ) → Carries (cut line) l → Sought [] l chunk from start before out (record { found = true; slot = slot; call = c; line = k.line; at = k.at; used = used })
+seeking_found : (line : Line) (k₀ : Taken) (chunk : List ℕ) (from start : ℕ) (before : List ℕ) (k : Taken) (used : ℕ) (out : List ℕ) (p : Option Asked) (c : Asked) → Seeking k₀ chunk from start before k used out → k.ended ≡ true → Read k.line p → p ≡ Some c → ((l : List ℕ) → Carries (cut line) l → Took l chunk from k₀) → (l : List ℕ) → Carries (cut line) l → Sought [] l chunk from start before out (record { asked = Some c; line = k.line; at = k.at; used = used })
 unfolding left_at
-seeking_found line k₀ chunk from start before k used out p slot c w h r b q l z =
+seeking_found line k₀ chunk from start before k used out p c w h r b q l z =
     let g = w.going l (q l z) in
     let e : LineEnded g.line chunk g.at k = g.took.on_end h in
     let n = ap length e.lines_are in
     let m = g.room in
-    let there : Place = record { found = true; slot = slot; call = c; line = k.line; at = k.at; used = used } in
+    let there : Place = record { asked = Some c; line = k.line; at = k.at; used = used } in
     record {
       text = g.text;
       wrote = g.wrote;
       gives =
           λ t.
           g.gives t
-          ∙ ap (and_then g.text) (ap (run_all t) e.lines_are ∙ call_next t chunk e.line there refl (line_read k.line e.line p (Parsed.Good slot c) e.carries r b));
-      leaves = record { on_call = λ _. g.left_is ∙ e.left_is; on_end = λ f. absurd (true≢false f) };
+          ∙ ap (and_then g.text) (ap (run_all t) e.lines_are ∙ call_next t chunk e.line there c refl (line_read k.line e.line p (Some c) e.carries r b));
+      leaves = record { on_call = λ a f. g.left_is ∙ e.left_is; on_end = λ f. absurd (none-some c (sym f)) };
       short = omega arith;
       room = omega arith;
     }
 
-pub end_next : (t : Table) (chunk : List ℕ) (p : Place) → p.found ≡ false → run_all t [] ≡ run_at t chunk p
-unfolding run_at
-end_next t chunk p f =
-    let r = run_line t (Parsed.Good p.slot p.call) in
-    sym (pick_no p.found (and_then r.text (run_all r.table (ended [] (drop p.at chunk)))) (run_all t []) f)
+pub seeking_some : (line : Line) (k₀ : Taken) (chunk : List ℕ) (from start : ℕ) (before : List ℕ) (k : Taken) (used : ℕ) (out : List ℕ) (p : Option Asked) (s : Bool) → Seeking k₀ chunk from start before k used out → k.ended ≡ true → Read k.line p → s ≡ is_some p → s ≡ true → ((l : List ℕ) → Carries (cut line) l → Took l chunk from k₀) → (l : List ℕ) → Carries (cut line) l → Sought [] l chunk from start before out (record { asked = p; line = k.line; at = k.at; used = used })
+seeking_some line k₀ chunk from start before k used out None s w h r b d q l z = absurd (false≢true (sym b ∙ d))
+seeking_some line k₀ chunk from start before k used out (Some c) s w h r b d q l z =
+    seeking_found line k₀ chunk from start before k used out (Some c) c w h r refl q l z
 
-pub seeking_done : (line : Line) (k₀ : Taken) (chunk : List ℕ) (from start : ℕ) (before : List ℕ) (k : Taken) (used : ℕ) (out : List ℕ) (slot : ProcSlot) (c : Call) → Seeking k₀ chunk from start before k used out → k.ended ≡ false → ((l : List ℕ) → Carries (cut line) l → Took l chunk from k₀) → (l : List ℕ) → Carries (cut line) l → Sought [] l chunk from start before out (record { found = false; slot = slot; call = c; line = k.line; at = k.at; used = used })
+pub end_next : (t : Table) (chunk : List ℕ) (p : Place) → p.asked ≡ None → run_all t [] ≡ run_at t chunk p
+unfolding run_at
+end_next t chunk p f = rw f
+
+pub seeking_done : (line : Line) (k₀ : Taken) (chunk : List ℕ) (from start : ℕ) (before : List ℕ) (k : Taken) (used : ℕ) (out : List ℕ) → Seeking k₀ chunk from start before k used out → k.ended ≡ false → ((l : List ℕ) → Carries (cut line) l → Took l chunk from k₀) → (l : List ℕ) → Carries (cut line) l → Sought [] l chunk from start before out (record { asked = None; line = k.line; at = k.at; used = used })
 unfolding left_at
-seeking_done line k₀ chunk from start before k used out slot c w h q l z =
+seeking_done line k₀ chunk from start before k used out w h q l z =
     let g = w.going l (q l z) in
     let o : StillOpen g.line chunk g.at k = g.took.on_more h in
     let m = g.room in
-    let there : Place = record { found = false; slot = slot; call = c; line = k.line; at = k.at; used = used } in
+    let there : Place = record { asked = None; line = k.line; at = k.at; used = used } in
     record {
       text = g.text;
       wrote = g.wrote;
       gives = λ t. g.gives t ∙ ap (and_then g.text) (ap (run_all t) o.lines_are ∙ end_next t chunk there refl);
       leaves =
           record {
-            on_call = λ f. absurd (false≢true f);
+            on_call = λ a f. absurd (none-some a f);
             on_end = λ _. subst (Carries k.line) (sym g.left_is) o.carries;
           };
       short = omega arith;
       room = omega arith;
     }
 
-pub ruleset seek_loop = (seeking_starts, seeking_length, seeking_next, seeking_less, seeking_found, seeking_done)
+pub ruleset seek_loop = (seeking_starts, seeking_length, seeking_room, seeking_next, seeking_less, seeking_some, seeking_done)
 
 -- ---- after an answer
 
-pub answer_sought : (u : Text) (a : List ℕ) (chunk before mid after : List ℕ) (from at next : ℕ) (e : Line) (r : Place) → at + answer_bytes * suc (length (ended [] (drop from chunk))) ≤ length before → Written u a → Copied u at before mid next → Carries e [] → ((l : List ℕ) → Carries (cut e) l → Sought [] l chunk from next mid after r) → Sought a [] chunk from at before after r
-answer_sought u a chunk before mid after from at next e r h w c z q =
+pub answer_sought : (u : ArrayString) (v a : List ℕ) (chunk before mid after : List ℕ) (from at next : ℕ) (e : Line) (r : Place) → at + answer_bytes * suc (length (ended [] (drop from chunk))) ≤ length before → Written u a → v ≡ u.bytes → Copied v at before mid next → Carries e [] → ((l : List ℕ) → Carries (cut e) l → Sought [] l chunk from next mid after r) → Sought a [] chunk from at before after r
+answer_sought u v a chunk before mid after from at next e r h w i c z q =
     let s = q [] (carries_cut e [] z) in
     let x = w.room in
-    let n = w.size in
+    let n = ap length (i ∙ w.holds) in
+    let j = ap length i in
     let y = c.place in
     let m = s.room in
     record {
       text = s.text;
-      wrote = puts_more a s.text at next r.used before mid after (omega arith) (puts_text u a at next before mid w c) s.wrote;
+      wrote = puts_more a s.text at next r.used before mid after (omega arith) (puts_text u v a at next before mid w i c) s.wrote;
       gives = s.gives;
       leaves = s.leaves;
       short = omega arith;

@@ -5,12 +5,12 @@ use mathlib.Core.Path.{◌≡◌, refl, sym, ap, ap₂, ◌∙◌}
 use lib.ListN.{length, take, drop, length-append, length-take, length-drop, take-append-drop}
 use lib.Seq.{take-append_seam, drop-append-add, drop-drop}
 use native.Mathlib.Omega.{arith}
+use Rattle.arrayvec.specs.ArrayString.{ArrayString}
 use Rattle.lines.specs.Carried.{Carries, cut}
 use Rattle.lines.specs.Runs.{run_all}
 use Rattle.lines.specs.Splitting.{last_line}
 use Rattle.lines.specs.declared.Line.{Line}
 use Rattle.script.specs.Outputs.{Written, Copied}
-use Rattle.script.specs.declared.Text.{Text}
 use Rattle.session.specs.Places.{Puts}
 use Rattle.session.specs.Sessions.{Wrote}
 use Rattle.table.specs.declared.Table.{Table}
@@ -24,11 +24,11 @@ puts_none at out =
       holds = sym (ap (λ l. l ++ drop at out) (append-nil (take at out)) ∙ take-append-drop at out);
     }
 
-pub puts_text : (t : Text) (l : List ℕ) (at next : ℕ) (before after : List ℕ) → Written t l → Copied t at before after next → Puts l at before after next
-puts_text t l at next before after w c =
+pub puts_text : (t : ArrayString) (v l : List ℕ) (at next : ℕ) (before after : List ℕ) → Written t l → v ≡ t.bytes → Copied v at before after next → Puts l at before after next
+puts_text t v l at next before after w i c =
     record {
-      place = c.place ∙ ap (λ n. at + n) w.size;
-      holds = c.holds ∙ ap (λ u. take at before ++ u ++ drop next before) w.holds;
+      place = c.place ∙ ap (λ x. at + length x) (i ∙ w.holds);
+      holds = c.holds ∙ ap (λ u. take at before ++ u ++ drop next before) (i ∙ w.holds);
     }
 
 pub puts_more : (a b : List ℕ) (at mid_at next : ℕ) (before mid after : List ℕ) → at ≤ length before → Puts a at before mid mid_at → Puts b mid_at mid after next → Puts (a ++ b) at before after next

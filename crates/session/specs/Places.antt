@@ -1,12 +1,11 @@
 -- From call to call through a chunk: what is left to do at a place, and what is written on the way to the next.
-use Rattle.std.specs.Prelude.{ℕ, suc, ◌≤◌, ◌+◌, ◌*◌, true, false, List, [], ◌++◌, ◌≡◌, length, take, drop}
+use Rattle.std.specs.Prelude.{ℕ, suc, ◌≤◌, ◌+◌, ◌*◌, List, [], ◌++◌, ◌≡◌, length, take, drop, Some, None}
 use Rattle.lines.specs.Carried.{Carries}
 use Rattle.lines.specs.Runs.{Ran, run_line, run_all}
 use Rattle.lines.specs.Splitting.{ended, left}
 use Rattle.script.specs.Sizes.{answer_bytes}
-use Rattle.script.specs.declared.Parsed.{Parsed}
+use Rattle.script.specs.declared.Asked.{Asked}
 use Rattle.session.specs.declared.Place.{Place}
-use Rattle.session.specs.declared.Stand.{Stand}
 use Rattle.table.specs.declared.Table.{Table}
 
 -- ---- what is left at a place
@@ -17,7 +16,7 @@ lines_after chunk p = ended [] (drop p.at chunk)
 
 -- how many lines are left: where a call was found, that line and those after it
 unfoldable pub left_at : List ℕ → Place → ℕ
-left_at chunk p = elim p.found [ true ↦ suc (length (lines_after chunk p)) | false ↦ 0 ]
+left_at chunk p = elim p.asked [ Some a ↦ suc (length (lines_after chunk p)) | None ↦ 0 ]
 
 -- a text, and what is given after it
 abbrev pub and_then : List ℕ → Ran → Ran
@@ -26,13 +25,15 @@ and_then text r = record { text = text ++ r.text; table = r.table }
 -- what the lines that are left give on the table t
 unfoldable pub run_at : Table → List ℕ → Place → Ran
 run_at t chunk p =
-    let r = run_line t (Parsed.Good p.slot p.call) in
-    elim p.found [ true ↦ and_then r.text (run_all r.table (lines_after chunk p)) | false ↦ run_all t [] ]
+    elim p.asked [
+      | Some a ↦ (let r = run_line t (Some a) in and_then r.text (run_all r.table (lines_after chunk p)))
+      | None ↦ run_all t []
+    ]
 
 -- m is what stands on the line that is left open
 pub record Leaves (chunk : List ℕ) (p : Place) (m : List ℕ) : Type 0 where
-  pub on_call : p.found ≡ true → m ≡ left [] (drop p.at chunk)
-  pub on_end : p.found ≡ false → Carries p.line m
+  pub on_call : (a : Asked) → p.asked ≡ Some a → m ≡ left [] (drop p.at chunk)
+  pub on_end : p.asked ≡ None → Carries p.line m
 
 -- ---- what is written
 
@@ -51,8 +52,8 @@ pub record Sought (first l chunk : List ℕ) (from used : ℕ) (before after : L
   pub short : length first ≤ answer_bytes
   pub room : r.used + answer_bytes * left_at chunk r ≤ used + length first + answer_bytes * length (ended l (drop from chunk))
 
--- All lines that were left at p were run on the table t.
-pub record Called (t : Table) (p : Place) (chunk before after : List ℕ) (r : Stand) : Type 0 where
-  pub table_is : r.table ≡ (run_at t chunk p).table
-  pub wrote : Puts (run_at t chunk p).text p.used before after r.place.used
-  pub carries : (m : List ℕ) → Leaves chunk p m → Carries r.place.line m
+-- All lines that were left at p were run on the table t, and z is the table then.
+pub record Called (t : Table) (p : Place) (chunk before after : List ℕ) (z : Table) (r : Place) : Type 0 where
+  pub table_is : z ≡ (run_at t chunk p).table
+  pub wrote : Puts (run_at t chunk p).text p.used before after r.used
+  pub carries : (m : List ℕ) → Leaves chunk p m → Carries r.line m

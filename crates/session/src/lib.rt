@@ -13,8 +13,8 @@ ghost use Rattle.session.specs.Sessions.{Wrote, Feeds};
 
 use entry::apply;
 use lines::{Line, empty, read, take_line};
-use script::{Parsed, answer_text, bad_text, put};
-use table::{Call, ProcSlot, Reply, Table, fresh};
+use script::{Asked, answer_text, bad_text, put};
+use table::{Reply, Table, fresh};
 
 #[derive(Clone, Copy)]
 pub struct Session {
@@ -33,13 +33,11 @@ pub fn start() -> Session
 
 // ---- through a chunk, from call to call
 
-// Where the reading of a chunk stands: whether a call was found, and that call; the line that was read last, the place
-// after it, and how many bytes were written.
+// Where the reading of a chunk stands: the call that was found, if one was; the line that was read last, the place after
+// it, and how many bytes were written.
 #[derive(Clone, Copy)]
 struct Place {
-    found: bool,
-    slot: ProcSlot,
-    call: Call,
+    asked: Option<Asked>,
     line: Line,
     at: usize,
     used: usize,
@@ -55,29 +53,23 @@ fn seek(line: Line, from: usize, start: usize, chunk: &[u8], out: &mut [u8]) -> 
     while taken.ended {
         let whole = taken.line;
         let at = taken.at;
-        let parsed = read(whole);
-        if let Parsed::Good(slot, call) = parsed {
+        let asked = read(whole);
+        if asked.is_some() {
             return Place {
-                found: true,
-                slot: slot,
-                call: call,
+                asked,
                 line: whole,
-                at: at,
-                used: used,
+                at,
+                used,
             };
         }
-        used = put(bad_text(), out, used);
+        used = put(bad_text().as_bytes(), out, used);
         taken = take_line(empty(), chunk, at);
     }
-    let left = taken.line;
-    // There is no call: a slot and a call stand here that nobody reads.
     Place {
-        found: false,
-        slot: ProcSlot(0),
-        call: Call::Poll,
-        line: left,
+        asked: None,
+        line: taken.line,
         at: taken.at,
-        used: used,
+        used,
     }
 }
 
@@ -86,29 +78,22 @@ fn go_on(p: Place, reply: Reply, chunk: &[u8], out: &mut [u8]) -> Place
     requires { p.used + answer_bytes * suc (length (ended [] (drop p.at chunk.now))) ≤ length out.old }
     ensures { Sought (answer_line reply.answer) [] chunk.now p.at p.used out.old out.new result }
 {
-    let answer = reply.answer;
-    let used = put(answer_text(answer), out, p.used);
+    let text = answer_text(reply.answer);
+    let used = put(text.as_bytes(), out, p.used);
     seek(empty(), p.at, used, chunk, out)
 }
 
-// The table and the place after the calls of a chunk.
-#[derive(Clone, Copy)]
-struct Stand {
-    table: Table,
-    place: Place,
-}
-
 // Makes the calls of a chunk one by one, on one table that is lent for each.
-fn run_calls(mut t: Table, p: Place, chunk: &[u8], out: &mut [u8]) -> Stand
+fn run_calls(t: &mut Table, p: Place, chunk: &[u8], out: &mut [u8]) -> Place
     requires { p.used + answer_bytes * left_at chunk.now p ≤ length out.old }
-    ensures { Called t p chunk.now out.old out.new result }
+    ensures { Called t.old p chunk.now out.old out.new t.new result }
 {
     let mut q = p;
-    while q.found {
-        let r = apply(&mut t, q.slot, q.call);
+    while let Some(asked) = q.asked {
+        let r = apply(t, asked.slot, asked.call);
         q = go_on(q, r, chunk, out);
     }
-    Stand { table: t, place: q }
+    q
 }
 
 // ---- a chunk, and the end
@@ -126,17 +111,13 @@ pub fn feed(s: Session, chunk: &[u8], out: &mut [u8]) -> Fed
     requires { answer_bytes * length (ended [] chunk.now) ≤ length out.old }
     ensures { (l : List ℕ) → Carries (cut s.line) l → Feeds s l chunk.now out.old out.new result }
 {
-    let line = s.line;
-    let t = s.table;
-    let p = seek(line, 0, 0, chunk, out);
-    let done = run_calls(t, p, chunk, out);
-    let table = done.table;
-    let place = done.place;
-    let left = place.line;
+    let mut table = s.table;
+    let first = seek(s.line, 0, 0, chunk, out);
+    let place = run_calls(&mut table, first, chunk, out);
     Fed {
         session: Session {
-            table: table,
-            line: left,
+            table,
+            line: place.line,
         },
         used: place.used,
     }

@@ -2,8 +2,8 @@
 use Rattle.session.proofs.Calling.{feed_laws}
 use Rattle.session.proofs.feed.Goals as goal
 
-pub run_calls-done-requires : goal.run_calls-done-requires
-run_calls-done-requires c = search feed_laws
+pub run_calls-place-requires : goal.run_calls-place-requires
+run_calls-place-requires c = search feed_laws
 
 pub returns : goal.returns
 returns c = search feed_laws
