@@ -2,7 +2,6 @@
 use Prim.Native.Nat.{ℕ, ◌≤◌, ◌<◌, ◌+◌, ◌-◌, ◌*◌, ◌/◌}
 use mathlib.Core.Bool.{true}
 use mathlib.Core.List.{List, [], ◌∷◌, ◌++◌, append-nil, append_assoc}
-use mathlib.Core.Option.{Option, none, some}
 use mathlib.Core.Path.{◌≡◌, refl, sym, ap, ap₂, subst, subst₂, ◌∙◌}
 use native.Mathlib.Nat.{add-zero}
 use native.Mathlib.Omega.{arith}
@@ -12,17 +11,17 @@ use lib.Seq.{take_all, take-append_seam, drop-append-add, drop-drop}
 use borrow.Author.Tests.{lt-ltb, le-ltb}
 use Rattle.lines.proofs.Carrying.{carries_cut}
 use Rattle.lines.proofs.Running.{text_parts}
+use Rattle.std.specs.Prelude.{Option, Some, None}
 use Rattle.lines.specs.Carried.{Carries, cut}
 use Rattle.lines.specs.Runs.{run_line, run_all, run}
 use Rattle.lines.specs.Splitting.{ended, left, last_line, lines}
 use Rattle.lines.specs.declared.Line.{Line}
-use Rattle.script.proofs.Arguments.{number_length}
-use Rattle.script.proofs.Decimals.{decimal_length}
+use Rattle.script.proofs.Writes.{answer_short}
 use Rattle.script.specs.Outputs.{answer_line, bad_line, end_text, removed_text}
 use Rattle.script.specs.Reading.{read_line}
 use Rattle.script.specs.Sizes.{answer_bytes}
 use Rattle.script.specs.Texts.{bytes, line_feed, decimal, number}
-use Rattle.script.specs.declared.Parsed.{Parsed}
+use Rattle.script.specs.declared.Asked.{Asked}
 use Rattle.session.proofs.Writing.{nothing_last, wrote_length}
 use Rattle.session.specs.Sessions.{Wrote, Feeds}
 use Rattle.session.specs.declared.Fed.{Fed}
@@ -39,40 +38,10 @@ use Rattle.lampfunnel.specs.Run.{short, needed, told, filled}
 
 -- ---- no answer is longer than the room for one
 
-end_short : (e : End) → length (end_text e) ≤ 18
-unfolding end_text
-end_short (Exited s) =
-    let d = decimal_length s in
-    let a = length-append (bytes " gave ") (decimal s) in
-    omega arith
-end_short (Signaled s) =
-    let d = decimal_length s in
-    let a = length-append (bytes " signal ") (decimal s) in
-    omega arith
-
-removed_short : (o : Option End) → length (removed_text o) ≤ 18
-unfolding removed_text
-removed_short none = omega arith
-removed_short (some e) = end_short e
-
-answer_length : (a : Answer) → length (answer_line a) ≡ length (number (number_of a)) + length (removed_text (end_of a)) + 1
-unfolding answer_line
-answer_length a =
-    let x = length-append (number (number_of a) ++ removed_text (end_of a)) (line_feed ∷ []) in
-    let y = length-append (number (number_of a)) (removed_text (end_of a)) in
-    x ∙ ap (λ k. k + 1) y
-
-answer_short : (a : Answer) → length (answer_line a) ≤ answer_bytes
-answer_short a =
-    let n = number_length (number_of a) in
-    let e = removed_short (end_of a) in
-    let s = answer_length a in
-    omega arith
-
-line_short : (t : Table) (p : Parsed) → length (run_line t p).text ≤ answer_bytes
+line_short : (t : Table) (p : Option Asked) → length (run_line t p).text ≤ answer_bytes
 unfolding run_line bad_line
-line_short t Parsed.Bad = omega arith
-line_short t (Parsed.Good slot c) = answer_short (step t slot.0 c).reply.answer
+line_short t None = omega arith
+line_short t (Some a) = answer_short (step t a.slot.0 a.call).reply.answer
 
 answers_short : (t : Table) (ls : List (List ℕ)) → length (run_all t ls).text ≤ answer_bytes * length ls
 unfolding run_all

@@ -20,7 +20,7 @@ use turns::turn;
 
 // ---- a script
 
-// Tells that the buffer is too short. No buffer is so long, so it is no count of answers.
+// Tells that the buffer is too short: C reads a number, and no Option. No buffer is so long, so it is no count of answers.
 const SHORT: usize = 18446744073709551615;
 
 // How many lines a script has. A line is counted where it begins, since its line feed may be missing.
@@ -29,13 +29,11 @@ fn line_count(script: &[u8]) -> usize
 {
     let mut count: usize = 0;
     let mut inside = false;
-    let mut i: usize = 0;
-    while i < script.len() {
+    for b in script {
         if !inside {
             count += 1;
         }
-        inside = script[i] != b'\n';
-        i += 1;
+        inside = *b != b'\n';
     }
     count
 }
@@ -51,12 +49,11 @@ pub extern "C" fn lampfunnel_run(script: &[u8], out: &mut [u8]) -> usize
     }
     let fed = feed(start(), script, out);
     let used = fed.used;
-    let session = fed.session;
-    let line = session.line;
+    let line = fed.session.line;
     if line.len == 0 {
         return used;
     }
-    used + finish(session, &mut out[used..])
+    used + finish(fed.session, &mut out[used..])
 }
 
 // ---- a table that the host holds
@@ -85,8 +82,7 @@ pub extern "C" fn lampfunnel_next_pid(m: Mirror, namespace: u32) -> u16
     if namespace >= NAMESPACE_SLOTS as u32 {
         return 0;
     }
-    let next = next_pid(table_from(m), NsSlot(namespace as u8));
-    next.0
+    next_pid(table_from(m), NsSlot(namespace as u8)).0
 }
 
 // One call, in place: what the host holds is lent, and holds what the call leaves.

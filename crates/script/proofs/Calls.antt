@@ -1,20 +1,28 @@
 -- The returns of the functions that take a number, or what a reader found, apart.
 use Rattle.std.specs.Prelude.{Option, Some, None}
-use Rattle.std.specs.Bool.{then_some}
+use Rattle.std.proofs.Common.{ControlFlow, Continue, Break}
+use Rattle.std.specs.ControlFlow.{continue_value}
 use Prim.Native.Nat.{ℕ}
-use mathlib.Core.Bool.{Bool, true, false}
+use mathlib.Core.Bool.{true, false}
 use mathlib.Core.List.{List}
-use mathlib.Core.Path.{◌≡◌, sym, ap, ap₂, ◌∙◌}
+use mathlib.Core.Path.{◌≡◌, refl, sym, ap, ap₂, ◌∙◌}
 use lib.IntN.{ℤ}
 use mir.Syntax.{w32}
 use mir.Val.{SFits, to_z, of_z}
 use mir.ValLaws.{to_z-of_z}
-use Rattle.script.specs.Reading.{same, read_number, with_number, call_with, kill_call, handle_call}
+use Rattle.script.specs.Reading.{same, read_number, with_number, kill_call, handle_call}
 use Rattle.script.specs.Texts.{bytes}
-use Rattle.table.proofs.Chains.{facts, if_yes, if_no}
-use Rattle.table.specs.Tests.{when◌then◌else◌}
+use Rattle.table.proofs.Chains.{pick_yes, pick_no}
 use Rattle.table.specs.declared.Call.{Call}
-use Rattle.table.specs.declared.Call.TheVariants.{CloneNew, Setns, Kill, Exit, Handle}
+use Rattle.table.specs.declared.Call.TheVariants.{Setns, Kill, Exit, Handle}
+
+-- ---- what `?` went on with, or stopped at
+
+pub went_on : {E T : Type 0} (a : Option T) (b : ControlFlow E T) (n : T) → a ≡ continue_value b → b ≡ Continue n → a ≡ Some n
+went_on a b n p q = p ∙ ap continue_value q
+
+pub stopped : {E T : Type 0} (a : Option T) (b : ControlFlow E T) (e : E) → a ≡ continue_value b → b ≡ Break e → a ≡ None
+stopped a b e p q = p ∙ ap continue_value q
 
 -- ---- what is read first
 
@@ -27,42 +35,30 @@ kill_read a b m n r p q e = e ∙ ap₂ kill_call p q
 pub handle_read : (a b : List ℕ) (m : Option ℤ) (r : Option Call) → m ≡ read_number a → r ≡ handle_call m b → r ≡ handle_call (read_number a) b
 handle_read a b m r p e = e ∙ ap (λ n. handle_call n b) p
 
-taken_if : {A : Type 0} (b : Bool) (x : A) (r : Option A) → r ≡ then_some b x → r ≡ (when b then Some x else None)
-taken_if true x r e = e
-taken_if false x r e = e
-
-pub clone_taken : (w a : List ℕ) (p q : Bool) (r : Option Call) → p ≡ same w (bytes "clone") → p ≡ true → q ≡ same a (bytes "new") → r ≡ then_some q CloneNew → r ≡ call_with w a
-unfolding call_with
-clone_taken w a p q r e t f k =
-    if_yes (same w (bytes "clone")) r (when same a (bytes "new") then Some CloneNew else None) (with_number w (read_number a)) (sym e ∙ t)
-    (taken_if (same a (bytes "new")) CloneNew r (k ∙ ap (λ b. then_some b CloneNew) f))
-
 -- ---- a word and a number
 
-abbrev choose : List ℕ → ℤ → Option Call
-choose w n =
-    when same w (bytes "setns") then Some (Setns n) else
-    when same w (bytes "exit") then Some (Exit n) else
-    None
-
-pub number_none : (w : List ℕ) (a : Option ℤ) (r : Option Call) → r ≡ None → a ≡ None → r ≡ with_number w a
+pub with_none : (w : List ℕ) (a : Option ℤ) (r : Option Call) → r ≡ None → a ≡ None → r ≡ with_number w a
 unfolding with_number
-number_none w a r q e = q ∙ rw e
+with_none w a r q e = q ∙ rw e
 
-number_some : (w : List ℕ) (a : Option ℤ) (n : ℤ) → a ≡ Some n → with_number w a ≡ choose w n
+pub with_setns : (w : List ℕ) (a : Option ℤ) (n : ℤ) → SFits w32 n → a ≡ Some n → same w (bytes "setns") ≡ true → Some (Setns (to_z w32 (of_z w32 n))) ≡ with_number w a
 unfolding with_number
-number_some w a n e = rw e
+with_setns w a n f e s =
+    ap (λ z. Some (Setns z)) (to_z-of_z w32 n f) ∙ rw e (sym (pick_yes (same w (bytes "setns")) (Some (Setns n)) _ s))
 
-pub number_goes : (w : List ℕ) (a : Option ℤ) (n : ℤ) (r : Option Call) → a ≡ Some n → r ≡ choose w n → r ≡ with_number w a
-number_goes w a n r e p = p ∙ sym (number_some w a n e)
+pub with_exit : (w : List ℕ) (a : Option ℤ) (n : ℤ) → SFits w32 n → a ≡ Some n → same w (bytes "setns") ≡ false → same w (bytes "exit") ≡ true → Some (Exit (to_z w32 (of_z w32 n))) ≡ with_number w a
+unfolding with_number
+with_exit w a n f e s t =
+    ap (λ z. Some (Exit z)) (to_z-of_z w32 n f)
+    ∙ rw e (sym (pick_no (same w (bytes "setns")) (Some (Setns n)) _ s ∙ pick_yes (same w (bytes "exit")) (Some (Exit n)) None t))
 
-pub setns_taken : (n : ℤ) → SFits w32 n → Some (Setns (to_z w32 (of_z w32 n))) ≡ Some (Setns n)
-setns_taken n f = ap (λ z. Some (Setns z)) (to_z-of_z w32 n f)
+pub with_other : (w : List ℕ) (a : Option ℤ) → same w (bytes "setns") ≡ false → same w (bytes "exit") ≡ false → None ≡ with_number w a
+unfolding with_number
+with_other w None s t = refl
+with_other w (Some n) s t =
+    sym (pick_no (same w (bytes "setns")) (Some (Setns n)) _ s ∙ pick_no (same w (bytes "exit")) (Some (Exit n)) None t)
 
-pub exit_taken : (n : ℤ) → SFits w32 n → Some (Exit (to_z w32 (of_z w32 n))) ≡ Some (Exit n)
-exit_taken n f = ap (λ z. Some (Exit z)) (to_z-of_z w32 n f)
-
-pub ruleset number_laws = (number_goes, setns_taken, exit_taken, facts, if_yes, if_no)
+pub ruleset number_laws = (went_on, stopped, with_none, with_setns, with_exit, with_other)
 
 -- ---- kill
 
@@ -84,24 +80,25 @@ kill_taken a b n s e f g h =
 
 -- ---- handle
 
-abbrev turn : ℤ → List ℕ → Option Call
-turn s b =
-    when same b (bytes "1") then Some (Handle s true) else
-    when same b (bytes "0") then Some (Handle s false) else
-    None
-
 pub handle_none : (a : Option ℤ) (b : List ℕ) (r : Option Call) → r ≡ None → a ≡ None → r ≡ handle_call a b
 unfolding handle_call
 handle_none a b r q e = q ∙ rw e
 
-handle_some : (a : Option ℤ) (b : List ℕ) (s : ℤ) → a ≡ Some s → handle_call a b ≡ turn s b
+pub handle_on : (a : Option ℤ) (b : List ℕ) (s : ℤ) → SFits w32 s → a ≡ Some s → same b (bytes "1") ≡ true → Some (Handle (to_z w32 (of_z w32 s)) true) ≡ handle_call a b
 unfolding handle_call
-handle_some a b s e = rw e
+handle_on a b s f e t =
+    ap (λ z. Some (Handle z true)) (to_z-of_z w32 s f) ∙ rw e (sym (pick_yes (same b (bytes "1")) (Some (Handle s true)) _ t))
 
-pub handle_goes : (a : Option ℤ) (b : List ℕ) (s : ℤ) (r : Option Call) → a ≡ Some s → r ≡ turn s b → r ≡ handle_call a b
-handle_goes a b s r e p = p ∙ sym (handle_some a b s e)
+pub handle_off : (a : Option ℤ) (b : List ℕ) (s : ℤ) → SFits w32 s → a ≡ Some s → same b (bytes "1") ≡ false → same b (bytes "0") ≡ true → Some (Handle (to_z w32 (of_z w32 s)) false) ≡ handle_call a b
+unfolding handle_call
+handle_off a b s f e t u =
+    ap (λ z. Some (Handle z false)) (to_z-of_z w32 s f)
+    ∙ rw e (sym (pick_no (same b (bytes "1")) (Some (Handle s true)) _ t ∙ pick_yes (same b (bytes "0")) (Some (Handle s false)) None u))
 
-pub handle_taken : (s : ℤ) (on : Bool) → SFits w32 s → Some (Handle (to_z w32 (of_z w32 s)) on) ≡ Some (Handle s on)
-handle_taken s on f = ap (λ z. Some (Handle z on)) (to_z-of_z w32 s f)
+pub handle_other : (a : Option ℤ) (b : List ℕ) → same b (bytes "1") ≡ false → same b (bytes "0") ≡ false → None ≡ handle_call a b
+unfolding handle_call
+handle_other None b t u = refl
+handle_other (Some s) b t u =
+    sym (pick_no (same b (bytes "1")) (Some (Handle s true)) _ t ∙ pick_no (same b (bytes "0")) (Some (Handle s false)) None u)
 
-pub ruleset handle_laws = (handle_goes, handle_taken, facts, if_yes, if_no)
+pub ruleset handle_laws = (went_on, stopped, handle_none, handle_on, handle_off, handle_other)

@@ -1,6 +1,7 @@
 -- What belongs to no one function.
 pub mod Scans
 pub mod Numbers
+pub mod Arms
 pub mod Calls
 pub mod Parts
 pub mod Steps

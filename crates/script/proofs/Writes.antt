@@ -136,3 +136,11 @@ bad_written t u z p =
     let e : u.bytes ≡ bytes "?\n" = p ∙ ap (λ l. l ++ bytes "?\n") z in
     let x = ap length e in
     record { room = omega arith; holds = e }
+
+-- no answer is longer than the room for one
+pub answer_short : (w : Answer) → length (answer_line w) ≤ answer_bytes
+unfolding answer_line
+answer_short w =
+    let a = words_length w in
+    let b = length-append (words w) (line_feed ∷ []) in
+    omega arith

@@ -6,7 +6,7 @@ ghost use Rattle.rules.specs.Answers.{refusal_number, number_of, end_of};
 ghost use Rattle.script.specs.Sizes.{answer_bytes, most_digits};
 ghost use Rattle.script.specs.Outputs.{end_text, removed_text, answer_line, bad_line, Written, Copied};
 ghost use Rattle.script.specs.Texts.{minus_sign, decimal, number as number_text};
-ghost use Rattle.script.specs.Reading.{word_length, first_word, later_words, same as same_text, natural_from, read_natural, from_zero as from_zero_to, below_zero as below_zero_to, read_number, own_call, plain_call, with_number, call_with, kill_call, handle_call, call_with_two, read_call, after_slot, read_line};
+ghost use Rattle.script.specs.Reading.{word_length, first_word, later_words, same as same_text, natural_from, read_natural, from_zero as from_zero_to, below_zero as below_zero_to, read_number, plain_call, with_number, call_with, kill_call, handle_call, call_with_two, read_call, after_slot, read_line};
 
 use arrayvec::ArrayString;
 use itoa::Buffer;
@@ -117,59 +117,45 @@ fn read_number(s: &[u8]) -> Option<i32>
 
 // ---- calls
 
-// A question of the caller about itself.
-fn own_call(word: &[u8]) -> Option<Call>
-    ensures { result ≡ own_call word.now }
-{
-    if same(word, b"getpid") {
-        return Some(Call::Getpid);
-    }
-    if same(word, b"getppid") {
-        return Some(Call::Getppid);
-    }
-    if same(word, b"poll") {
-        return Some(Call::Poll);
-    }
-    None
-}
-
 // A call of one word.
+#[tactic(auto, using(crate::proofs::Arms::arms), unfolding(crate::specs::Reading::plain_call, crate::specs::Reading::own_call))]
 fn plain_call(word: &[u8]) -> Option<Call>
     ensures { result ≡ plain_call word.now }
 {
-    if same(word, b"clone") {
-        return Some(Call::Clone);
+    match word {
+        b"clone" => Some(Call::Clone),
+        b"unshare" => Some(Call::Unshare),
+        b"wait" => Some(Call::Wait),
+        b"getpid" => Some(Call::Getpid),
+        b"getppid" => Some(Call::Getppid),
+        b"poll" => Some(Call::Poll),
+        _ => None,
     }
-    if same(word, b"unshare") {
-        return Some(Call::Unshare);
-    }
-    if same(word, b"wait") {
-        return Some(Call::Wait);
-    }
-    own_call(word)
 }
 
+#[tactic(auto, using(crate::proofs::Arms::arms, crate::proofs::Calls::number_laws))]
 fn with_number(word: &[u8], number: Option<i32>) -> Option<Call>
     ensures { result ≡ with_number word.now number }
 {
-    let n = number?;
-    if same(word, b"setns") {
-        return Some(Call::Setns(n));
+    match word {
+        b"setns" => Some(Call::Setns(number?)),
+        b"exit" => Some(Call::Exit(number?)),
+        _ => None,
     }
-    if same(word, b"exit") {
-        return Some(Call::Exit(n));
-    }
-    None
 }
 
 // A call of a word and an argument.
+#[tactic(auto, using(crate::proofs::Arms::arms, crate::proofs::Calls::with_read), unfolding(crate::specs::Reading::call_with))]
 fn call_with(word: &[u8], argument: &[u8]) -> Option<Call>
     ensures { result ≡ call_with word.now argument.now }
 {
-    if same(word, b"clone") {
-        return same(argument, b"new").then_some(Call::CloneNew);
+    match word {
+        b"clone" => match argument {
+            b"new" => Some(Call::CloneNew),
+            _ => None,
+        },
+        _ => with_number(word, read_number(argument)),
     }
-    with_number(word, read_number(argument))
 }
 
 fn kill_call(target: Option<i32>, signal: Option<i32>) -> Option<Call>
@@ -178,30 +164,27 @@ fn kill_call(target: Option<i32>, signal: Option<i32>) -> Option<Call>
     Some(Call::Kill(target?, signal?))
 }
 
+#[tactic(auto, using(crate::proofs::Arms::arms, crate::proofs::Calls::handle_laws))]
 fn handle_call(signal: Option<i32>, switch: &[u8]) -> Option<Call>
     ensures { result ≡ handle_call signal switch.now }
 {
-    let s = signal?;
-    if same(switch, b"1") {
-        return Some(Call::Handle(s, true));
+    match switch {
+        b"1" => Some(Call::Handle(signal?, true)),
+        b"0" => Some(Call::Handle(signal?, false)),
+        _ => None,
     }
-    if same(switch, b"0") {
-        return Some(Call::Handle(s, false));
-    }
-    None
 }
 
 // A call of a word and two arguments.
+#[tactic(auto, using(crate::proofs::Arms::arms, crate::proofs::Calls::kill_read, crate::proofs::Calls::handle_read), unfolding(crate::specs::Reading::call_with_two))]
 fn call_with_two(word: &[u8], first: &[u8], second: &[u8]) -> Option<Call>
     ensures { result ≡ call_with_two word.now first.now second.now }
 {
-    if same(word, b"kill") {
-        return kill_call(read_number(first), read_number(second));
+    match word {
+        b"kill" => kill_call(read_number(first), read_number(second)),
+        b"handle" => handle_call(read_number(first), second),
+        _ => None,
     }
-    if same(word, b"handle") {
-        return handle_call(read_number(first), second);
-    }
-    None
 }
 
 // A call and its arguments: a word, and at most two more.

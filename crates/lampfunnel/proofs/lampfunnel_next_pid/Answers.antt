@@ -19,5 +19,5 @@ returns-then-namespace c = search chains depth 12
 pub returns : goal.returns
 unfolding next_number
 returns c =
-    let e = of-the-mirror _ _ _ _ c.table_from.ensures c.next_pid-next.ensures in
+    let e = of-the-mirror _ _ _ _ c.table_from.ensures c.next_pid.ensures in
     search chains depth 12

@@ -4,13 +4,13 @@ use borrow.Author.Rules.{rules}
 use Rattle.lampfunnel.proofs.line_count.Goals as goal
 use Rattle.lampfunnel.proofs.line_count.Goals.{else-not-inside, then-not-inside}
 
-pub loop-i-init : goal.loop-i-init
-loop-i-init c = counted_starts _
+pub loop-b-init : goal.loop-b-init
+loop-b-init c = counted_starts _
 
-pub loop-i-preserved : goal.loop-i-preserved
-loop-i-preserved c =
-    let inv = c.loop-i.invariant in
-    let within = c.loop-i-test.true in
+pub loop-b-preserved : goal.loop-b-preserved
+loop-b-preserved c =
+    let inv = c.loop-b.invariant in
+    let within = c.loop-b-test.true in
     elim c.if-not-inside.branch [ then-not-inside w ↦ counted_new _ _ _ _ _ inv within (search rules) w.count-is | else-not-inside w ↦ counted_on _ _ _ _ _ inv within (search rules) w.count-is ]
 
 pub returns : goal.returns
