@@ -111,9 +111,6 @@ pub record Counted (xs : List ℕ) (count : ℕ) (b : Bool) (i : ℕ) : Type 0 w
   pub few : count ≤ i
   pub within : i ≤ length xs
 
-pub counted_starts : (xs : List ℕ) → Counted xs 0 false 0
-counted_starts xs = record { all = omega arith; few = omega arith; within = omega arith }
-
 next_byte : (xs : List ℕ) (b : Bool) (i : ℕ) → i < length xs → begun b (drop i xs) ≡ begins b + begun (not (eqb (get_or xs i 0) line_feed)) (drop (i + 1) xs)
 next_byte xs b i h =
     ap (begun b) (drop-cons xs i 0 h)

@@ -17,22 +17,17 @@ use Rattle.lines.specs.Runs.{run_line, run_all, run}
 use Rattle.lines.specs.Splitting.{ended, left, last_line, lines}
 use Rattle.lines.specs.declared.Line.{Line}
 use Rattle.script.proofs.Writes.{answer_short}
-use Rattle.script.specs.Outputs.{answer_line, bad_line, end_text, removed_text}
+use Rattle.script.specs.Outputs.{bad_line}
 use Rattle.script.specs.Reading.{read_line}
 use Rattle.script.specs.Sizes.{answer_bytes}
-use Rattle.script.specs.Texts.{bytes, line_feed, decimal, number}
 use Rattle.script.specs.declared.Asked.{Asked}
 use Rattle.session.proofs.Writing.{nothing_last, wrote_length}
 use Rattle.session.specs.Sessions.{Wrote, Feeds}
 use Rattle.session.specs.declared.Fed.{Fed}
 use Rattle.session.specs.declared.Session.{Session}
 use Rattle.table.proofs.Chains.{if_yes, if_no}
-use Rattle.rules.specs.Answers.{number_of, end_of}
 use Rattle.table.specs.Fresh.{fresh}
 use Rattle.rules.specs.Step.{step}
-use Rattle.table.specs.declared.Answer.{Answer}
-use Rattle.table.specs.declared.End.{End}
-use Rattle.table.specs.declared.End.TheVariants.{Exited, Signaled}
 use Rattle.table.specs.declared.Table.{Table}
 use Rattle.lampfunnel.specs.Run.{short, needed, told, filled}
 

@@ -74,7 +74,8 @@ pub extern "C" fn lampfunnel_sound(m: Mirror) -> bool
     is_sound(table_from(m))
 }
 
-// The number that the namespace at a slot would give next; 0 where the slot is past the table's end.
+// The number that the namespace at a slot would give next; 0 where the slot is past the table's end, since C reads a
+// number.
 #[unsafe(no_mangle)]
 pub extern "C" fn lampfunnel_next_pid(m: Mirror, namespace: u32) -> u16
     ensures { result ≡ next_number m namespace }

@@ -226,6 +226,7 @@ pub fn parse(line: &[u8]) -> Option<Asked>
 // A line of the output.
 pub type Text = ArrayString<ANSWER_BYTES>;
 
+// By `itoa`, whose clause names the bytes: that a `write!` has room, and so succeeds, no clause says.
 fn push_decimal(text: &mut Text, n: u32)
     requires { length text.old.bytes + length (decimal n) ≤ answer_bytes }
     ensures { text.new.bytes ≡ text.old.bytes ++ decimal n }
@@ -250,7 +251,8 @@ fn push_end(text: &mut Text, how: End)
     }
 }
 
-// How far below 0 the number of a refusal is.
+// How far below 0 the number of a refusal is. `requests` gives a host the number itself; here the sign is text, so that
+// one function for both would be no plainer.
 #[tactic(auto, unfolding(crate::specs::Texts::number, rules::specs::Answers::refusal_number))]
 fn refusal_size(e: Refusal) -> u32
     ensures { number_text (refusal_number e) ≡ minus_sign ∷ decimal result }

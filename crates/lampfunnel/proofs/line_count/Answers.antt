@@ -1,11 +1,8 @@
 -- `line_count` counts the lines that begin.
-use Rattle.lampfunnel.proofs.Counting.{counted_starts, counted_on, counted_new, counted_all}
+use Rattle.lampfunnel.proofs.Counting.{counted_on, counted_new, counted_all}
 use borrow.Author.Rules.{rules}
 use Rattle.lampfunnel.proofs.line_count.Goals as goal
 use Rattle.lampfunnel.proofs.line_count.Goals.{else-not-inside, then-not-inside}
-
-pub loop-b-init : goal.loop-b-init
-loop-b-init c = counted_starts _
 
 pub loop-b-preserved : goal.loop-b-preserved
 loop-b-preserved c =
