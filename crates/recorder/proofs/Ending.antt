@@ -1,19 +1,21 @@
 -- What a whole script gives, and what was written of it.
-use Rattle.std.proofs.Common.{◌≡◌, sym, ap, subst, ◌∙◌, ℕ, ◌≤◌, List, length, [], ◌++◌, take, Option, None, Some, IsTrue, inr, IfSome}
-use Rattle.std.proofs.lemmas.List.{append_assoc, append-nil}
-use Rattle.std.specs.Io.KnownBytes.{Appends, Consumes, IsAtEnd}
+use Rattle.std.proofs.Common.{◌≡◌, sym, ap, subst, ◌∙◌, ℕ, ◌≤◌, List, length, [], ◌++◌, take, Option, None, Some, Result, Ok}
+use Rattle.std.proofs.KnownBytes.{Appends-trans, Consumes-whole}
+use Rattle.std.proofs.lemmas.List.{append_assoc}
+use Rattle.std.specs.Io.KnownBytes.{Appends, IsAtEnd}
 use Rattle.lines.proofs.Carrying.{carries_cut}
+use Rattle.lines.proofs.Cuts.{ended_parts}
 use Rattle.lines.proofs.Running.{text_parts}
 use Rattle.lines.specs.Carried.{Carries, cut}
 use Rattle.lines.specs.Runs.{run_all, run}
 use Rattle.lines.specs.Splitting.{ended, left, last_line, lines}
-use Rattle.recorder.proofs.Appending.{appends_both, first_both, first_longer}
 use Rattle.recorder.proofs.Fitting.{wrote_within}
-use Rattle.recorder.proofs.Standing.{ended_parts, wrote_is}
+use Rattle.recorder.proofs.Standing.{wrote_is}
+use Rattle.recorder.proofs.Writing.{first_both, first_longer}
 use Rattle.recorder.specs.Running.{GoesOn, WritesFirst, WritesAll}
 use Rattle.recorder.specs.Standing.{Stands}
 use Rattle.recorder.specs.Writing.{TookFirst}
-use Rattle.recorder.specs.declared.run.Progress.{Progress}
+use Rattle.recorder.specs.declared.faults.Stopped.{Stopped}
 use Rattle.session.specs.Sessions.{Wrote}
 use Rattle.session.specs.declared.Session.{Session}
 use Rattle.table.specs.Fresh.{fresh}
@@ -39,52 +41,39 @@ run_last xs = text_parts fresh (ended [] xs) (last_line (left [] xs))
 
 -- ---- where the open line is not run
 
-pub writes_first : (script rest old new : Option (List ℕ)) (r : Progress) → GoesOn [] [] script rest old new r → WritesFirst script old new
+pub writes_first : (script rest old new : Option (List ℕ)) (r : Result Session Stopped) → GoesOn script rest old new r → WritesFirst script old new
 writes_first None rest old new r g = tt
 writes_first (Some xs) None old new r g = absurd g.consumes
 writes_first (Some xs) (Some ys) old new r g =
     let a = g.answers in
-    let e = ap run g.consumes ∙ run_parts g.chunk ys ∙ ap (λ t. t ++ more g.chunk ys) (sym a.stands.text_is) in
-    subst (λ t. TookFirst old new t) (sym e) (first_longer old new a.gave (more g.chunk ys) a.first)
+    let e = ap run g.consumes ∙ run_parts g.input ys ∙ ap (λ t. t ++ more g.input ys) (sym a.text_is) in
+    subst (λ t. TookFirst old new t) (sym e) (first_longer old new a.gave (more g.input ys) a.first)
 
 -- ---- where it is run, at the end of the input
 
-gives_last : (xs gave : List ℕ) (s : Session) (before out : List ℕ) (used : ℕ) → ((l : List ℕ) → Carries (cut s.line) l → Wrote (run_all s.table (last_line l)).text before out used) → Stands xs gave s → run xs ≡ gave ++ take used out
-gives_last xs gave s before out used f a =
-    let l : List ℕ = left [] xs in
-    let e = wrote_is (run_all s.table (last_line l)).text before out used (f l (carries_cut s.line l a.carries)) in
-    let t = (run_all fresh (ended [] xs)).table in
-    run_last xs ∙ ap (λ x. x ++ (run_all t (last_line l)).text) (sym a.text_is)
-    ∙ ap (λ u. gave ++ (run_all u (last_line l)).text) (sym a.table_is) ∙ ap (λ x. gave ++ x) (sym e)
+module _ (script rest old mid : Option (List ℕ)) (s : Session) (before out : List ℕ) (used : ℕ) (g : GoesOn script rest old mid (Ok s)) (finished : (l : List ℕ) → Carries (cut s.line) l → Wrote (run_all s.table (last_line l)).text before out used) where
+  stands : Stands g.input g.answers.gave s
+  stands = g.answers.whole.0
 
-pub ends_within : (script rest old mid : Option (List ℕ)) (r : Progress) (before out : List ℕ) (used : ℕ) → GoesOn [] [] script rest old mid r → ((l : List ℕ) → Carries (cut r.session.line) l → Wrote (run_all r.session.table (last_line l)).text before out used) → used ≤ length out
-ends_within script rest old mid r before out used g f =
-    let a = g.answers.stands in
-    let l : List ℕ = left [] g.chunk in
-    wrote_within (run_all r.session.table (last_line l)).text before out used (f l (carries_cut r.session.line l a.carries))
+  wrote : Wrote (run_all s.table (last_line (left [] g.input))).text before out used
+  wrote = finished (left [] g.input) (carries_cut s.line (left [] g.input) stands.carries)
 
--- all of a script was read
-all_read : (script rest : Option (List ℕ)) (chunk : List ℕ) → Consumes script rest chunk → IsAtEnd rest → IfSome script (λ xs. xs ≡ chunk)
-all_read None rest chunk p e = tt
-all_read (Some xs) None chunk p e = absurd p
-all_read (Some xs) (Some ys) chunk p e = p ∙ ap (λ w. chunk ++ w) e ∙ append-nil chunk
+  pub ends_within : used ≤ length out
+  ends_within = wrote_within (run_all s.table (last_line (left [] g.input))).text before out used wrote
 
-known : (script : Option (List ℕ)) (P Q : List ℕ → Type 0) → ((xs : List ℕ) → P xs → Q xs) → IfSome script P → IfSome script Q
-known None P Q f p = tt
-known (Some xs) P Q f p = f xs p
+  gives : run g.input ≡ g.answers.gave ++ take used out
+  gives =
+      let m : List (List ℕ) = last_line (left [] g.input) in
+      run_last g.input ∙ ap (λ x. x ++ (run_all (run_all fresh (ended [] g.input)).table m).text) (sym stands.text_is)
+      ∙ ap (λ u. g.answers.gave ++ (run_all u m).text) (sym stands.table_is)
+      ∙ ap (λ x. g.answers.gave ++ x) (sym (wrote_is (run_all s.table m).text before out used wrote))
 
-pub ends_first : (script rest old mid new : Option (List ℕ)) (r : Progress) (before out : List ℕ) (used : ℕ) → GoesOn [] [] script rest old mid r → IsTrue r.ended → ((l : List ℕ) → Carries (cut r.session.line) l → Wrote (run_all r.session.table (last_line l)).text before out used) → TookFirst mid new (take used out) → WritesFirst script old new
-ends_first script rest old mid new r before out used g d f p =
-    let a = g.answers in
-    let e = gives_last g.chunk a.gave r.session before out used f a.stands in
-    let b = subst (λ t. TookFirst old new t) (sym e) (first_both old mid new a.gave (take used out) (a.whole (inr d)) p) in
-    known script (λ xs. xs ≡ g.chunk) (λ xs. TookFirst old new (run xs)) (λ xs q. subst (λ x. TookFirst old new (run x)) (sym q) b)
-    (all_read script rest g.chunk g.consumes (g.at_end d))
+  pub ends_first : (new : Option (List ℕ)) → IsAtEnd rest → TookFirst mid new (take used out) → WritesFirst script old new
+  ends_first new e p =
+      Consumes-whole script rest g.input (λ xs. TookFirst old new (run xs)) g.consumes e
+      (subst (λ t. TookFirst old new t) (sym gives) (first_both old mid new g.answers.gave (take used out) g.answers.whole.1 p))
 
-pub ends_whole : (script rest old mid new : Option (List ℕ)) (r : Progress) (before out : List ℕ) (used : ℕ) → GoesOn [] [] script rest old mid r → IsTrue r.ended → ((l : List ℕ) → Carries (cut r.session.line) l → Wrote (run_all r.session.table (last_line l)).text before out used) → Appends mid new (take used out) → WritesAll script old new
-ends_whole script rest old mid new r before out used g d f p =
-    let a = g.answers in
-    let e = gives_last g.chunk a.gave r.session before out used f a.stands in
-    let b = subst (λ t. Appends old new t) (sym e) (appends_both old mid new a.gave (take used out) (a.whole (inr d)) p) in
-    known script (λ xs. xs ≡ g.chunk) (λ xs. Appends old new (run xs)) (λ xs q. subst (λ x. Appends old new (run x)) (sym q) b)
-    (all_read script rest g.chunk g.consumes (g.at_end d))
+  pub ends_whole : (new : Option (List ℕ)) → IsAtEnd rest → Appends mid new (take used out) → WritesAll script old new
+  ends_whole new e p =
+      Consumes-whole script rest g.input (λ xs. Appends old new (run xs)) g.consumes e
+      (subst (λ t. Appends old new t) (sym gives) (Appends-trans old mid new g.answers.gave (take used out) g.answers.whole.1 p))

@@ -1,17 +1,18 @@
 -- What is read, run and written, from chunk to chunk.
-use Rattle.std.proofs.Common.{◌≡◌, sym, subst, ℕ, ◌<◌, Bool, true, false, List, [], ◌++◌, length, take, Option, inl, inr, arith, IsTrue}
-use Rattle.std.proofs.lemmas.List.{append-nil}
-use Rattle.std.specs.Io.KnownBytes.{Appends, Consumes, Keeps, IsAtEnd}
+use Rattle.std.proofs.Common.{◌≡◌, sym, subst, ℕ, List, [], ◌++◌, take, Option, Result, Ok, IfOk, arith}
+use Rattle.std.proofs.KnownBytes.{Appends-nil, Appends-trans, Consumes-nil, Consumes-trans}
+use Rattle.std.proofs.lemmas.Result.{IfOk-weaker}
+use Rattle.std.specs.Io.KnownBytes.{Appends, Consumes}
 use Rattle.lines.proofs.Carrying.{carries_cut}
 use Rattle.lines.specs.Carried.{Carries, cut}
 use Rattle.lines.specs.Runs.{run_all}
 use Rattle.lines.specs.Splitting.{ended, left}
-use Rattle.recorder.proofs.Appending.{appends_both, appends_none, consumes_none, consumes_both, first_both, keeps}
 use Rattle.recorder.proofs.Standing.{stands_first, stands_next, wrote_is}
+use Rattle.recorder.proofs.Writing.{first_both}
 use Rattle.recorder.specs.Running.{Answers, GoesOn}
 use Rattle.recorder.specs.Standing.{Stands}
 use Rattle.recorder.specs.Writing.{TookFirst}
-use Rattle.recorder.specs.declared.run.Progress.{Progress}
+use Rattle.recorder.specs.declared.faults.Stopped.{Stopped}
 use Rattle.session.specs.Sessions.{Feeds}
 use Rattle.session.specs.declared.Fed.{Fed}
 use Rattle.session.specs.declared.Session.{Session}
@@ -19,92 +20,56 @@ use Rattle.table.specs.Fresh.{fresh}
 
 -- ---- a chunk
 
-pub answered : (input text chunk before out : List ℕ) (old new : Option (List ℕ)) (s : Session) (r : Fed) (more : Bool) → ((l : List ℕ) → Carries (cut s.line) l → Feeds s l chunk before out r) → (IsTrue more → Appends old new (take r.used out)) → TookFirst old new (take r.used out) → Stands input text s → Answers input text chunk old new (record { session = r.session; more = more; ended = false })
-answered input text chunk before out old new s r more f w p a =
-    let l : List ℕ = left [] input in
-    let d = f l (carries_cut s.line l a.carries) in
-    let e = wrote_is (run_all s.table (ended l chunk)).text before out r.used d.wrote in
-    record {
-      gave = (run_all s.table (ended l chunk)).text;
-      stands = stands_next input text chunk before out s r a d;
-      first = subst (λ t. TookFirst old new t) e p;
-      whole = elim [ inl m ↦ subst (λ t. Appends old new t) e (w m) | inr n ↦ cc ];
-    }
+module _ (input text chunk before out : List ℕ) (old new : Option (List ℕ)) (s : Session) (f : Fed) (feeds : (l : List ℕ) → Carries (cut s.line) l → Feeds s l chunk before out f) (a : Stands input text s) where
+  gave : List ℕ
+  gave = (run_all s.table (ended (left [] input) chunk)).text
 
--- ---- where nothing was read
+  fed : Feeds s (left [] input) chunk before out f
+  fed = feeds (left [] input) (carries_cut s.line (left [] input) a.carries)
 
-pub answered_none : (input text : List ℕ) (w : Option (List ℕ)) (r : Progress) → Stands input text r.session → Answers input text [] w w r
-answered_none input text w r a =
-    record {
-      gave = [];
-      stands =
-          subst (λ i. Stands i (text ++ []) r.session) (sym (append-nil input))
-          (subst (λ t. Stands input t r.session) (sym (append-nil text)) a);
-      first = (0, omega arith, appends_none w);
-      whole = λ _. appends_none w;
-    }
+  written : take f.used out ≡ gave
+  unfolding gave
+  written = wrote_is gave before out f.used fed.wrote
+
+  pub answered : (r : Result Session Stopped) → TookFirst old new (take f.used out) → IfOk r (λ t. (t ≡ f.session) × Appends old new (take f.used out)) → Answers input text chunk old new r
+  unfolding gave
+  answered r p w =
+      let n = stands_next input text chunk before out s f a fed in
+      record {
+        gave = gave;
+        text_is = n.text_is;
+        first = subst (λ t. TookFirst old new t) written p;
+        whole =
+            IfOk-weaker r _ _
+            (λ t q. (subst (λ t. Stands (input ++ chunk) (text ++ gave) t) (sym q.0) n, subst (λ t. Appends old new t) written q.1))
+            w;
+      }
 
 -- ---- one after the other
 
-pub goes_further : (unread rest later old mid new : Option (List ℕ)) (r q : Progress) → GoesOn [] [] unread rest old mid r → IsTrue r.more → ((input text : List ℕ) → Stands input text r.session → GoesOn input text rest later mid new q) → GoesOn [] [] unread later old new q
-goes_further unread rest later old mid new r q g m f =
-    let a = g.answers in
-    let n = f g.chunk a.gave a.stands in
-    let b = n.answers in
+-- Before the first read.
+pub begins : (unread w : Option (List ℕ)) (s : Session) → (s.table ≡ fresh) × Carries s.line [] → GoesOn unread unread w w (Ok s)
+begins unread w s p =
+    let a = stands_first s p in
     record {
-      chunk = g.chunk ++ n.chunk;
-      consumes = consumes_both unread rest later g.chunk n.chunk g.consumes n.consumes;
-      answers = record {
-        gave = a.gave ++ b.gave;
-        stands = b.stands;
-        first = first_both old mid new a.gave b.gave (a.whole (inl m)) b.first;
-        whole = λ h. appends_both old mid new a.gave b.gave (a.whole (inl m)) (b.whole h);
-      };
-      at_end = n.at_end;
-    }
-
--- ---- a read
-
-not_both : (b : Bool) → IsTrue b → b ≡ false → ⊥
-not_both true e n = cc
-not_both false e n = cc
-
--- The end of the input.
-pub ends : (input text buffer : List ℕ) (unread rest w : Option (List ℕ)) (r : Progress) → Consumes unread rest (take 0 buffer) × (0 < length buffer → IsAtEnd rest) → 0 < length buffer → Stands input text r.session → GoesOn input text unread rest w w r
-ends input text buffer unread rest w r p h a =
-    record {
-      chunk = [];
-      consumes = p.0;
-      answers = answered_none input text w r a;
-      at_end = λ _. p.1 h;
-    }
-
--- A read that failed.
-pub fails : (input text : List ℕ) (unread rest w : Option (List ℕ)) (r : Progress) → Keeps unread rest → r.ended ≡ false → Stands input text r.session → GoesOn input text unread rest w w r
-fails input text unread rest w r k n a =
-    record {
-      chunk = [];
-      consumes = consumes_none unread rest k;
-      answers = answered_none input text w r a;
-      at_end = λ e. absurd (not_both r.ended e n);
+      input = [];
+      consumes = Consumes-nil unread;
+      answers = record { gave = []; text_is = a.text_is; first = (0, omega arith, Appends-nil w); whole = (a, Appends-nil w) };
     }
 
 -- A chunk that was read and run.
-pub runs : (input text chunk : List ℕ) (unread rest old new : Option (List ℕ)) (r : Progress) → Consumes unread rest chunk → Answers input text chunk old new r → r.ended ≡ false → GoesOn input text unread rest old new r
-runs input text chunk unread rest old new r p a n =
+pub goes_further : (unread rest later old mid new : Option (List ℕ)) (s : Session) (chunk : List ℕ) (r : Result Session Stopped) → GoesOn unread rest old mid (Ok s) → Consumes rest later chunk → ((input text : List ℕ) → Stands input text s → Answers input text chunk mid new r) → GoesOn unread later old new r
+goes_further unread rest later old mid new s chunk r g c f =
+    let a = g.answers in
+    let (stands, whole) = a.whole in
+    let b = f g.input a.gave stands in
     record {
-      chunk = chunk;
-      consumes = p;
-      answers = a;
-      at_end = λ e. absurd (not_both r.ended e n);
-    }
-
--- Before the first read.
-pub begins : (unread w : Option (List ℕ)) (s : Session) → (s.table ≡ fresh) × Carries s.line [] → GoesOn [] [] unread unread w w (record { session = s; more = true; ended = false })
-begins unread w s p =
-    record {
-      chunk = [];
-      consumes = consumes_none unread unread (keeps unread);
-      answers = answered_none [] [] w (record { session = s; more = true; ended = false }) (stands_first s p);
-      at_end = λ e. cc;
+      input = g.input ++ chunk;
+      consumes = Consumes-trans unread rest later g.input chunk g.consumes c;
+      answers = record {
+        gave = a.gave ++ b.gave;
+        text_is = b.text_is;
+        first = first_both old mid new a.gave b.gave whole b.first;
+        whole = IfOk-weaker r _ _ (λ t q. (q.0, Appends-trans old mid new a.gave b.gave whole q.1)) b.whole;
+      };
     }

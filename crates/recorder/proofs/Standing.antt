@@ -1,41 +1,20 @@
 -- Where a session stands, from chunk to chunk.
 use Rattle.std.proofs.Common.{◌≡◌, refl, sym, ap, ap₂, subst, ◌∙◌, ℕ, List, [], ◌∷◌, ◌++◌, take, drop}
 use Rattle.std.proofs.lemmas.List.{take_at}
-use Rattle.lines.proofs.Cuts.{ended_here, ended_later, ended_none, left_here, left_later, left_none}
+use Rattle.lines.proofs.Cuts.{ended_none, ended_parts, left_none, left_parts}
 use Rattle.lines.proofs.Running.{text_parts}
 use Rattle.lines.specs.Carried.{Carries}
 use Rattle.lines.specs.Runs.{run_all, run_line}
 use Rattle.lines.specs.Splitting.{ended, left}
 use Rattle.recorder.specs.Standing.{Stands}
 use Rattle.script.specs.Reading.{read_line}
-use Rattle.script.specs.Texts.{line_feed}
 use Rattle.session.specs.Sessions.{Wrote, Feeds}
 use Rattle.session.specs.declared.Fed.{Fed}
 use Rattle.session.specs.declared.Session.{Session}
-use Rattle.table.proofs.Chains.{by_bool}
 use Rattle.table.specs.Fresh.{fresh}
 use Rattle.table.specs.declared.Table.{Table}
-use Rattle.std.specs.Prelude.{eqb}
 
--- ---- lines in two parts
-
-pub ended_parts : (l xs ys : List ℕ) → ended l (xs ++ ys) ≡ ended l xs ++ ended (left l xs) ys
-ended_parts l [] ys = sym (ap₂ (λ e m. e ++ ended m ys) (ended_none l) (left_none l))
-ended_parts l (b ∷ bs) ys =
-    by_bool (eqb b line_feed)
-    (λ e.
-    ended_here l b (bs ++ ys) e ∙ ap (λ s. l ∷ s) (ended_parts [] bs ys)
-    ∙ sym (ap₂ (λ s m. s ++ ended m ys) (ended_here l b bs e) (left_here l b bs e)))
-    (λ e.
-    ended_later l b (bs ++ ys) e ∙ ended_parts (l ++ b ∷ []) bs ys
-    ∙ sym (ap₂ (λ s m. s ++ ended m ys) (ended_later l b bs e) (left_later l b bs e)))
-
-pub left_parts : (l xs ys : List ℕ) → left l (xs ++ ys) ≡ left (left l xs) ys
-left_parts l [] ys = sym (ap (λ m. left m ys) (left_none l))
-left_parts l (b ∷ bs) ys =
-    by_bool (eqb b line_feed)
-    (λ e. left_here l b (bs ++ ys) e ∙ left_parts [] bs ys ∙ sym (ap (λ m. left m ys) (left_here l b bs e)))
-    (λ e. left_later l b (bs ++ ys) e ∙ left_parts (l ++ b ∷ []) bs ys ∙ sym (ap (λ m. left m ys) (left_later l b bs e)))
+-- ---- a table in two parts
 
 table_parts : (t : Table) (ks ls : List (List ℕ)) → (run_all t (ks ++ ls)).table ≡ (run_all (run_all t ks).table ls).table
 unfolding run_all

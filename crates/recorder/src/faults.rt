@@ -1,11 +1,16 @@
 // Reads and writes that fail: which are tried again, and what is said of the others.
-ghost use Rattle.std.specs.Prelude.{IsTrue};
-ghost use Rattle.std.specs.Io.KnownBytes.{Appends};
-ghost use Rattle.recorder.specs.Writing.{TookSome, TookFirst};
+ghost use Rattle.std.specs.Prelude.{OnOk};
+ghost use Rattle.std.specs.Io.{WritesAtMost};
+ghost use Rattle.std.specs.Io.KnownBytes.{Appends, WriteAppends};
+ghost use Rattle.recorder.specs.Writing.{TookFirst};
 
 use std::io::{ErrorKind, Print, Write};
 use std::time::Duration;
 use std::{io, thread};
+
+// Nothing more is done, and standard error was told why.
+#[derive(Clone, Copy)]
+pub(crate) struct Stopped;
 
 // Lets a millisecond pass.
 fn pause(rt: &HostRuntime) {
@@ -38,67 +43,61 @@ fn tell_reason(rt: &HostRuntime, error: &io::Error) {
 }
 
 // Writes a line: what failed, as the caller names it, a colon and the reason.
-pub(crate) fn fail(rt: &HostRuntime, what: &[u8], error: &io::Error) {
+pub(crate) fn fail(rt: &HostRuntime, what: &[u8], error: &io::Error) -> Stopped {
     tell(rt, what);
     tell(rt, b": ");
     tell_reason(rt, error);
     tell(rt, b"\n");
+    Stopped
 }
 
 // ---- what is tried again
 
 // Whether a read or a write that has just failed is to be tried again: one that a signal interrupted, or one that would
 // have had to wait. Of any other it says why it failed.
-pub(crate) fn may_retry(rt: &HostRuntime, what: &[u8], error: &io::Error) -> bool {
+pub(crate) fn may_retry(rt: &HostRuntime, what: &[u8], error: &io::Error) -> Result<(), Stopped> {
     match error.kind() {
-        ErrorKind::Interrupted => true,
+        ErrorKind::Interrupted => Ok(()),
         ErrorKind::WouldBlock => {
             pause(rt);
-            true
+            Ok(())
         }
-        _ => {
-            fail(rt, what, error);
-            false
-        }
+        _ => Err(fail(rt, what, error)),
     }
 }
 
-// Writes some of `out`, maybe nothing yet, and says how many bytes; none after an error.
-fn write_some<W: Write>(rt: &HostRuntime, to: &mut W, out: &[u8]) -> Option<usize>
-    ensures { TookSome (W.contents to.old) (W.contents to.new) out.now result }
+// Writes some of `out`, maybe nothing yet, and says how many bytes.
+fn write_some<W: Write>(rt: &HostRuntime, to: &mut W, out: &[u8]) -> Result<usize, Stopped>
+    ensures bound { WritesAtMost result out.now }
+    ensures bytes { WriteAppends (W.contents to.old) (W.contents to.new) result out.now }
 {
     match to.write(out) {
         Ok(n) => {
             if n == 0 {
                 pause(rt);
             }
-            Some(n)
+            Ok(n)
         }
         Err(e) => {
-            if may_retry(rt, b"recorder: standard output", &e) {
-                Some(0)
-            } else {
-                None
-            }
+            may_retry(rt, b"recorder: standard output", &e)?;
+            Ok(0)
         }
     }
 }
 
-// Writes all of `out`, and says whether it could. A proved loop has to end, and nothing says that a reader ever makes
-// room: it has more turns than any run uses up.
-pub(crate) fn write_out<W: Write>(rt: &HostRuntime, to: &mut W, out: &[u8]) -> bool
-    ensures whole { IsTrue result → Appends (W.contents to.old) (W.contents to.new) out.now }
+// Writes all of `out`. A proved loop has to end, and nothing says that a reader ever makes room: it has more turns than
+// any run uses up.
+pub(crate) fn write_out<W: Write>(rt: &HostRuntime, to: &mut W, out: &[u8]) -> Result<(), Stopped>
+    ensures whole { OnOk result (Appends (W.contents to.old) (W.contents to.new) out.now) }
     ensures first { TookFirst (W.contents to.old) (W.contents to.new) out.now }
 {
-    let mut done = 0;
+    let mut rest = out;
     for _ in 0..u64::MAX {
-        if done == out.len() {
-            return true;
+        if rest.is_empty() {
+            return Ok(());
         }
-        match write_some(rt, to, &out[done..]) {
-            Some(n) => done += n,
-            None => return false,
-        }
+        let n = write_some(rt, to, rest)?;
+        rest = &rest[n..];
     }
-    false
+    Err(Stopped)
 }

@@ -5,11 +5,8 @@ mod faults;
 mod run;
 mod usage;
 
-ghost use Rattle.std.specs.Prelude.{◌≤◌, length};
-
-use faults::fail;
+use faults::{Stopped, fail};
 use run::run;
-use script::same;
 use std::env::{Env, FillError};
 use std::fs::File;
 use std::io::{Error, ErrorKind};
@@ -18,17 +15,15 @@ use usage::{misused, print_help, print_version};
 // So many bytes of an argument are taken, and the name of the program stands before them.
 const TEXT: usize = 65536;
 
+const NAME: &[u8; 10] = b"recorder: ";
+
 // What the system says of a name that is too long.
 const ENAMETOOLONG: i32 = 36;
 
 // Runs the script in a file. `what` is what an error is told of.
-fn run_file(rt: &HostRuntime, name: &[u8], what: &[u8]) {
-    match open(rt, name) {
-        Ok(mut file) => {
-            run(rt, &mut file, what, &mut rt.stdout());
-        }
-        Err(e) => fail(rt, what, &e),
-    }
+fn run_file(rt: &HostRuntime, name: &[u8], what: &[u8]) -> Result<(), Stopped> {
+    let mut file = open(rt, name).map_err(|e| fail(rt, what, &e))?;
+    run(rt, &mut file, what, &mut rt.stdout())
 }
 
 // std takes names that are text.
@@ -39,61 +34,42 @@ fn open(rt: &HostRuntime, name: &[u8]) -> Result<File, Error> {
     }
 }
 
-fn run_input(rt: &HostRuntime) {
+fn run_input(rt: &HostRuntime) -> Result<(), Stopped> {
     run(
         rt,
         &mut rt.stdin(),
         b"recorder: standard input",
         &mut rt.stdout(),
-    );
+    )
 }
 
-// Whether a word is an option, or would be one.
-fn is_option(word: &[u8]) -> bool {
-    if word.len() == 0 {
-        return false;
+// Does what the one argument asks for. `what` is the word behind the program's name.
+fn obey(rt: &HostRuntime, word: &[u8], what: &[u8]) -> Result<(), Stopped> {
+    match word {
+        b"--help" => print_help(rt),
+        b"--version" => print_version(rt),
+        b"-" => run_input(rt),
+        [b'-', ..] => Err(misused(rt, what)),
+        _ => run_file(rt, word, what),
     }
-    word[0] == b'-'
 }
 
-// Does what the one argument asks for: the word that stands behind the program's name, from `start` on.
-fn obey(rt: &HostRuntime, what: &[u8], start: usize)
-    requires { start ≤ length what.now }
-{
-    let word = &what[start..];
-    if same(word, b"--help") {
-        print_help(rt);
-        return;
-    }
-    if same(word, b"--version") {
-        print_version(rt);
-        return;
-    }
-    if same(word, b"-") {
-        run_input(rt);
-        return;
-    }
-    if is_option(word) {
-        misused(rt, what);
-        return;
-    }
-    run_file(rt, word, what);
-}
-
-// The argument is read behind the program's name, so that an error can be told of both at once.
-fn take_argument(rt: &HostRuntime, text: &mut [u8])
-    requires { 10 ≤ length text.old }
-{
-    let start = 10;
-    text[..start].copy_from_slice(b"recorder: ");
-    match rt.arg(1, &mut text[start..]) {
-        Ok(n) => obey(rt, &text[..start + n], start),
+// The argument is read behind the program's name, so that an error can be told of both at once. The buffer is fixed,
+// since std's list of arguments asks for memory and takes none that is not text.
+fn take_argument(rt: &HostRuntime) -> Result<(), Stopped> {
+    let mut text = [0u8; TEXT];
+    let (name, room) = text.split_at_mut(NAME.len());
+    name.copy_from_slice(NAME);
+    match rt.arg(1, room) {
+        Ok(n) => {
+            let what = &text[..NAME.len() + n];
+            obey(rt, &what[NAME.len()..], what)
+        }
         Err(FillError::NotPresent) => run_input(rt),
-        Err(FillError::TooLong) => fail(
-            rt,
-            b"recorder: the argument",
-            &Error::from_raw_os_error(ENAMETOOLONG),
-        ),
+        Err(FillError::TooLong) => {
+            let error = Error::from_raw_os_error(ENAMETOOLONG);
+            Err(fail(rt, b"recorder: the argument", &error))
+        }
     }
 }
 
@@ -102,11 +78,14 @@ fn has_argument(rt: &HostRuntime, place: usize) -> bool {
     !matches!(rt.arg(place, &mut []), Err(FillError::NotPresent))
 }
 
-fn main(rt: HostRuntime) {
-    if has_argument(&rt, 2) {
-        misused(&rt, b"recorder: more than one argument");
-        return;
+fn start(rt: &HostRuntime) -> Result<(), Stopped> {
+    if has_argument(rt, 2) {
+        return Err(misused(rt, b"recorder: more than one argument"));
     }
-    let mut text = [0u8; TEXT];
-    take_argument(&rt, &mut text);
+    take_argument(rt)
+}
+
+// What stopped it has been told, and the exit status is 0 all the same.
+fn main(rt: HostRuntime) {
+    let _ = start(&rt);
 }

@@ -1,5 +1,6 @@
 -- A chunk's lines are answered, and nothing is written but the answers.
-use Rattle.std.proofs.Common.{rules, ◌≡◌, length}
+use Rattle.std.proofs.Common.{refl, rules, ◌≡◌, length, Ok}
+use Rattle.std.proofs.lemmas.Result.{IfOk-from_err}
 use Rattle.lines.specs.Carried.{carried}
 use Rattle.recorder.proofs.Fitting.{enough_room, fed_within, lent_part}
 use Rattle.recorder.proofs.Going.{answered}
@@ -18,7 +19,12 @@ slice_bounds-write_out-end g c =
     let n : length c.args.s.line.bytes ≡ carried = search (rules, c.well_formed) in
     lent_part _ _ (fed_within c.args.s _ _ _ c.feed-fed.result n c.feed-fed.ensures)
 
-pub returns-clause-answers : goal.returns-clause-answers
-returns-clause-answers g c input text a =
-    answered input text c.args.chunk.now _ c.feed-fed.new.out _ _ c.args.s c.feed-fed.result c.write_out.result
-    c.feed-fed.ensures c.write_out.ensures.whole c.write_out.ensures.first a
+pub returns-in_err-write_out : goal.returns-in_err-write_out
+returns-in_err-write_out g c input text a =
+    answered input text c.args.chunk.now _ c.feed-fed.new.out _ _ c.args.s c.feed-fed.result c.feed-fed.ensures a c.from_residual.result
+    c.in_err-write_out.ensures.first (IfOk-from_err _ _ c.from_residual.ensures.0)
+
+pub returns : goal.returns
+returns g c input text a =
+    answered input text c.args.chunk.now _ c.feed-fed.new.out _ _ c.args.s c.feed-fed.result c.feed-fed.ensures a (Ok c.feed-fed.result.session)
+    c.in_ok-write_out.ensures.first (refl, c.in_ok-write_out.ensures.whole)
