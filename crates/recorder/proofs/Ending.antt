@@ -1,7 +1,7 @@
 -- What a whole script gives, and what was written of it.
-use Rattle.std.proofs.Common.{◌≡◌, sym, ap, subst, ◌∙◌, ℕ, ◌≤◌, List, length, [], ◌++◌, take, Option, None, Some, Result, Ok}
+use Rattle.std.proofs.Common.{◌≡◌, sym, ap, subst, ◌∙◌, ℕ, ◌≤◌, List, length, [], ◌++◌, take, Option, None, Some, Result, Ok, arith}
 use Rattle.std.proofs.KnownBytes.{Appends-trans, Consumes-whole}
-use Rattle.std.proofs.lemmas.List.{append_assoc}
+use Rattle.std.proofs.lemmas.List.{append_assoc, length-take}
 use Rattle.std.specs.Io.KnownBytes.{Appends, IsAtEnd}
 use Rattle.lines.proofs.Carrying.{carries_cut}
 use Rattle.lines.proofs.Cuts.{ended_parts}
@@ -9,13 +9,12 @@ use Rattle.lines.proofs.Running.{text_parts}
 use Rattle.lines.specs.Carried.{Carries, cut}
 use Rattle.lines.specs.Runs.{run_all, run}
 use Rattle.lines.specs.Splitting.{ended, left, last_line, lines}
-use Rattle.recorder.proofs.Fitting.{wrote_within}
-use Rattle.recorder.proofs.Standing.{wrote_is}
 use Rattle.recorder.proofs.Writing.{first_both, first_longer}
 use Rattle.recorder.specs.Running.{GoesOn, WritesFirst, WritesAll}
 use Rattle.recorder.specs.Standing.{Stands}
 use Rattle.recorder.specs.Writing.{TookFirst}
 use Rattle.recorder.specs.declared.faults.Stopped.{Stopped}
+use Rattle.session.proofs.Writing.{written}
 use Rattle.session.specs.Sessions.{Wrote}
 use Rattle.session.specs.declared.Session.{Session}
 use Rattle.table.specs.Fresh.{fresh}
@@ -58,15 +57,23 @@ module _ (script rest old mid : Option (List ℕ)) (s : Session) (before out : L
   wrote : Wrote (run_all s.table (last_line (left [] g.input))).text before out used
   wrote = finished (left [] g.input) (carries_cut s.line (left [] g.input) stands.carries)
 
+  last : take used out ≡ (run_all s.table (last_line (left [] g.input))).text
+  last = written (run_all s.table (last_line (left [] g.input))).text before out used wrote
+
+  pub ends_part : used ≡ length (take used out)
+  ends_part = wrote.size ∙ sym (ap length last)
+
   pub ends_within : used ≤ length out
-  ends_within = wrote_within (run_all s.table (last_line (left [] g.input))).text before out used wrote
+  ends_within =
+      let e = ends_part in
+      let n = length-take used out in
+      omega arith
 
   gives : run g.input ≡ g.answers.gave ++ take used out
   gives =
       let m : List (List ℕ) = last_line (left [] g.input) in
       run_last g.input ∙ ap (λ x. x ++ (run_all (run_all fresh (ended [] g.input)).table m).text) (sym stands.text_is)
-      ∙ ap (λ u. g.answers.gave ++ (run_all u m).text) (sym stands.table_is)
-      ∙ ap (λ x. g.answers.gave ++ x) (sym (wrote_is (run_all s.table m).text before out used wrote))
+      ∙ ap (λ u. g.answers.gave ++ (run_all u m).text) (sym stands.table_is) ∙ ap (λ x. g.answers.gave ++ x) (sym last)
 
   pub ends_first : (new : Option (List ℕ)) → IsAtEnd rest → TookFirst mid new (take used out) → WritesFirst script old new
   ends_first new e p =

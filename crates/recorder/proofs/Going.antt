@@ -7,12 +7,13 @@ use Rattle.lines.proofs.Carrying.{carries_cut}
 use Rattle.lines.specs.Carried.{Carries, cut}
 use Rattle.lines.specs.Runs.{run_all}
 use Rattle.lines.specs.Splitting.{ended, left}
-use Rattle.recorder.proofs.Standing.{stands_first, stands_next, wrote_is}
+use Rattle.recorder.proofs.Standing.{stands_first, stands_next}
 use Rattle.recorder.proofs.Writing.{first_both}
 use Rattle.recorder.specs.Running.{Answers, GoesOn}
 use Rattle.recorder.specs.Standing.{Stands}
 use Rattle.recorder.specs.Writing.{TookFirst}
 use Rattle.recorder.specs.declared.faults.Stopped.{Stopped}
+use Rattle.session.proofs.Writing.{written}
 use Rattle.session.specs.Sessions.{Feeds}
 use Rattle.session.specs.declared.Fed.{Fed}
 use Rattle.session.specs.declared.Session.{Session}
@@ -27,9 +28,9 @@ module _ (input text chunk before out : List ℕ) (old new : Option (List ℕ)) 
   fed : Feeds s (left [] input) chunk before out f
   fed = feeds (left [] input) (carries_cut s.line (left [] input) a.carries)
 
-  written : take f.used out ≡ gave
+  wrote : take f.used out ≡ gave
   unfolding gave
-  written = wrote_is gave before out f.used fed.wrote
+  wrote = written gave before out f.used fed.wrote
 
   pub answered : (r : Result Session Stopped) → TookFirst old new (take f.used out) → IfOk r (λ t. (t ≡ f.session) × Appends old new (take f.used out)) → Answers input text chunk old new r
   unfolding gave
@@ -38,10 +39,10 @@ module _ (input text chunk before out : List ℕ) (old new : Option (List ℕ)) 
       record {
         gave = gave;
         text_is = n.text_is;
-        first = subst (λ t. TookFirst old new t) written p;
+        first = subst (λ t. TookFirst old new t) wrote p;
         whole =
             IfOk-weaker r _ _
-            (λ t q. (subst (λ t. Stands (input ++ chunk) (text ++ gave) t) (sym q.0) n, subst (λ t. Appends old new t) written q.1))
+            (λ t q. (subst (λ t. Stands (input ++ chunk) (text ++ gave) t) (sym q.0) n, subst (λ t. Appends old new t) wrote q.1))
             w;
       }
 

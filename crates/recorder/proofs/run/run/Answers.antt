@@ -1,7 +1,6 @@
 -- At the end of the input the open line is run, and after an error it is not.
 use Rattle.std.proofs.lemmas.Result.{on_ok_weaker}
-use Rattle.recorder.proofs.Ending.{writes_first, ends_within, ends_first, ends_whole}
-use Rattle.recorder.proofs.Fitting.{lent_part}
+use Rattle.recorder.proofs.Ending.{writes_first, ends_part, ends_within, ends_first, ends_whole}
 use Rattle.recorder.proofs.run.run.Goals as goal
 
 pub returns-in_err-s-clause-first : goal.returns-in_err-s-clause-first
@@ -11,7 +10,7 @@ pub slice_bounds-out-end : goal.slice_bounds-out-end
 slice_bounds-out-end g c = ends_within _ _ _ _ c.in_ok-s.s _ _ _ c.in_ok-s.ensures.goes_on c.finish-used.ensures
 
 pub slice_bounds-write_out-end : goal.slice_bounds-write_out-end
-slice_bounds-write_out-end g c = lent_part _ _ (ends_within _ _ _ _ c.in_ok-s.s _ _ _ c.in_ok-s.ensures.goes_on c.finish-used.ensures)
+slice_bounds-write_out-end g c = ends_part _ _ _ _ c.in_ok-s.s _ _ _ c.in_ok-s.ensures.goes_on c.finish-used.ensures
 
 pub returns-clause-whole : goal.returns-clause-whole
 returns-clause-whole g c =

@@ -1,23 +1,20 @@
 -- A chunk's lines are answered, and nothing is written but the answers.
-use Rattle.std.proofs.Common.{refl, rules, ◌≡◌, length, Ok}
+use Rattle.std.proofs.Common.{refl, [], Ok, arith}
 use Rattle.std.proofs.lemmas.Result.{IfOk-from_err}
-use Rattle.lines.specs.Carried.{carried}
-use Rattle.recorder.proofs.Fitting.{enough_room, fed_within, lent_part}
+use Rattle.lines.proofs.Cuts.{ended_few}
 use Rattle.recorder.proofs.Going.{answered}
 use Rattle.recorder.proofs.run.run_chunk.Goals as goal
+use Rattle.session.proofs.Using.{fed_within, fed_part}
 
+-- An answer for each byte has room.
 pub feed-fed-requires : goal.feed-fed-requires
-feed-fed-requires g c = enough_room c.args.chunk.now c.requires
+feed-fed-requires g c = omega (arith, c.requires, ended_few [] c.args.chunk.now)
 
 pub slice_bounds-out-end : goal.slice_bounds-out-end
-slice_bounds-out-end g c =
-    let n : length c.args.s.line.bytes ≡ carried = search (rules, c.well_formed) in
-    fed_within c.args.s _ _ _ c.feed-fed.result n c.feed-fed.ensures
+slice_bounds-out-end g c = fed_within c.args.s _ _ _ c.feed-fed.result c.well_formed.1.1.1.0 c.feed-fed.ensures
 
 pub slice_bounds-write_out-end : goal.slice_bounds-write_out-end
-slice_bounds-write_out-end g c =
-    let n : length c.args.s.line.bytes ≡ carried = search (rules, c.well_formed) in
-    lent_part _ _ (fed_within c.args.s _ _ _ c.feed-fed.result n c.feed-fed.ensures)
+slice_bounds-write_out-end g c = fed_part c.args.s _ _ _ c.feed-fed.result c.well_formed.1.1.1.0 c.feed-fed.ensures
 
 pub returns-in_err-write_out : goal.returns-in_err-write_out
 returns-in_err-write_out g c input text a =
