@@ -84,3 +84,5 @@ module _ (script rest old mid : Option (List ℕ)) (s : Session) (before out : L
   ends_whole new e p =
       Consumes-whole script rest g.input (λ xs. Appends old new (run xs)) g.consumes e
       (subst (λ t. Appends old new t) (sym gives) (Appends-trans old mid new g.answers.gave (take used out) g.answers.whole.1 p))
+
+pub ruleset end_laws = (writes_first, ends_part, ends_within)

@@ -53,6 +53,7 @@ fn read_some<R: Read>(
 }
 
 // Reads and runs chunks up to the end of the input, or to an error. Gives the session at the end.
+#[tactic(auto, using(crate::proofs::Going::begins, crate::proofs::Going::goes_further))]
 fn read_all<R: Read, W: Write>(
     rt: &HostRuntime,
     from: &mut R,
@@ -76,6 +77,7 @@ fn read_all<R: Read, W: Write>(
 }
 
 // Runs a whole script. After an error the open line is not run: nobody knows how it would have gone on.
+#[tactic(auto, using(crate::proofs::Ending::end_laws))]
 pub(crate) fn run<R: Read, W: Write>(
     rt: &HostRuntime,
     from: &mut R,
