@@ -1,11 +1,10 @@
 -- A call whose refusals have a verdict.
 use mathlib.Core.Bool.{Bool, true, false, ◌||◌, false≢true}
 use mathlib.Core.List.{List, [], ◌∷◌}
-use mathlib.Core.Path.{◌≡◌, refl, sym, ◌∙◌, ap, ap₂}
+use mathlib.Core.Path.{◌≡◌, refl, sym, ◌∙◌, ap}
 use lib.Dec.{eqb}
-use Rattle.outcomes.specs.Verdicts.{verdict}
-use Rattle.outcomes.specs.declared.Verdict.{Verdict}
-use Rattle.outcomes.specs.declared.Verdict.TheVariants.{Granted, Refused}
+use Rattle.std.proofs.Common.{Result, Ok, Err}
+use Rattle.outcomes.specs.Verdicts.{settled, verdict}
 use Rattle.rules.proofs.Laws.Judged.{None, place}
 use Rattle.rules.proofs.Laws.Tests.{choose}
 use Rattle.rules.specs.Answers.{judged, refused}
@@ -14,16 +13,32 @@ use Rattle.table.specs.declared.Outcome.{Outcome}
 use Rattle.table.specs.declared.Refusal.{Refusal}
 use Rattle.table.specs.declared.Table.{Table}
 
--- ---- a list's verdict, from its last refusal on
+-- whether a call is granted, or why not
+abbrev pub Verdict : Type 0
+Verdict = Result (Unit {0}) Refusal
 
--- one refusal more: b is what the code tested, and v its verdict on those that follow
-pub one_more : (e : Refusal) (b x : Bool) (v w r : Verdict) → r ≡ (when b then Refused e else v) → b ≡ x → v ≡ w → r ≡ (when x then Refused e else w)
-one_more e b x v w r a h q = a ∙ ap₂ (λ y z. when y then Refused e else z) h q
+-- that of one test
+abbrev pub tested : Bool → Refusal → Verdict
+tested b e = when b then Err e else Ok tt
 
--- where that one holds the others do not count
-pub one_more_where : (e : Refusal) (b x : Bool) (v w r : Verdict) → r ≡ (when b then Refused e else v) → b ≡ x → (x ≡ false → v ≡ w) → r ≡ (when x then Refused e else w)
-one_more_where e b true v w r a h q = a ∙ ap (λ y. when y then Refused e else v) h
-one_more_where e b false v w r a h q = one_more e b false v w r a h (q refl)
+-- ---- a list's verdict, from its first refusal on: b is what the code tested
+
+err_ok : {e : Refusal} → ◌≡◌ {A = Verdict} (Err e) (Ok tt) → ⊥
+err_ok q = false≢true (ap is_granted q)
+  where
+    is_granted : Verdict → Bool
+    is_granted (Ok u) = true
+    is_granted (Err e) = false
+
+-- the test holds: the call is refused, whatever follows
+pub refused_first : (e d : Refusal) (b x : Bool) (v : Verdict) → Err d ≡ tested b e → b ≡ x → Err d ≡ (when x then Err e else v)
+refused_first e d true x v a h = a ∙ ap (λ y. when y then Err e else v) h
+refused_first e d false x v a h = absurd (err_ok a)
+
+-- it does not hold: the verdict is that of the others
+pub passed_first : (e : Refusal) (b x : Bool) (u : Unit {0}) (v r : Verdict) → Ok u ≡ tested b e → b ≡ x → r ≡ v → r ≡ (when x then Err e else v)
+passed_first e true x u v r a h q = absurd (err_ok (sym a))
+passed_first e false x u v r a h q = q ∙ ap (λ y. when y then Err e else v) h
 
 -- two tests of one refusal, as the code joins them
 pub either : (a b : Bool) → (a || b) ≡ a or b
@@ -32,44 +47,36 @@ either true b = refl
 either false b = refl
 
 -- what is granted passed the test
-pub passed : (e : Refusal) (b : Bool) (v r : Verdict) → r ≡ (when b then Refused e else v) → r ≡ Granted → (b ≡ false) × (v ≡ Granted)
-passed e true v r a g = absurd (not_granted (sym a ∙ g))
-  where
-    is_granted : Verdict → Bool
-    is_granted Granted = true
-    is_granted (Refused e) = false
-
-    not_granted : Refused e ≡ Granted → ⊥
-    not_granted q = false≢true (ap is_granted q)
-passed e false v r a g = (refl, sym a ∙ g)
+pub passed : (e : Refusal) (b : Bool) (u : Unit {0}) (v : Verdict) → Ok u ≡ (when b then Err e else v) → (b ≡ false) × (Ok u ≡ v)
+passed e true u v a = absurd (err_ok (sym a))
+passed e false u v a = (refl, a)
 
 -- what is granted passed them all
-pub none_holds : (rs : List (Refusal × Bool)) (v : Verdict) → v ≡ verdict rs → v ≡ Granted → None rs
-none_holds [] v q g e = refl
-none_holds (r ∷ rs) v q g e =
-    let (h, k) = passed r.0 r.1 (verdict rs) v q g in
-    choose (λ b. b ≡ false) (eqb (place e) (place r.0)) (λ z. h) (λ z. none_holds rs (verdict rs) refl k e)
+pub none_holds : (rs : List (Refusal × Bool)) → Ok tt ≡ verdict rs → None rs
+none_holds [] q e = refl
+none_holds (r ∷ rs) q e =
+    let (h, k) = passed r.0 r.1 tt (verdict rs) q in
+    choose (λ b. b ≡ false) (eqb (place e) (place r.0)) (λ z. h) (λ z. none_holds rs k e)
 
 -- ---- and what the call gives by it
 
 -- what a call gives by a verdict
 abbrev ruled : Table → Verdict → (Unit {0} → Outcome) → Outcome
-ruled t Granted o = o tt
-ruled t (Refused e) o = refused t e
+ruled t (Ok u) o = o tt
+ruled t (Err e) o = refused t e
 
 -- the definition goes by the verdict on its list
 judged_ruled : (t : Table) (rs : List (Refusal × Bool)) (o : Unit {0} → Outcome) → judged t rs o ≡ ruled t (verdict rs) o
 judged_ruled t [] o = refl
 judged_ruled t (r ∷ rs) o = go r.1 (judged_ruled t rs o)
   where
-    go : (b : Bool) → judged t rs o ≡ ruled t (verdict rs) o → (when b then refused t r.0 else judged t rs o) ≡ ruled t (when b then Refused r.0 else verdict rs) o
+    go : (b : Bool) → judged t rs o ≡ ruled t (verdict rs) o → (when b then refused t r.0 else judged t rs o) ≡ ruled t (when b then Err r.0 else verdict rs) o
     go true h = refl
     go false h = h
 
--- v is the verdict that the code came to
-module _ (t : Table) (rs : List (Refusal × Bool)) (o : Unit {0} → Outcome) (v : Verdict) (q : v ≡ verdict rs) (r : Outcome) where
-  pub judged_refuses : (e : Refusal) → v ≡ Refused e → r ≡ refused t e → r ≡ judged t rs o
-  judged_refuses e h a = a ∙ ap (λ x. ruled t x o) (sym h ∙ q) ∙ sym (judged_ruled t rs o)
+module _ (t : Table) (rs : List (Refusal × Bool)) (o : Unit {0} → Outcome) where
+  pub judged_refuses : (e : Refusal) → Err e ≡ verdict rs → settled t (Err e) ≡ judged t rs o
+  judged_refuses e h = ap (λ v. ruled t v o) h ∙ sym (judged_ruled t rs o)
 
-  pub judged_grants : v ≡ Granted → r ≡ o tt → r ≡ judged t rs o
-  judged_grants h a = a ∙ ap (λ x. ruled t x o) (sym h ∙ q) ∙ sym (judged_ruled t rs o)
+  pub judged_grants : (u : Unit {0}) (r : Outcome) → Ok u ≡ verdict rs → r ≡ o tt → r ≡ judged t rs o
+  judged_grants u r h a = a ∙ ap (λ v. ruled t v o) h ∙ sym (judged_ruled t rs o)

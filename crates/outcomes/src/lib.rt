@@ -1,28 +1,21 @@
 // Whether a call is refused, and what it gives back: a refusal, or an answer and the table after it.
 #![tactic(auto)]
 
-ghost use Rattle.std.specs.Prelude.{◌≡◌};
+ghost use Rattle.outcomes.specs.Verdicts.{settled as settled_as};
+ghost use Rattle.std.specs.Prelude.{◌≡◌, Ok, Err};
 ghost use Rattle.rules.specs.Answers.{refused as refused_as, granted as granted_as, answers as answers_as};
 ghost use Rattle.table.specs.Tests.{when◌then◌else◌};
 
 use table::{Answer, NO_SLOT, Outcome, ProcSlot, Refusal, Reply, Table};
 
-// What the refusals of a call come to.
-#[derive(Clone, Copy)]
-pub enum Verdict {
-    Granted,
-    Refused(Refusal),
-}
-
-// One more refusal, before those that came to `rest`: a call's last one is written first. So all its tests are made,
-// also where an earlier one holds; none changes anything.
-pub fn refuse_if(test: bool, why: Refusal, rest: Verdict) -> Verdict
-    ensures { result ≡ (when test then Verdict.Refused why else rest) }
+// One test of a call. A call makes them in document 01's order, each with `?`: the first that holds refuses.
+pub fn refuse_if(test: bool, why: Refusal) -> Result<(), Refusal>
+    ensures { result ≡ (when test then Err why else Ok tt) }
 {
     if test {
-        return Verdict::Refused(why);
+        return Err(why);
     }
-    rest
+    Ok(())
 }
 
 // A refusal leaves the whole table unchanged and tells the host no slot.
@@ -55,4 +48,14 @@ pub fn answers(t: Table, k: u16) -> Outcome
     ensures { result ≡ answers_as t k }
 {
     granted(t, Answer::Number(k))
+}
+
+// What a call on a table gives, by what it came to.
+pub fn settled(t: Table, made: Result<Outcome, Refusal>) -> Outcome
+    ensures { result ≡ settled_as t made }
+{
+    match made {
+        Ok(o) => o,
+        Err(why) => refused(t, why),
+    }
 }
