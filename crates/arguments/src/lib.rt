@@ -7,15 +7,14 @@ ghost use Rattle.table.specs.Limits.{signals, sigkill, sigstop};
 ghost use Rattle.table.specs.Tests.{◌or◌};
 ghost use Rattle.arguments.specs.Arguments.{names_everyone, byte_values};
 
-// Signals at the width of an argument.
-const SIGNALS: u32 = table::SIGNALS as u32;
+// The numbers of signals and of statuses at the width of an argument.
+const SIGNALS: i32 = table::SIGNALS as i32;
 
-const SIGKILL: u32 = table::SIGKILL as u32;
+const SIGKILL: i32 = table::SIGKILL as i32;
 
-const SIGSTOP: u32 = table::SIGSTOP as u32;
+const SIGSTOP: i32 = table::SIGSTOP as i32;
 
-// The bits of a status.
-const STATUS_BITS: i32 = (table::STATUSES - 1) as i32;
+const STATUSES: i32 = table::STATUSES as i32;
 
 // How many numbers a byte can hold.
 const BYTE_VALUES: u32 = 256;
@@ -24,10 +23,7 @@ const BYTE_VALUES: u32 = 256;
 pub fn natural_of(n: i32) -> u32
     ensures { result ≡ natural n }
 {
-    if n < 0 {
-        return 0;
-    }
-    n as u32
+    u32::try_from(n).unwrap_or(0)
 }
 
 // n names one process: it is above 0.
@@ -41,10 +37,7 @@ pub fn names_one(n: i32) -> bool
 pub fn names_group(n: i32) -> bool
     ensures { result ≡ names_group n }
 {
-    if n == 0 {
-        return true;
-    }
-    n < -1
+    n == 0 || n < -1
 }
 
 // -1
@@ -54,38 +47,28 @@ pub fn names_everyone(n: i32) -> bool
     n == -1
 }
 
-// The remainder of s by 256, from 0 to 255: its low eight bits, below 0 too.
+// The remainder of s by 256, from 0 to 255, below 0 too.
 pub fn exit_status(s: i32) -> u8
     ensures { result ≡ status s }
 {
-    (s & STATUS_BITS) as u8
+    s.rem_euclid(STATUSES) as u8
 }
 
 // What kill takes for a signal: 0 to 31.
 pub fn is_signal(s: i32) -> bool
     ensures { result ≡ within 0 signals s }
 {
-    if s < 0 {
-        return false;
-    }
-    natural_of(s) < SIGNALS
+    0 <= s && s < SIGNALS
 }
 
-// What handle refuses: not 1 to 31, or 9 or 19. (One below 0 counts as 0 here, and 0 is refused too.)
+// What handle refuses: not 1 to 31, or 9 or 19.
 pub fn cannot_handle(s: i32) -> bool
     ensures { result ≡ (not (within 1 signals s) or eqb (natural s) sigkill or eqb (natural s) sigstop) }
 {
-    let k = natural_of(s);
-    if k < 1 {
+    if s < 1 || SIGNALS <= s {
         return true;
     }
-    if SIGNALS <= k {
-        return true;
-    }
-    if k == SIGKILL {
-        return true;
-    }
-    k == SIGSTOP
+    s == SIGKILL || s == SIGSTOP
 }
 
 // The signal itself, once it has passed one of the two tests: then it is below 32 and the remainder changes nothing. Of

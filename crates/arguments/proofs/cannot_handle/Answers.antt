@@ -2,26 +2,22 @@
 use mir.ValLaws.{to_z-of_z}
 use Rattle.arguments.proofs.Numbers.{refused_low, refused_high, refused_kill, refused_else}
 use Rattle.arguments.proofs.cannot_handle.Goals as goal
+use Rattle.arguments.proofs.cannot_handle.Goals.{then-s-lt1-via-then-s-lt1, then-s-lt1-via-else-s-lt1+then-s-ge-SIGNALS}
 
-pub returns-then-k-lt1 : goal.returns-then-k-lt1
-returns-then-k-lt1 c =
+pub returns-then-s-lt1 : goal.returns-then-s-lt1
+returns-then-s-lt1 c =
     let f = c.ranges.s in
-    refused_low _ c.args.s (simp to_z-of_z at c.natural_of-k.ensures) c.if-k-lt1.true
+    elim c.then-s-lt1.branch [
+      | then-s-lt1-via-then-s-lt1 w ↦ refused_low c.args.s (simp to_z-of_z at w.if-s-lt1.true)
+      | then-s-lt1-via-else-s-lt1+then-s-ge-SIGNALS w ↦ refused_high c.args.s (simp to_z-of_z at w.if-s-ge-SIGNALS.true)
+    ]
 
-pub returns-then-k-ge-SIGNALS : goal.returns-then-k-ge-SIGNALS
-returns-then-k-ge-SIGNALS c =
+pub returns-then-s-eq-SIGKILL : goal.returns-then-s-eq-SIGKILL
+returns-then-s-eq-SIGKILL c =
     let f = c.ranges.s in
-    refused_high _ c.args.s (simp to_z-of_z at c.natural_of-k.ensures)
-    c.if-k-ge-SIGNALS.true
+    refused_kill c.args.s (simp to_z-of_z at c.if-s-lt1.false) (simp to_z-of_z at c.if-s-ge-SIGNALS.false) c.if-s-eq-SIGKILL.true
 
-pub returns-then-k-eq-SIGKILL : goal.returns-then-k-eq-SIGKILL
-returns-then-k-eq-SIGKILL c =
+pub returns-else-s-eq-SIGKILL : goal.returns-else-s-eq-SIGKILL
+returns-else-s-eq-SIGKILL c =
     let f = c.ranges.s in
-    refused_kill _ c.args.s (simp to_z-of_z at c.natural_of-k.ensures)
-    c.if-k-eq-SIGKILL.true
-
-pub returns : goal.returns
-returns c =
-    let f = c.ranges.s in
-    refused_else _ c.args.s (simp to_z-of_z at c.natural_of-k.ensures)
-    c.if-k-lt1.false c.if-k-ge-SIGNALS.false c.if-k-eq-SIGKILL.false
+    refused_else c.args.s (simp to_z-of_z at c.if-s-lt1.false) (simp to_z-of_z at c.if-s-ge-SIGNALS.false) c.if-s-eq-SIGKILL.false
