@@ -1,7 +1,7 @@
 // Signals by number: sets of them, and what an unhandled one does.
 #![tactic(auto)]
 
-ghost use Rattle.std.specs.Prelude.{◌≡◌, ltb};
+ghost use Rattle.std.specs.Prelude.{◌≡◌, ◌<◌, ltb, IfSome, unwrap_or};
 ghost use Rattle.rules.specs.Delivery.{default_action};
 ghost use Rattle.table.specs.Limits.{signals};
 ghost use Rattle.table.specs.SignalSets.{has, with_signal, without_signal, lowest_signal};
@@ -15,10 +15,7 @@ use table::{Action, SIGNALS};
 pub fn has_signal(set: u32, s: u8) -> bool
     ensures { result ≡ has set s }
 {
-    if s < SIGNALS {
-        return (set >> s) % 2 == 1;
-    }
-    false
+    s < SIGNALS && (set >> s) % 2 == 1
 }
 
 // A signal from 32 on has no bit to set.
@@ -41,16 +38,21 @@ pub fn without_signal(set: u32, s: u8) -> u32
     set
 }
 
-// The lowest signal of a set, or 32, which is no signal, where it is empty: so many zeros has the number 0.
-pub fn lowest_signal(set: u32) -> u8
-    ensures { result ≡ lowest_signal set }
+// The lowest signal of a set, if it has one.
+pub fn lowest_signal(set: u32) -> Option<u8>
+    ensures signal { unwrap_or result signals ≡ lowest_signal set }
+    ensures within { IfSome result (λ s. s < signals) }
 {
-    u32::trailing_zeros(set) as u8
+    let zeros = set.trailing_zeros() as u8;
+    if zeros < SIGNALS {
+        return Some(zeros);
+    }
+    None
 }
 
 // ---- defaults
 
-// What an unhandled signal does, by number, with names from signal(7), x86.
+// What an unhandled signal does: data, by number, with names from signal(7), x86.
 const DEFAULTS: [Action; SIGNALS as usize] = [
     Action::Finish, // 0 no signal
     Action::Finish, // 1 HUP
@@ -91,8 +93,7 @@ pub fn default_action(s: u8) -> Action
     ensures { result ≡ default_action s }
 {
     if s < SIGNALS {
-        let i = s as usize;
-        return DEFAULTS[i];
+        return DEFAULTS[s as usize];
     }
     Action::Finish
 }
