@@ -7,12 +7,11 @@ use mathlib.Core.Bool.{Bool, not}
 use mathlib.Core.List.{List}
 use mathlib.Core.Path.{◌≡◌, refl, sym, ap, ap₂, ◌∙◌}
 use borrow.Author.Tests.{leb-false}
-use lib.Dec.{eqb, leb}
+use lib.Dec.{eqb}
 use lib.ListN.{length, get_or}
-use Rattle.outcomes.proofs.Verdicts.{none_holds, one_more}
+use Rattle.outcomes.proofs.Verdicts.{none_holds}
 use Rattle.outcomes.specs.Verdicts.{verdict}
-use Rattle.outcomes.specs.declared.Verdict.TheVariants.{Granted, Refused}
-use Rattle.outcomes.specs.declared.Verdict.{Verdict}
+use Rattle.std.specs.Prelude.{Ok}
 use Rattle.table.proofs.Slots.{put_past, process_within}
 use Rattle.rules.proofs.Laws.Judged.{place}
 use Rattle.rules.proofs.Laws.ReadAt.{read_at}
@@ -23,12 +22,11 @@ use Rattle.table.specs.Limits.{deepest}
 use Rattle.table.specs.Fresh.{empty_process}
 use Rattle.table.specs.Slots.{process, namespace, pid_at, put}
 use Rattle.rules.specs.Read.{View, view, pid_seen, pid_in}
-use Rattle.table.specs.Tests.{when◌then◌else◌}
 use Rattle.table.specs.declared.Namespace.{Namespace}
 use Rattle.table.specs.declared.NsSlot.{NsSlot}
 use Rattle.table.specs.declared.Outcome.{Outcome}
 use Rattle.table.specs.declared.Process.{Process}
-use Rattle.table.specs.declared.Refusal.TheVariants.{Einval, Enospc, Eagain}
+use Rattle.table.specs.declared.Refusal.TheVariants.{Enospc}
 use Rattle.table.specs.declared.Table.{Table}
 use Rattle.tree.proofs.Sights.{pid_in_read}
 use Rattle.tree.specs.Tree.{slot_in, level_in, pid_from}
@@ -77,12 +75,7 @@ module _ (t : Table) (c : ℕ) (p : Process) (e : p ≡ get_or t.processes c emp
 
 -- ---- a call that makes a namespace, by a caller at the level l
 
--- a and b are the verdicts on the last refusals, and x is what `is_elsewhere` gives
-pub may_make_is : (t : Table) (c l : ℕ) (full x : Bool) (a b r : Verdict) → x ≡ elsewhere (view t) c → a ≡ (when full then Refused Eagain else Granted) → b ≡ (when leb deepest l then Refused Enospc else a) → r ≡ (when x then Refused Einval else b)
-    → r ≡ verdict (refusals_at (view t) c l full)
-may_make_is t c l full x a b r away last deep all = one_more Einval x _ b _ r all away (one_more Enospc (leb deepest l) (leb deepest l) a _ b deep refl last)
-
--- r is the verdict of `may_make`
-pub may_make_low : (v : View) (c l : ℕ) (full : Bool) (r : Verdict) → r ≡ verdict (refusals_at v c l full) → r ≡ Granted → l < deepest
+-- what `may_make` passed
+pub may_make_low : (v : View) (c l : ℕ) (full : Bool) → Ok tt ≡ verdict (refusals_at v c l full) → l < deepest
 unfolding place
-may_make_low v c l full r q g = leb-false deepest l (none_holds (refusals_at v c l full) r q g Enospc)
+may_make_low v c l full q = leb-false deepest l (none_holds (refusals_at v c l full) q Enospc)

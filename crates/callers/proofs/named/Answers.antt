@@ -2,11 +2,13 @@
 use Rattle.callers.proofs.Naming.{names_nobody, names_too_far, names_somebody}
 use Rattle.callers.proofs.named.Goals as goal
 
-pub returns-then-not-names_one : goal.returns-then-not-names_one
-returns-then-not-names_one c = search names_nobody
+pub returns-then-not-names_one-clause-slot : goal.returns-then-not-names_one-clause-slot
+returns-then-not-names_one-clause-slot c = search names_nobody
 
-pub returns-then-k-ge-PID_VALUES : goal.returns-then-k-ge-PID_VALUES
-returns-then-k-ge-PID_VALUES c = search names_too_far
+pub returns-in_default-clause-slot : goal.returns-in_default-clause-slot
+returns-in_default-clause-slot c =
+    names_too_far _ _ c.args.n c.ranges.n _ c.names_one.ensures c.if-not-names_one.false _ c.well_formed.0 c.in_default.ensures
 
-pub returns : goal.returns
-returns c = search names_somebody
+pub returns-clause-slot : goal.returns-clause-slot
+returns-clause-slot c =
+    names_somebody _ _ c.args.n c.ranges.n _ c.names_one.ensures c.if-not-names_one.false _ _ _ c.in-Ok.ensures.1 c.process-p.ensures c.find.ensures.slot
