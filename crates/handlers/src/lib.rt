@@ -2,15 +2,15 @@
 #![tactic(auto)]
 
 ghost use Rattle.std.specs.Prelude.{◌≡◌, ◌<◌};
-ghost use Rattle.outcomes.specs.Verdicts.{verdict};
-ghost use Rattle.rules.specs.Calls.{handle_on, handle_off, handle_refusals, handle as handle_of, poll as poll_of};
+ghost use Rattle.outcomes.specs.Verdicts.{settled};
+ghost use Rattle.rules.specs.Calls.{handle_on, handle_off, handle as handle_of, poll as poll_of};
 ghost use Rattle.table.specs.Limits.{signals};
 ghost use Rattle.table.specs.Tests.{when◌then◌else◌};
 
 use arguments::{cannot_handle, signal_of};
-use outcomes::{Verdict, answers, refuse_if, refused};
+use outcomes::{answers, refuse_if};
 use signals::{lowest_signal, with_signal, without_signal};
-use table::{Outcome, ProcSlot, Process, Refusal, SIGNALS, Table};
+use table::{Outcome, ProcSlot, Process, Refusal, Table};
 
 // A process that handles a signal, or no longer does: then a pending one is dropped.
 fn handling(p: Process, s: u8, on: bool) -> Process
@@ -18,45 +18,34 @@ fn handling(p: Process, s: u8, on: bool) -> Process
     ensures { result ≡ (when on then handle_on p s else handle_off p s) }
 {
     let x = p.traits;
-    if on {
-        let y = x.with_signals(with_signal(x.handled, s), x.pending);
-        return Process { traits: y, ..p };
-    }
-    let y = x.with_signals(without_signal(x.handled, s), without_signal(x.pending, s));
-    Process { traits: y, ..p }
-}
-
-// The refusals of handle, before anything is read of the table.
-fn may_handle(s: i32) -> Verdict
-    ensures { result ≡ verdict (handle_refusals s) }
-{
-    refuse_if(cannot_handle(s), Refusal::Einval, Verdict::Granted)
+    let traits = if on {
+        x.with_signals(with_signal(x.handled, s), x.pending)
+    } else {
+        x.with_signals(without_signal(x.handled, s), without_signal(x.pending, s))
+    };
+    Process { traits, ..p }
 }
 
 // handle s on or off. (`step` has seen that the caller runs, so its slot is one of the table's.)
-pub fn handle(t: Table, caller: ProcSlot, s: i32, on: bool) -> Outcome
-    ensures { result ≡ handle_of t caller.0 s on }
+pub fn handle(t: Table, caller: ProcSlot, s: i32, on: bool) -> Result<Outcome, Refusal>
+    ensures { settled t result ≡ handle_of t caller.0 s on }
 {
-    let verdict = may_handle(s);
-    if let Verdict::Refused(why) = verdict {
-        return refused(t, why);
-    }
+    refuse_if(cannot_handle(s), Refusal::Einval)?;
     let p = t.process(caller);
     let q = handling(p, signal_of(s), on);
-    answers(t.with_process(caller, q), 0)
+    Ok(answers(t.with_process(caller, q), 0))
 }
 
-// poll refuses nothing: where no signal is pending the lowest is 32, which is none, and the answer is 0.
+// poll refuses nothing: where no signal is pending the answer is 0.
 pub fn poll(t: Table, caller: ProcSlot) -> Outcome
     ensures { result ≡ poll_of t caller.0 }
 {
     let p = t.process(caller);
     let x = p.traits;
-    let s = lowest_signal(x.pending);
-    if s == SIGNALS {
+    let Some(s) = lowest_signal(x.pending) else {
         return answers(t, 0);
-    }
-    let y = x.with_signals(x.handled, without_signal(x.pending, s));
-    let q = Process { traits: y, ..p };
-    answers(t.with_process(caller, q), s as u16)
+    };
+    let traits = x.with_signals(x.handled, without_signal(x.pending, s));
+    let q = Process { traits, ..p };
+    answers(t.with_process(caller, q), u16::from(s))
 }

@@ -4,6 +4,7 @@ use mathlib.Core.List.{List, [], ◌∷◌}
 use mathlib.Core.Path.{◌≡◌, refl, sym, ◌∙◌, ap}
 use lib.Dec.{eqb}
 use Rattle.std.proofs.Common.{Result, Ok, Err}
+use Rattle.std.specs.Result.{IsErrAnd}
 use Rattle.outcomes.specs.Verdicts.{settled, verdict}
 use Rattle.rules.proofs.Laws.Judged.{None, place}
 use Rattle.rules.proofs.Laws.Tests.{choose}
@@ -74,9 +75,11 @@ judged_ruled t (r ∷ rs) o = go r.1 (judged_ruled t rs o)
     go true h = refl
     go false h = h
 
+-- e is what a `?` passes on, as r
 module _ (t : Table) (rs : List (Refusal × Bool)) (o : Unit {0} → Outcome) where
-  pub judged_refuses : (e : Refusal) → Err e ≡ verdict rs → settled t (Err e) ≡ judged t rs o
-  judged_refuses e h = ap (λ v. ruled t v o) h ∙ sym (judged_ruled t rs o)
+  pub judged_refuses : (e : Refusal) (r : Result Outcome Refusal) → IsErrAnd r (λ d. d ≡ e) → Err e ≡ verdict rs → settled t r ≡ judged t rs o
+  judged_refuses e (Ok x) q h = absurd q
+  judged_refuses e (Err d) q h = ap (refused t) q ∙ ap (λ v. ruled t v o) h ∙ sym (judged_ruled t rs o)
 
   pub judged_grants : (u : Unit {0}) (r : Outcome) → Ok u ≡ verdict rs → r ≡ o tt → r ≡ judged t rs o
   judged_grants u r h a = a ∙ ap (λ v. ruled t v o) h ∙ sym (judged_ruled t rs o)
