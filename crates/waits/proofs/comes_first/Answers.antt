@@ -1,16 +1,8 @@
 -- `comes_first` makes the tests of one turn of the search.
 use Rattle.waits.proofs.Waits.{comes_by_number}
-use Rattle.table.proofs.Chains.{chains}
 use Rattle.waits.proofs.comes_first.Goals as goal
 
-pub returns-then-not-is_child : goal.returns-then-not-is_child
-returns-then-not-is_child c = search chains
-
-pub returns-then-not-has_ended : goal.returns-then-not-has_ended
-returns-then-not-has_ended c = search chains
-
-pub returns-then-best-eq-NO_PROCESS : goal.returns-then-best-eq-NO_PROCESS
-returns-then-best-eq-NO_PROCESS c = search chains
-
-pub returns : goal.returns
-returns c = search comes_by_number
+pub returns-in-Some : goal.returns-in-Some
+returns-in-Some c =
+    comes_by_number c.args.t.now c.args.p.now c.args.parent.0 c.args.level _ c.in-Some.slot _ _ _ _ _ _ c.requires c.in-Some.is c.is_child.ensures
+    c.if-not-is_child.false c.has_ended.ensures c.if-not-has_ended.false c.pid_at.ensures c.process.ensures c.pid_at-in-Some.ensures c.lt.ensures

@@ -1,18 +1,21 @@
--- `has_child` looks for a child, by the laws of a loop that leaves at the first.
+-- `has_child` looks for a child, by the law of a chain that ends in `any`.
+use mathlib.Core.Bool.{Bool, true, false, not}
+use mathlib.Core.Path.{◌≡◌, refl}
+use borrow.Author.Rules.{rules}
+use borrow.Author.Tests.{tests}
+use lib.Dec.{eqb}
+use Rattle.std.proofs.lemmas.Iterator.{cases_from_any, YieldsList-from_slice}
 use Rattle.rules.specs.Read.{taken, child_of}
-use Rattle.table.proofs.AnyLoops.{any_loops}
+use Rattle.table.proofs.IterLaws.{any_of_chain}
+use Rattle.table.specs.Limits.{process_slots}
+use Rattle.table.specs.Slots.{no_process, pid_at}
+use Rattle.table.specs.Tests.{◌and◌}
+use Rattle.table.specs.declared.Process.{Process}
 use Rattle.waits.proofs.has_child.Goals as goal
 
-pub loop-i-init : goal.loop-i-init
-loop-i-init c = search any_loops
-
-pub returns-then-is_child : goal.returns-then-is_child
-unfolding child_of taken
-returns-then-is_child c = search any_loops
-
-pub loop-i-preserved : goal.loop-i-preserved
-unfolding child_of taken
-loop-i-preserved c = search any_loops
-
 pub returns : goal.returns
-returns c = search any_loops
+unfolding child_of taken
+returns c =
+    let b : Process → Bool = λ (p : Process). not (eqb (pid_at p 0) 0) and eqb p.parent.0 c.args.parent.0 in
+    any_of_chain c.args.t.now.processes no_process process_slots b _ (search rules) (λ i k. refl) _
+    (cases_from_any _ _ _ (λ (p : Process). b p ≡ true) (λ (p : Process). b p ≡ false) c.any.ensures.ran (YieldsList-from_slice c.args.t.now.processes (search rules)) (λ x q k. search (rules, tests)) (λ x q k. search (rules, tests)))

@@ -1,15 +1,27 @@
--- `wait` makes the tests of the definition, and goes by the state of the child that it found.
-use Rattle.waits.proofs.Waits.{wait_refused, wait_running, wait_stopped, wait_reaps}
+-- `wait` makes the test of the definition, and goes by the state of the child that it found.
+use borrow.Author.Rules.{rules}
+use Rattle.waits.proofs.Waits.{wait_refused, wait_finds_none, wait_running, wait_stopped, wait_reaps}
 use Rattle.waits.proofs.wait.Goals as goal
 
-pub returns-in-Refused : goal.returns-in-Refused
-returns-in-Refused c = search wait_refused
+pub returns-in_err-refuse_if : goal.returns-in_err-refuse_if
+returns-in_err-refuse_if c = wait_refused c.args.t c.args.caller.0 _ c.has_child.ensures _ _ c.in_err-refuse_if.ensures c.from_residual.ensures.1
+
+pub returns-in_default : goal.returns-in_default
+returns-in_default c =
+    wait_finds_none c.args.t c.args.caller.0 _ c.has_child.ensures _ c.in_ok-refuse_if.ensures _ _ c.own_level-level.ensures c.first_ended.ensures _
+    c.in_default.is (search (rules, c.well_formed)) c.answers.ensures
 
 pub returns-in-Running : goal.returns-in-Running
-returns-in-Running c = search wait_running
+returns-in-Running c =
+    wait_running c.args.t c.args.caller.0 _ c.has_child.ensures _ c.in_ok-refuse_if.ensures _ _ c.own_level-level.ensures c.first_ended.ensures _
+    c.in-Some.slot c.in-Some.is _ c.process-child.ensures c.in-Running.is c.answers-in-Running.ensures
 
 pub returns-in-Stopped : goal.returns-in-Stopped
-returns-in-Stopped c = search wait_stopped
+returns-in-Stopped c =
+    wait_stopped c.args.t c.args.caller.0 _ c.has_child.ensures _ c.in_ok-refuse_if.ensures _ _ c.own_level-level.ensures c.first_ended.ensures _
+    c.in-Some.slot c.in-Some.is _ c.process-child.ensures c.in-Stopped.is c.answers-in-Stopped.ensures
 
 pub returns-in-Ended : goal.returns-in-Ended
-returns-in-Ended c = search wait_reaps
+returns-in-Ended c =
+    wait_reaps c.args.t c.args.caller.0 _ c.has_child.ensures _ c.in_ok-refuse_if.ensures _ _ c.own_level-level.ensures c.first_ended.ensures _
+    c.in-Some.slot c.in-Some.is _ c.process-child.ensures c.in-Ended.how _ c.in-Ended.is c.pid_at.ensures c.reap.ensures
