@@ -1,26 +1,32 @@
 -- clone in both kinds: the refusals, a new namespace and a birth.
-use Prim.Native.Nat.{ℕ, ◌+◌}
-use mathlib.Core.Bool.{Bool, ◌||◌}
-use mathlib.Core.Path.{◌≡◌, refl, ap, ap₂, ◌∙◌}
+use Prim.Native.Nat.{ℕ, ◌+◌, ◌<◌}
+use mathlib.Core.Bool.{Bool, not, ◌||◌}
+use mathlib.Core.Path.{◌≡◌, refl, sym, ap, ap₂, subst, ◌∙◌}
 use lib.Dec.{eqb}
 use lib.ListN.{get_or}
 use Rattle.births.proofs.Given.{birth_given, clone_new_given}
 use Rattle.births.specs.Births.{birth_at, namespace_at}
+use Rattle.callers.proofs.Callers.{no_process_is, no_namespace_is}
 use Rattle.callers.specs.Making.{refusals_at}
-use Rattle.outcomes.proofs.Verdicts.{either, judged_grants, judged_refuses, one_more}
-use Rattle.outcomes.specs.Verdicts.{verdict}
-use Rattle.outcomes.specs.declared.Verdict.TheVariants.{Granted, Refused}
-use Rattle.outcomes.specs.declared.Verdict.{Verdict}
+use Rattle.outcomes.proofs.Verdicts.{Verdict, either, judged_grants, judged_refuses, passed_first, refused_first, refused_or, tested}
+use Rattle.outcomes.specs.Verdicts.{settled, verdict}
+use Rattle.std.specs.Prelude.{Result, Ok, Err, Option, Some, None, IfSome, is_some, ok_or}
+use Rattle.std.specs.Result.{IsErrAnd}
+use Rattle.tree.specs.Tree.{process_found, namespace_found}
+use Rattle.table.proofs.Chains.{if_yes, if_no}
+use Rattle.table.specs.declared.NsSlot.{NsSlot}
+use borrow.Author.Tests.{eq-eqb, ne_eqb}
+use native.Mathlib.Omega.{arith}
+use mathlib.Core.List.{[], ◌∷◌}
 use Rattle.rules.proofs.Laws.ReadAt.{read_at}
-use Rattle.rules.specs.Answers.{refused}
 use Rattle.rules.specs.Births.{birth}
-use Rattle.rules.specs.Calls.{own_level, born, clone_refusals, clone_gives, clone, clone_new_refusals, clone_new_gives, clone_new}
+use Rattle.rules.specs.Calls.{own_level, processes_full, born, clone_refusals, clone_gives, clone, clone_new_refusals, clone_new_gives, clone_new}
 use Rattle.table.specs.Fresh.{empty_process}
 use Rattle.table.specs.Limits.{process_slots, namespace_slots}
 use Rattle.rules.specs.Pids.{next_pid, free_slot, free_namespace_slot}
 use Rattle.table.specs.Slots.{namespace, is_dead}
-use Rattle.rules.specs.Read.{view}
-use Rattle.table.specs.Tests.{◌or◌, when◌then◌else◌}
+use Rattle.rules.specs.Read.{view, children, dead}
+use Rattle.table.specs.Tests.{◌or◌}
 use Rattle.table.specs.declared.Answer.TheVariants.{Number}
 use Rattle.table.specs.declared.Namespace.{Namespace}
 use Rattle.table.specs.declared.Outcome.{Outcome}
@@ -41,41 +47,61 @@ born_is t u c k slot p e q f =
 
 -- ---- plain
 
--- s is the namespace read for the caller's children, b whether it is dead, and a the verdict on the room
-pub may_clone_is : (t : Table) (c i : ℕ) (p : Process) (s : Namespace) (b : Bool) (a r : Verdict) → p ≡ get_or t.processes c empty_process → s ≡ namespace t p.children.0 → b ≡ is_dead s.life
-    → a ≡ (when eqb i process_slots then Refused Eagain else Granted) → r ≡ (when b then Refused Enomem else a) → i ≡ free_slot (view t) → r ≡ verdict (clone_refusals (view t) c)
-may_clone_is t c i p s b a r e d q last all f =
-    one_more Enomem b _ a _ r all
-    (q ∙ ap (λ x. is_dead x.life) d ∙ ap (λ n. is_dead (namespace t n).life) (read_at t c p e).children)
-    (one_more Eagain _ _ Granted _ a last (ap (λ n. eqb n process_slots) f) refl)
+-- s is the namespace read for the caller's children, b whether it is dead
+module _ (t : Table) (c : ℕ) (p : Process) (s : Namespace) (b : Bool) (e : p ≡ get_or t.processes c empty_process) (d : s ≡ namespace t p.children.0) (q : b ≡ is_dead s.life) where
+  dead_is : b ≡ dead (view t) (children (view t) c)
+  dead_is = q ∙ ap (λ x. is_dead x.life) d ∙ ap (λ n. is_dead (namespace t n).life) (read_at t c p e).children
 
--- i is the slot that `free_slot` gives, and v the verdict of `may_clone`
-module _ (t : Table) (c i : ℕ) (v : Verdict) (r : Outcome) (f : i ≡ free_slot (view t)) (k : i ≡ free_slot (view t) → v ≡ verdict (clone_refusals (view t) c)) where
-  pub clone_refused : (e : Refusal) → v ≡ Refused e → r ≡ refused t e → r ≡ clone t c
+  -- x is the refusal
+  pub clone_dead : (x : Refusal) (r : Result Outcome Refusal) → Err x ≡ tested b Enomem → IsErrAnd r (λ y. y ≡ x) → settled t r ≡ clone t c
   unfolding clone
-  clone_refused e h a = judged_refuses t (clone_refusals (view t) c) (clone_gives t c) v (k f) r e h a
+  clone_dead x r h w =
+      judged_refuses t (clone_refusals (view t) c) (clone_gives t c) x r w
+      (refused_first Enomem x b (dead (view t) (children (view t) c)) (verdict ((Eagain, processes_full (view t)) ∷ [])) h dead_is)
 
-  -- p is the process read at the caller's slot
-  pub clone_born : (p : Process) (u : Table) → v ≡ Granted → p ≡ get_or t.processes c empty_process → u ≡ birth_at t i c p.children.0 → (i ≡ free_slot (view t) → r ≡ born t c u) → r ≡ clone t c
-  unfolding clone
-  clone_born p u h e g a =
-      judged_grants t (clone_refusals (view t) c) (clone_gives t c) v (k f) r h
-      (a f ∙ ap (born t c) (birth_given t u i c p.children.0 f g ∙ ap (birth t c) (read_at t c p e).children))
+  -- o is what `free_slot` gives
+  module _ (u : Unit {0}) (h : Ok u ≡ tested b Enomem) (o : Option ProcSlot) (f : process_found o ≡ free_slot (view t)) where
+    -- v is the verdict on the room
+    on : (v : Verdict) → v ≡ tested (processes_full (view t)) Eagain → v ≡ verdict (clone_refusals (view t) c)
+    on v g = passed_first Enomem b (dead (view t) (children (view t) c)) u (tested (processes_full (view t)) Eagain) v h dead_is g
 
--- ---- new: l is the caller's level as `own_level` gives it, i and n are what `free_slot` and `free_namespace_slot` give, and
--- v is the verdict of `may_make`
+    pub clone_full : o ≡ None → (x : Refusal) (r : Result Outcome Refusal) → ◌≡◌ {A = Result ProcSlot Refusal} (Err x) (ok_or o Eagain) → IsErrAnd r (λ y. y ≡ x) → settled t r ≡ clone t c
+    unfolding clone
+    clone_full n x r m w =
+        judged_refuses t (clone_refusals (view t) c) (clone_gives t c) x r w
+        (on (Err x) (if_yes _ _ _ _ (eq-eqb (free_slot (view t)) process_slots (sym f ∙ ap process_found n)) (refused_or Eagain x (m ∙ ap (λ y. ok_or y Eagain) n))))
 
-module _ (t : Table) (c l i n : ℕ) (v : Verdict) (r : Outcome) (k : l ≡ own_level (view t) c) (f : i ≡ free_slot (view t)) (g : n ≡ free_namespace_slot (view t)) (m : v ≡ verdict (refusals_at (view t) c l (eqb i process_slots || eqb n namespace_slots))) where
-  ruled : v ≡ verdict (clone_new_refusals (view t) c)
-  ruled = m ∙ ap₂ (λ j b. verdict (refusals_at (view t) c j b)) k (either _ _ ∙ ap₂ (λ x y. eqb x process_slots or eqb y namespace_slots) f g)
+    -- w is the table with the child
+    pub clone_born : (i : ProcSlot) (w : Table) (r : Outcome) → o ≡ Some i → IfSome o (λ j. j.0 < process_slots) → w ≡ birth_at t i.0 c p.children.0 → (i.0 ≡ free_slot (view t) → r ≡ born t c w) → r ≡ clone t c
+    unfolding clone
+    clone_born i w r n l g a =
+        let j : i.0 ≡ free_slot (view t) = sym (ap process_found n) ∙ f in
+        let k : i.0 < process_slots = subst (λ y. IfSome y (λ z. z.0 < process_slots)) n l in
+        judged_grants t (clone_refusals (view t) c) (clone_gives t c) tt r
+        (on (Ok tt) (if_no _ _ _ _ (ne_eqb (free_slot (view t)) process_slots (λ (y : free_slot (view t) ≡ process_slots). omega (arith, j, y))) refl))
+        (a j ∙ ap (born t c) (birth_given t w i.0 c p.children.0 j g ∙ ap (birth t c) (read_at t c p e).children))
 
-  pub clone_new_refused : (e : Refusal) → v ≡ Refused e → r ≡ refused t e → r ≡ clone_new t c
+-- ---- new
+
+-- l is the caller's level as `own_level` gives it, o and m are what `free_slot` and `free_namespace_slot` give, and a and b
+-- say that they gave none
+module _ (t : Table) (c l : ℕ) (o : Option ProcSlot) (m : Option NsSlot) (a b : Bool) (k : l ≡ own_level (view t) c) (f : process_found o ≡ free_slot (view t)) (fw : IfSome o (λ s. s.0 < process_slots)) (g : namespace_found m ≡ free_namespace_slot (view t)) (gw : IfSome m (λ s. s.0 < namespace_slots)) (ea : is_some o ≡ not a) (eb : is_some m ≡ not b) where
+  ruled : verdict (refusals_at (view t) c l (a || b)) ≡ verdict (clone_new_refusals (view t) c)
+  ruled =
+      ap₂ (λ j x. verdict (refusals_at (view t) c j x)) k
+      (either a b
+      ∙ ap₂ (λ x y. x or y) (no_process_is o a ea fw ∙ ap (λ x. eqb x process_slots) f) (no_namespace_is m b eb gw ∙ ap (λ x. eqb x namespace_slots) g))
+
+  pub clone_new_refused : (x : Refusal) (r : Result Outcome Refusal) → Err x ≡ verdict (refusals_at (view t) c l (a || b)) → IsErrAnd r (λ y. y ≡ x) → settled t r ≡ clone_new t c
   unfolding clone_new
-  clone_new_refused e q a = judged_refuses t (clone_new_refusals (view t) c) (clone_new_gives t c) v ruled r e q a
+  clone_new_refused x r h w = judged_refuses t (clone_new_refusals (view t) c) (clone_new_gives t c) x r w (h ∙ ruled)
 
   -- p is the process read at the caller's slot, u the table with the namespace, and w the one with the child
-  pub clone_new_born : (p : Process) (u w : Table) → v ≡ Granted → p ≡ get_or t.processes c empty_process → u ≡ namespace_at t n p.own.0 (l + 1) → w ≡ birth_at u i c n → (i ≡ free_slot (view t) → r ≡ born t c w) → r ≡ clone_new t c
+  pub clone_new_born : (z : Unit {0}) (i : ProcSlot) (n : NsSlot) (p : Process) (u w : Table) (r : Outcome) → Ok z ≡ verdict (refusals_at (view t) c l (a || b)) → o ≡ Some i → m ≡ Some n → p ≡ get_or t.processes c empty_process
+      → u ≡ namespace_at t n.0 p.own.0 (l + 1) → w ≡ birth_at u i.0 c n.0 → (i.0 ≡ free_slot (view t) → r ≡ born t c w) → r ≡ clone_new t c
   unfolding clone_new
-  clone_new_born p u w q e x y a =
-      judged_grants t (clone_new_refusals (view t) c) (clone_new_gives t c) v ruled r q
-      (a f ∙ ap (born t c) (clone_new_given t u w c n i p.own.0 l g (read_at t c p e).own k x f y))
+  clone_new_born z i n p u w r q oi mn e x y h =
+      let j : i.0 ≡ free_slot (view t) = sym (ap process_found oi) ∙ f in
+      let v : n.0 ≡ free_namespace_slot (view t) = sym (ap namespace_found mn) ∙ g in
+      judged_grants t (clone_new_refusals (view t) c) (clone_new_gives t c) z r (q ∙ ruled)
+      (h j ∙ ap (born t c) (clone_new_given t u w c n.0 i.0 p.own.0 l v (read_at t c p e).own k x j y))

@@ -2,26 +2,25 @@
 #![tactic(auto)]
 
 ghost use Rattle.std.specs.Prelude.{◌≡◌};
-ghost use Rattle.outcomes.specs.Verdicts.{verdict};
-ghost use Rattle.rules.specs.Calls.{born as born_of, clone_refusals, clone as clone_of, clone_new as clone_new_of};
+ghost use Rattle.outcomes.specs.Verdicts.{settled};
+ghost use Rattle.rules.specs.Calls.{born as born_of, clone as clone_of, clone_new as clone_new_of};
 ghost use Rattle.rules.specs.Pids.{free_slot};
 ghost use Rattle.rules.specs.Read.{view};
 
 use births::{birth, new_namespace};
 use callers::{may_make, own_level};
 use numbers::next_pid;
-use outcomes::{Verdict, refuse_if, refused};
+use outcomes::refuse_if;
 use table::{Answer, Outcome, ProcSlot, Refusal, Reply, Table};
-use tree::{NO_NAMESPACE, NO_PROCESS, free_namespace_slot, free_slot};
+use tree::{free_namespace_slot, free_slot};
 
 // A child is born: t is the table before, u the one with the child at a slot. The answer is its number in the caller's
 // namespace, and the host is told its slot.
-fn born(t: Table, caller: ProcSlot, slot: ProcSlot, u: Table) -> Outcome
-    ensures { slot.0 ≡ free_slot (view t) → result ≡ born_of t caller.0 u }
+fn born(t: &Table, caller: ProcSlot, slot: ProcSlot, u: Table) -> Outcome
+    ensures { slot.0 ≡ free_slot (view t.now) → result ≡ born_of t.now caller.0 u }
 {
     let p = t.process(caller);
-    let own = p.own;
-    let pid = next_pid(t, own);
+    let pid = next_pid(t, p.own);
     Outcome {
         reply: Reply {
             answer: Answer::Number(pid.0),
@@ -31,47 +30,27 @@ fn born(t: Table, caller: ProcSlot, slot: ProcSlot, u: Table) -> Outcome
     }
 }
 
-// Whether the caller may bear a child, at the slot that was found free: the last refusal first.
-fn may_clone(t: Table, caller: ProcSlot, slot: ProcSlot) -> Verdict
-    ensures { slot.0 ≡ free_slot (view t) → result ≡ verdict (clone_refusals (view t) caller.0) }
+pub fn clone(t: Table, caller: ProcSlot) -> Result<Outcome, Refusal>
+    ensures { settled t result ≡ clone_of t caller.0 }
 {
     let p = t.process(caller);
     let home = t.namespace(p.children);
-    let dead = home.is_dead();
-    let full = slot.0 == NO_PROCESS;
-    let room = refuse_if(full, Refusal::Eagain, Verdict::Granted);
-    refuse_if(dead, Refusal::Enomem, room)
+    refuse_if(home.is_dead(), Refusal::Enomem)?;
+    let slot = free_slot(&t).ok_or(Refusal::Eagain)?;
+    Ok(born(&t, caller, slot, birth(t, slot, caller, p.children)))
 }
 
-// The verdict needs to know whether a slot is free, so the search comes before it, and a refused call pays for it too.
-// Which refusal is given first is the verdict's order.
-pub fn clone(t: Table, caller: ProcSlot) -> Outcome
-    ensures { result ≡ clone_of t caller.0 }
+// Both slots are looked for before the refusals, since whether there is room is one test of theirs.
+pub fn clone_new(t: Table, caller: ProcSlot) -> Result<Outcome, Refusal>
+    ensures { settled t result ≡ clone_new_of t caller.0 }
 {
+    let level = own_level(&t, caller);
+    let slot = free_slot(&t);
+    let n = free_namespace_slot(&t);
+    may_make(&t, caller, level, slot.is_none() | n.is_none())?;
+    let slot = slot.unwrap();
+    let n = n.unwrap();
     let p = t.process(caller);
-    let n = p.children;
-    let slot = free_slot(t);
-    let verdict = may_clone(t, caller, slot);
-    if let Verdict::Refused(why) = verdict {
-        return refused(t, why);
-    }
-    born(t, caller, slot, birth(t, slot, caller, n))
-}
-
-// Both slots are looked for before the verdict, as in clone.
-pub fn clone_new(t: Table, caller: ProcSlot) -> Outcome
-    ensures { result ≡ clone_new_of t caller.0 }
-{
-    let level = own_level(t, caller);
-    let slot = free_slot(t);
-    let n = free_namespace_slot(t);
-    let full = (slot.0 == NO_PROCESS) | (n.0 == NO_NAMESPACE);
-    let verdict = may_make(t, caller, level, full);
-    if let Verdict::Refused(why) = verdict {
-        return refused(t, why);
-    }
-    let p = t.process(caller);
-    let own = p.own;
-    let u = new_namespace(t, n, own, level + 1);
-    born(t, caller, slot, birth(u, slot, caller, n))
+    let u = new_namespace(t, n, p.own, level + 1);
+    Ok(born(&t, caller, slot, birth(u, slot, caller, n)))
 }

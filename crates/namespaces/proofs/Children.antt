@@ -1,7 +1,7 @@
 -- unshare and setns: the children's namespace of the caller is set.
-use Prim.Native.Nat.{ℕ, ◌+◌}
-use mathlib.Core.Bool.{Bool, ◌||◌}
-use mathlib.Core.Path.{◌≡◌, refl, ap, ap₂, ◌∙◌}
+use Prim.Native.Nat.{ℕ, ◌+◌, ◌<◌}
+use mathlib.Core.Bool.{Bool, not}
+use mathlib.Core.Path.{◌≡◌, refl, sym, ap, ap₂, subst, ◌∙◌}
 use lib.Dec.{eqb}
 use lib.IntN.{ℤ}
 use lib.ListN.{get_or}
@@ -10,14 +10,20 @@ use mir.Val.{SFits, to_z, of_z}
 use mir.ValLaws.{to_z-of_z}
 use Rattle.births.proofs.Given.{namespace_given}
 use Rattle.births.specs.Births.{namespace_at}
-use Rattle.callers.proofs.Callers.{put_changed}
+use Rattle.callers.proofs.Callers.{put_changed, no_namespace_is}
 use Rattle.callers.specs.Making.{refusals_at}
-use Rattle.outcomes.proofs.Verdicts.{either, judged_grants, judged_refuses, one_more}
-use Rattle.outcomes.specs.Verdicts.{verdict}
-use Rattle.outcomes.specs.declared.Verdict.TheVariants.{Granted, Refused}
-use Rattle.outcomes.specs.declared.Verdict.{Verdict}
+use Rattle.outcomes.proofs.Verdicts.{judged_grants, judged_refuses, passed_first, refused_first, refused_or, tested}
+use Rattle.outcomes.specs.Verdicts.{settled, verdict}
+use Rattle.std.specs.Prelude.{Result, Ok, Err, Option, Some, None, IfSome, is_some, ok_or}
+use Rattle.std.specs.Result.{IsErrAnd}
+use Rattle.tree.specs.Tree.{process_found, namespace_found}
+use Rattle.table.proofs.Chains.{if_yes, or_goes, or_true}
+use Rattle.table.specs.declared.NsSlot.{NsSlot}
+use Rattle.table.specs.declared.ProcSlot.{ProcSlot}
+use borrow.Author.Tests.{eq-eqb, ne_eqb}
+use native.Mathlib.Omega.{arith}
 use Rattle.rules.proofs.Laws.ReadAt.{read_at}
-use Rattle.rules.specs.Answers.{refused, answers}
+use Rattle.rules.specs.Answers.{answers}
 use Rattle.rules.specs.Calls.{own_level, new_namespace, set_children, unshare_refusals, unshare_gives, unshare, named, setns_refusals, setns_gives, setns}
 use Rattle.rules.specs.Freeing.{freed}
 use Rattle.table.specs.Fresh.{empty_process}
@@ -25,7 +31,7 @@ use Rattle.table.specs.Limits.{process_slots, namespace_slots}
 use Rattle.rules.specs.Pids.{free_namespace_slot}
 use Rattle.table.specs.Slots.{is_ended, put}
 use Rattle.rules.specs.Read.{view}
-use Rattle.table.specs.Tests.{◌or◌, when◌then◌else◌}
+use Rattle.table.specs.Tests.{◌or◌}
 use Rattle.table.specs.declared.Outcome.{Outcome}
 use Rattle.table.specs.declared.Process.{Process}
 use Rattle.table.specs.declared.Refusal.TheVariants.{Esrch}
@@ -39,47 +45,63 @@ unfolding set_children
 children_set t u r c n p e d f =
     f ∙ ap freed (d ∙ put_changed t c p (λ q. with_children q n) e)
 
--- ---- setns: p is the process read at the slot i, and b whether it has ended
+-- ---- setns: o is what `named` gives of the argument z
 
-pub may_setns_is : (t : Table) (i : ℕ) (p : Process) (b : Bool) (r : Verdict) → p ≡ get_or t.processes i empty_process → b ≡ is_ended p.state → r ≡ (when eqb i process_slots || b then Refused Esrch else Granted)
-    → (c : ℕ) (n : ℤ) → i ≡ named (view t) c n → r ≡ verdict (setns_refusals (view t) c n)
-may_setns_is t i p b r e q all c n f =
-    one_more Esrch _ _ Granted _ r all
-    (either _ b ∙ ap (λ x. eqb i process_slots or x) (q ∙ (read_at t i p e).ended) ∙ ap (λ j. eqb j process_slots or (view t).ended j) f) refl
-
--- i is the slot that `named` gives of the argument z, and v the verdict of `may_setns`
-module _ (t : Table) (c i : ℕ) (z : ℤ) (fits : SFits w32 z) (v : Verdict) (r : Outcome) (e : i ≡ named (view t) c (to_z w32 (of_z w32 z))) (m : (d : ℕ) (n : ℤ) → i ≡ named (view t) d n → v ≡ verdict (setns_refusals (view t) d n)) where
-  slot : i ≡ named (view t) c z
+module _ (t : Table) (c : ℕ) (z : ℤ) (fits : SFits w32 z) (o : Option ProcSlot) (e : process_found o ≡ named (view t) c (to_z w32 (of_z w32 z))) where
+  slot : process_found o ≡ named (view t) c z
   slot = e ∙ ap (named (view t) c) (to_z-of_z w32 z fits)
 
-  pub setns_refused : (x : Refusal) → v ≡ Refused x → r ≡ refused t x → r ≡ setns t c z
+  -- x is the refusal
+  pub setns_nobody : o ≡ None → (x : Refusal) (r : Result Outcome Refusal) → ◌≡◌ {A = Result ProcSlot Refusal} (Err x) (ok_or o Esrch) → IsErrAnd r (λ y. y ≡ x) → settled t r ≡ setns t c z
   unfolding setns
-  setns_refused x h a = judged_refuses t (setns_refusals (view t) c z) (setns_gives t c z) v (m c z slot) r x h a
+  setns_nobody n x r m w =
+      judged_refuses t (setns_refusals (view t) c z) (setns_gives t c z) x r w
+      (if_yes _ _ _ _ (or_true _ ((view t).ended (named (view t) c z)) (eq-eqb (named (view t) c z) process_slots (sym slot ∙ ap process_found n))) (refused_or Esrch x (m ∙ ap (λ y. ok_or y Esrch) n)))
 
-  pub setns_sets : (p : Process) (u : Table) → v ≡ Granted → p ≡ get_or t.processes i empty_process → u ≡ set_children t c p.own.0 → r ≡ answers u 0 → r ≡ setns t c z
-  unfolding setns
-  setns_sets p u h d g a =
-      judged_grants t (setns_refusals (view t) c z) (setns_gives t c z) v (m c z slot) r h
-      (a ∙ ap (λ x. answers x 0) (g ∙ ap (set_children t c) ((read_at t i p d).own ∙ ap (view t).own slot)))
+  -- p is the process read at the slot i, and b whether it has ended
+  module _ (i : ProcSlot) (n : o ≡ Some i) (l : IfSome o (λ j. j.0 < process_slots)) (p : Process) (d : p ≡ get_or t.processes i.0 empty_process) (b : Bool) (q : b ≡ is_ended p.state) where
+    here : i.0 ≡ named (view t) c z
+    here = sym (ap process_found n) ∙ slot
 
--- ---- unshare: l is the caller's level as `own_level` gives it, n is what `free_namespace_slot` gives, and v is the verdict of
--- `may_make`
+    test : b ≡ (eqb (named (view t) c z) process_slots or (view t).ended (named (view t) c z))
+    test =
+        let k : i.0 < process_slots = subst (λ y. IfSome y (λ j. j.0 < process_slots)) n l in
+        or_goes _ _ _ (ne_eqb (named (view t) c z) process_slots (λ (y : named (view t) c z ≡ process_slots). omega (arith, here, y)))
+        (q ∙ (read_at t i.0 p d).ended ∙ ap (view t).ended here)
 
-module _ (t : Table) (c l n : ℕ) (v : Verdict) (r : Outcome) (k : l ≡ own_level (view t) c) (g : n ≡ free_namespace_slot (view t)) (m : v ≡ verdict (refusals_at (view t) c l (eqb n namespace_slots))) where
-  ruled : v ≡ verdict (unshare_refusals (view t) c)
-  ruled = m ∙ ap₂ (λ i j. verdict (refusals_at (view t) c i (eqb j namespace_slots))) k g
+    pub setns_ended : (x : Refusal) (r : Result Outcome Refusal) → Err x ≡ tested b Esrch → IsErrAnd r (λ y. y ≡ x) → settled t r ≡ setns t c z
+    unfolding setns
+    setns_ended x r h w =
+        judged_refuses t (setns_refusals (view t) c z) (setns_gives t c z) x r w (refused_first Esrch x b _ (Ok tt) h test)
 
-  pub unshare_refused : (e : Refusal) → v ≡ Refused e → r ≡ refused t e → r ≡ unshare t c
+    -- u is the table with the caller's children's namespace set
+    pub setns_sets : (y : Unit {0}) (u : Table) (r : Outcome) → Ok y ≡ tested b Esrch → u ≡ set_children t c p.own.0 → r ≡ answers u 0 → r ≡ setns t c z
+    unfolding setns
+    setns_sets y u r h g a =
+        judged_grants t (setns_refusals (view t) c z) (setns_gives t c z) tt r (passed_first Esrch b _ y (Ok tt) (Ok tt) h test refl)
+        (a ∙ ap (λ x. answers x 0) (g ∙ ap (set_children t c) ((read_at t i.0 p d).own ∙ ap (view t).own here)))
+
+-- ---- unshare: l is the caller's level as `own_level` gives it, m is what `free_namespace_slot` gives, and b says that it
+-- gave none
+
+module _ (t : Table) (c l : ℕ) (m : Option NsSlot) (b : Bool) (k : l ≡ own_level (view t) c) (g : namespace_found m ≡ free_namespace_slot (view t)) (gw : IfSome m (λ s. s.0 < namespace_slots)) (eb : is_some m ≡ not b) where
+  ruled : verdict (refusals_at (view t) c l b) ≡ verdict (unshare_refusals (view t) c)
+  ruled =
+      ap₂ (λ i x. verdict (refusals_at (view t) c i x)) k (no_namespace_is m b eb gw ∙ ap (λ j. eqb j namespace_slots) g)
+
+  pub unshare_refused : (x : Refusal) (r : Result Outcome Refusal) → Err x ≡ verdict (refusals_at (view t) c l b) → IsErrAnd r (λ y. y ≡ x) → settled t r ≡ unshare t c
   unfolding unshare
-  unshare_refused e q a = judged_refuses t (unshare_refusals (view t) c) (unshare_gives t c) v ruled r e q a
+  unshare_refused x r h w = judged_refuses t (unshare_refusals (view t) c) (unshare_gives t c) x r w (h ∙ ruled)
 
   -- p is the process read at the caller's slot, u the table with the namespace, and w the one where it is the caller's
-  pub unshare_sets : (p : Process) (u w : Table) → v ≡ Granted → p ≡ get_or t.processes c empty_process → u ≡ namespace_at t n p.own.0 (l + 1) → w ≡ set_children u c n → r ≡ answers w 0 → r ≡ unshare t c
+  pub unshare_sets : (z : Unit {0}) (n : NsSlot) (p : Process) (u w : Table) (r : Outcome) → Ok z ≡ verdict (refusals_at (view t) c l b) → m ≡ Some n → p ≡ get_or t.processes c empty_process → u ≡ namespace_at t n.0 p.own.0 (l + 1)
+      → w ≡ set_children u c n.0 → r ≡ answers w 0 → r ≡ unshare t c
   unfolding unshare
-  unshare_sets p u w q e x y a =
-      judged_grants t (unshare_refusals (view t) c) (unshare_gives t c) v ruled r q
+  unshare_sets z n p u w r q f e x y a =
+      let v : n.0 ≡ free_namespace_slot (view t) = sym (ap namespace_found f) ∙ g in
+      judged_grants t (unshare_refusals (view t) c) (unshare_gives t c) z r (q ∙ ruled)
       (a
       ∙ ap (λ z. answers z 0)
       (y
-      ∙ ap (λ z. set_children z c n) (namespace_given t u c n p.own.0 l g (read_at t c p e).own k x)
-      ∙ ap (λ j. set_children (new_namespace t c) c j) g))
+      ∙ ap (λ z. set_children z c n.0) (namespace_given t u c n.0 p.own.0 l v (read_at t c p e).own k x)
+      ∙ ap (λ j. set_children (new_namespace t c) c j) v))

@@ -41,6 +41,14 @@ pub passed_first : (e : Refusal) (b x : Bool) (u : Unit {0}) (v r : Verdict) →
 passed_first e true x u v r a h q = absurd (err_ok (sym a))
 passed_first e false x u v r a h q = q ∙ ap (λ y. when y then Err e else v) h
 
+-- a refusal by an `ok_or`, as a verdict
+pub refused_or : {A : Type 0} (e d : Refusal) → ◌≡◌ {A = Result A Refusal} (Err d) (Err e) → ◌≡◌ {A = Verdict} (Err d) (Err e)
+refused_or {A} e d h = ap again h
+  where
+    again : Result A Refusal → Verdict
+    again (Ok x) = Ok tt
+    again (Err x) = Err x
+
 -- two tests of one refusal, as the code joins them
 pub either : (a b : Bool) → (a || b) ≡ a or b
 unfolding ◌or◌
