@@ -212,15 +212,6 @@ pid_key top l p = when eqb (p.pid l) 0 then 0 else top p.own * pid_values + p.pi
 abbrev pub pid_keys : View → ℕ → ℕ → ℕ
 pid_keys v k i = pid_key (top v.up v.level (suc k)) (deepest - k) (process_at v i)
 
--- ---- the root
-
-unfoldable pub root_process_ok : ProcessRow → NamespaceRow → Bool
-root_process_ok p n =
-    eqb (init_of n.life) 0 and (p.taken and not p.ended) and eqb p.own 0 and eqb (p.pid 0) 1 and eqb p.parent no_slot
-
-unfoldable pub root_namespace_ok : NamespaceRow → Bool
-root_namespace_ok n = is_alive n.life and eqb n.level 0 and eqb n.up no_slot
-
 -- ---- all of it
 
 unfoldable pub quick : View → Bool

@@ -11,24 +11,24 @@ mod reach;
 ghost use Rattle.std.specs.Prelude.{◌≡◌};
 ghost use Rattle.rules.specs.Read.{view};
 ghost use Rattle.rules.specs.Sound.{root_process, root_namespace, sound};
-ghost use Rattle.table.specs.Tests.{◌and◌};
-ghost use Rattle.sound.specs.Quick.{process_row, namespace_row, root_process_ok, root_namespace_ok, quick};
+ghost use Rattle.sound.specs.Quick.{quick};
 
 use holders::holders_differ;
 use namespaces::namespaces_ok;
 use numbers::pids_differ;
 use processes::processes_ok;
 use reach::all_reach_root;
-use table::{NO_SLOT, Namespace, Process, Table};
+use table::{NO_SLOT, Table};
 
 // ---- the root
 
 // The root init, in slot 0.
-#[tactic(auto, using(table::proofs::Chains::chains), unfolding(crate::specs::Quick::root_process_ok))]
-fn root_process_ok(p: &Process, n: &Namespace) -> bool
-    ensures { result ≡ root_process_ok (process_row p.now) (namespace_row 0 n.now) }
+#[tactic(auto, using(table::proofs::Chains::chains), unfolding(rules::specs::Sound::root_process, rules::specs::Read::living, rules::specs::Read::taken))]
+fn root_process_ok(t: &Table) -> bool
+    ensures { result ≡ root_process (view t.now) }
 {
-    n.init().0 == 0
+    let p = &t.processes[0];
+    t.namespaces[0].init().0 == 0
         && p.is_taken()
         && !p.has_ended()
         && p.own.0 == 0
@@ -37,19 +37,12 @@ fn root_process_ok(p: &Process, n: &Namespace) -> bool
 }
 
 // The root namespace, in slot 0.
-#[tactic(auto, using(table::proofs::Chains::chains), unfolding(crate::specs::Quick::root_namespace_ok))]
-fn root_namespace_ok(n: &Namespace) -> bool
-    ensures { result ≡ root_namespace_ok (namespace_row 0 n.now) }
+#[tactic(auto, using(table::proofs::Chains::chains), unfolding(rules::specs::Sound::root_namespace))]
+fn root_namespace_ok(t: &Table) -> bool
+    ensures { result ≡ root_namespace (view t.now) }
 {
+    let n = &t.namespaces[0];
     n.is_alive() && n.level == 0 && n.parent.0 == NO_SLOT
-}
-
-// Both.
-#[tactic(auto, using(table::proofs::Chains::chains), unfolding(rules::specs::Sound::root_process, rules::specs::Sound::root_namespace, rules::specs::Read::taken, rules::specs::Read::living, crate::specs::Quick::root_process_ok, crate::specs::Quick::root_namespace_ok))]
-fn root_ok(t: &Table) -> bool
-    ensures { result ≡ root_process (view t.now) and root_namespace (view t.now) }
-{
-    root_process_ok(&t.processes[0], &t.namespaces[0]) && root_namespace_ok(&t.namespaces[0])
 }
 
 // ---- all of it
@@ -59,7 +52,8 @@ fn root_ok(t: &Table) -> bool
 fn passes(t: &Table) -> bool
     ensures { result ≡ quick (view t.now) }
 {
-    root_ok(t)
+    root_process_ok(t)
+        && root_namespace_ok(t)
         && processes_ok(t)
         && namespaces_ok(t)
         && all_reach_root(t)
