@@ -33,8 +33,9 @@ fn slot_of(caller: u32) -> ProcSlot
 fn given_back(m: Mirror, o: Outcome) -> Done
     ensures { result ≡ given_back m o }
 {
-    let told = told_of(o.reply);
-    if is_refused(o.reply.answer) {
+    let reply = o.reply; // read in place, it would make the frame of a call larger by a table
+    let told = told_of(reply);
+    if is_refused(reply.answer) {
         return Done { told, mirror: m };
     }
     Done {
