@@ -1,6 +1,6 @@
 -- The walk from a namespace up by parents, one level at a time: at each it takes a number. `numbers_on` and `joins_on`
 -- are what the walk makes of the child's numbers and of the namespaces, with k levels left from `at` on.
-use Prim.Native.Nat.{ℕ, zero, suc, ◌<◌, ◌≤◌, ◌+◌, ◌-◌}
+use Prim.Native.Nat.{ℕ, zero, suc, ◌<◌, ◌≤◌, ◌-◌}
 use mathlib.Core.Bool.{Bool, true, false}
 use mathlib.Core.List.{List}
 use mathlib.Core.Logic.{⊎_elim}
@@ -157,15 +157,6 @@ module _ (v : View) (child : ℕ) where
 pub record Walking (t : Table) (child n left at : ℕ) (ps : List Pid) (ns : List Namespace) : Type 0 where
   pub numbers : numbers_on (view t) (suc ((view t).level n)) n (replicate levels no_pid) ≡ numbers_on (view t) left at ps
   pub joins : joins_on (view t) child (suc ((view t).level n)) n t.namespaces ≡ joins_on (view t) child left at ns
-
--- s is the namespace at n
-pub walk_starts : (t : Table) (child n : ℕ) (s : Namespace) → s ≡ namespace t n → Walking t child n (s.level + 1) n (replicate levels no_pid) t.namespaces
-walk_starts t child n s e =
-    let q : suc ((view t).level n) ≡ s.level + 1 = omega (arith, ap (λ x. x.level) e) in
-    record {
-      numbers = ap (λ k. numbers_on (view t) k n (replicate levels no_pid)) q;
-      joins = ap (λ k. joins_on (view t) child k n t.namespaces) q;
-    }
 
 -- the callees' results: the namespace at `at`, the number, and the numbers and the namespaces with it
 module _ (t : Table) (child n left at : ℕ) (ps : List Pid) (ns : List Namespace) (s : Namespace) (pid : Pid) (ps' : List Pid) (ns' : List Namespace) where

@@ -2,7 +2,7 @@
 use Prim.Native.Nat.{ℕ, ◌<◌, ◌-◌}
 use native.Mathlib.Decide.{dec_lt}
 use native.Mathlib.Omega.{arith}
-use mathlib.Core.Bool.{Bool, false, false≢true}
+use mathlib.Core.Bool.{Bool, true, false, false≢true}
 use mathlib.Core.Path.{◌≡◌, sym, subst, ◌∙◌}
 use lib.Dec.{eqb}
 use lib.ListN.{get_or, replicate, length-replicate, get_or-replicate}
@@ -20,6 +20,10 @@ module _ (c : Tree × ℕ) where
       none : (a : ℕ) → Dec (a < namespace_slots) → get_or (replicate namespace_slots false) a false ≡ false
       none a (yes l) = get_or-replicate namespace_slots a false false l
       none a (no o) = sym (array_past (replicate namespace_slots false) false namespace_slots a (length-replicate namespace_slots false) (omega arith))
+
+-- r is true since `knows` is, and so is what it tells
+pub known_is : (r k x : Bool) → r ≡ k → k ≡ true → (k ≡ true → x ≡ true) → r ≡ x
+known_is r k x e q h = e ∙ q ∙ sym (h q)
 
 -- one step up, of a that is not n: m is its parent. The fields of the climbs are read as d.
 pub climbs_on : (c d : Tree × ℕ) (a k m : ℕ) (r : Bool) → d ≡ c → eqb a d.1 ≡ false → (k ≡ 0 → ⊥) → m ≡ up_in d a → r ≡ climb (up_in c) (k - 1) m c.1 → r ≡ climb (up_in c) k a c.1

@@ -1,6 +1,6 @@
--- For the loop over the rows of the columns that marks which of the m numbers above `last` are taken: the invariant is
--- `Marking m x s last ms i`. x is the number of a row, and s says whether it is seen. `search markings` closes the
--- loop's needs; `marks_all` to `marks_give` are for what is given after it.
+-- For the loop over the holders that marks which of the m numbers above `last` are taken: the invariant is
+-- `Marking m x s last ms i`. x is the number of a holder, and s says whether it is seen. `marking_starts` to
+-- `marking_passes` are the loop's needs; `marks_all` to `marks_give` are for what is given after it.
 use Prim.Native.Nat.{ℕ, zero, suc, ◌<◌, ◌≤◌, ◌+◌}
 use mathlib.Core.Bool.{Bool, true, false, not}
 use mathlib.Core.List.{List}
@@ -76,5 +76,3 @@ module _ (m : ℕ) (x : ℕ → ℕ) (s : ℕ → Bool) (last : ℕ) where
 
     pub marks_give : k < m → last + 1 + k ≤ greatest_pid → last + 1 + k ≡ first_of m free last
     marks_give = window.is_unmarked m free last ms marked k e
-
-pub ruleset markings = (marking_starts, marking_marks, marking_passes)

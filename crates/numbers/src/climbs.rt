@@ -40,11 +40,14 @@ impl<'a> Climbs<'a> {
         }
     }
 
-    // Whether a climb from a, with so many steps left, is known to come to n: a has its mark, and the steps are as many
-    // as a's level. (In a sound table they are. In any other the mark says nothing about so many steps.)
+    // Whether a climb from a, with so many steps left, is known to come to n: a is n itself, or it has its mark and the
+    // steps are as many as its level. (In a sound table they are. In any other the mark says nothing about so many.)
     fn knows(&self, a: NsSlot, steps: u8) -> bool
         ensures { result ≡ true → climb (up_in self.now) steps a.0 self.now.1 ≡ true }
     {
+        if a == self.n {
+            return true;
+        }
         self.tree.level(a) == steps && at(&self.known, a.0, false)
     }
 
@@ -58,7 +61,7 @@ impl<'a> Climbs<'a> {
         }
     }
 
-    // Whether the climb from a comes to n, in so many steps at most.
+    // Whether the climb from a comes to n, in so many steps at most. Most parents are known to, and need no call.
     fn comes(&mut self, a: NsSlot, steps: u8) -> bool
         ensures answer { result ≡ climb (up_in self.old) steps a.0 self.old.1 }
         ensures same { self.new ≡ self.old }
@@ -69,24 +72,20 @@ impl<'a> Climbs<'a> {
         if steps == 0 {
             return false;
         }
-        if self.knows(a, steps) {
-            return true;
-        }
         let parent = self.tree.parent(a);
-        let found = self.comes(parent, steps - 1);
+        let found = self.knows(parent, steps - 1) || self.comes(parent, steps - 1);
         if found {
             self.keep(a, steps);
         }
         found
     }
 
-    // Whether a namespace is in the subtree of n, as `below` in a table says: the steps are as many as its level. Most
-    // are n itself or known, and those need no call of the recursion.
+    // Whether a namespace is in the subtree of n, as `below` in a table says: the steps are as many as its level.
     pub(crate) fn is_below(&mut self, a: NsSlot) -> bool
         ensures answer { result ≡ below_in self.old a.0 }
         ensures same { self.new ≡ self.old }
     {
         let level = self.tree.level(a);
-        a == self.n || self.knows(a, level) || self.comes(a, level)
+        self.knows(a, level) || self.comes(a, level)
     }
 }
