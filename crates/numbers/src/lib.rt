@@ -20,26 +20,26 @@ use tree::Tree;
 
 // ---- one candidate after the other
 
-// Whether nobody that a tree shows from n has a number there.
-fn is_free(tree: &Tree, processes: &[Process; PROCESS_SLOTS], n: NsSlot, pid: Pid) -> bool
-    ensures { result ≡ not (any process_slots (λ i. named_from (slot_in tree.now.parents) (level_in tree.now.levels) n.0 (level_in tree.now.levels n.0) pid.0 (get_or processes.now i no_process))) }
-{
-    let level = tree.level(n);
-    !processes.iter().any(|p| tree.names(n, level, pid, p))
-}
-
-// The lowest number from `from` to GREATEST_PID that nobody seen from n has there.
+// The lowest number from `from` to GREATEST_PID that nobody seen from n has there. Document 01 names this form: a loop
+// over candidates around one over slots, left by its label on a clash, that yields what was found by `break`.
 fn free_from(t: &Table, n: NsSlot, from: Pid) -> Option<Pid>
     ensures { LowestUpTo greatest_pid (free_pid (view t.now) n.0) from.0 result }
 {
     let tree = Tree::of(&t.namespaces);
-    for candidate in from.0..GREATEST_PID + 1 {
-        let free = is_free(&tree, &t.processes, n, Pid(candidate));
-        if free {
-            return Some(Pid(candidate));
+    let level = tree.level(n);
+    let mut candidate = from.0;
+    'candidates: loop {
+        if GREATEST_PID < candidate {
+            break None;
         }
+        for p in &t.processes {
+            if tree.names(n, level, Pid(candidate), p) {
+                candidate += 1;
+                continue 'candidates;
+            }
+        }
+        break Some(Pid(candidate));
     }
-    None
 }
 
 // The lowest free number above n's last, or else the lowest free from RESTART_PID: there always is one.
