@@ -1,13 +1,19 @@
 -- One call on any table: the first two refusals, and then the call itself.
 use Prim.Native.Nat.{ℕ}
 use mathlib.Core.Bool.{Bool, true, false, not, So}
-use mathlib.Core.Path.{◌≡◌, sym, ap, ap₂, ◌∙◌}
+use mathlib.Core.Path.{◌≡◌, refl, sym, ap, ap₂, ◌∙◌}
 use lib.Dec.{eqb}
 use lib.IntN.{ℤ}
 use lib.ListN.{get_or}
 use mir.Syntax.{w32}
 use mir.Val.{SFits, to_z, of_z}
 use mir.ValLaws.{to_z-of_z}
+use Rattle.outcomes.proofs.Verdicts.{Verdict, err_ok, passed, tested}
+use Rattle.outcomes.specs.Verdicts.{settled}
+use Rattle.std.specs.Prelude.{Result, Ok, Err}
+use Rattle.std.specs.Result.{IsErrAnd}
+use borrow.Author.Tests.{not-false}
+use Rattle.table.specs.declared.Refusal.{Refusal}
 use Rattle.table.proofs.Chains.{if_yes, if_no, and_true, and_false, and_false_later, told_not, told_yes}
 use Rattle.rules.proofs.Laws.ReadAt.{read_at}
 use Rattle.rules.specs.Answers.{refused}
@@ -24,40 +30,64 @@ use Rattle.table.specs.declared.Process.{Process}
 use Rattle.table.specs.declared.Refusal.TheVariants.{Unsound, NotRunning}
 use Rattle.table.specs.declared.Table.{Table}
 
+-- what a `?` passes on, as r
+given : (t : Table) (e : Refusal) (r : Result Outcome Refusal) → IsErrAnd r (λ d. d ≡ e) → settled t r ≡ refused t e
+given t e (Ok o) h = absurd h
+given t e (Err d) h = ap (refused t) h
+
+-- what a refusal tells of the test, and which it is
+refusal : (b : Bool) (e d : Refusal) → Err d ≡ tested b e → (b ≡ true) × (d ≡ e)
+refusal true e d h = (refl, ap why h)
+  where
+    why : Verdict → Refusal
+    why (Ok u) = d
+    why (Err x) = x
+refusal false e d h = absurd (err_ok h)
+
 -- b tells whether the table is sound
-module _ (t : Table) (c : ℕ) (call : Call) (r : Outcome) (b : Bool) (e : b ≡ sound t) where
-  pub step_unsound : not b ≡ true → r ≡ refused t Unsound → r ≡ step t c call
+module _ (t : Table) (c : ℕ) (call : Call) (b : Bool) (e : b ≡ sound t) where
+  -- q is the refusal
+  pub step_unsound : (q : Refusal) (r : Result Outcome Refusal) → Err q ≡ tested (not b) Unsound → IsErrAnd r (λ d. d ≡ q) → settled t r ≡ step t c call
   unfolding step
-  step_unsound h a = if_no _ _ _ _ (told_not b _ e h) a
+  step_unsound q r h a =
+      let (l, g) = refusal (not b) Unsound q h in
+      given t q r a ∙ ap (refused t) g ∙ if_no _ _ _ _ (told_not b _ e l) refl
 
   -- p is the process read at the caller's slot, and k whether there is one
-  module _ (p : Process) (k : Bool) (h : not b ≡ false) (d : p ≡ get_or t.processes c empty_process) (q : k ≡ not (eqb (pid_at p 0) 0)) where
+  module _ (u : Unit {0}) (h : Ok u ≡ tested (not b) Unsound) (p : Process) (k : Bool) (d : p ≡ get_or t.processes c empty_process) (q : k ≡ not (eqb (pid_at p 0) 0)) where
+    is_sound : sound t ≡ true
+    is_sound = sym e ∙ not-false b (passed Unsound (not b) u (Ok tt) h).0
+
     taken_is : k ≡ taken (view t) c
     taken_is = q ∙ (read_at t c p d).taken
 
-    idles : runs (view t) c ≡ false → r ≡ refused t NotRunning → r ≡ step t c call
+    -- y is the refusal
+    idles : runs (view t) c ≡ false → (r : Outcome) → r ≡ refused t NotRunning → r ≡ step t c call
     unfolding step
-    idles o a = if_yes _ _ _ _ (told_yes b _ e h) (if_no _ _ _ _ o a)
+    idles o r a = if_yes _ _ _ _ is_sound (if_no _ _ _ _ o a)
 
-    pub step_empty : not k ≡ true → r ≡ refused t NotRunning → r ≡ step t c call
+    pub step_empty : (y : Refusal) (r : Result Outcome Refusal) → Err y ≡ tested (not k) NotRunning → IsErrAnd r (λ d. d ≡ y) → settled t r ≡ step t c call
     unfolding runs
-    step_empty o a = idles (and_false _ _ (told_not k _ taken_is o)) a
+    step_empty y r o a =
+        let (l, g) = refusal (not k) NotRunning y o in
+        idles (and_false _ _ (told_not k _ taken_is l)) _ (given t y r a ∙ ap (refused t) g)
 
     -- m is whether it runs
-    module _ (m : Bool) (w : m ≡ is_running p.state) where
+    module _ (v : Unit {0}) (z : Ok v ≡ tested (not k) NotRunning) (m : Bool) (w : m ≡ is_running p.state) where
       running : m ≡ is_running ((view t).state c)
       running = w ∙ ap is_running (read_at t c p d).state
 
-      pub step_idle : not m ≡ true → r ≡ refused t NotRunning → r ≡ step t c call
+      pub step_idle : (y : Refusal) (r : Result Outcome Refusal) → Err y ≡ tested (not m) NotRunning → IsErrAnd r (λ d. d ≡ y) → settled t r ≡ step t c call
       unfolding runs
-      step_idle o a = idles (and_false_later _ _ (told_not m _ running o)) a
+      step_idle y r o a =
+          let (l, g) = refusal (not m) NotRunning y o in
+          idles (and_false_later _ _ (told_not m _ running l)) _ (given t y r a ∙ ap (refused t) g)
 
-      pub step_makes : not k ≡ false → not m ≡ false → (So (sound t) → So (runs (view t) c) → r ≡ make t c call) → r ≡ step t c call
+      pub step_makes : (x : Unit {0}) (r : Outcome) → Ok x ≡ tested (not m) NotRunning → (So (sound t) → So (runs (view t) c) → r ≡ make t c call) → r ≡ step t c call
       unfolding step runs
-      step_makes y z a =
-          let s : So (sound t) = told_yes b _ e h in
-          let u : So (runs (view t) c) = and_true _ _ (told_yes k _ taken_is y) (told_yes m _ running z) in
-          if_yes _ _ _ _ s (if_yes _ _ _ _ u (a s u))
+      step_makes x r y a =
+          let n : So (runs (view t) c) = and_true _ _ (told_yes k _ taken_is (passed NotRunning (not k) v (Ok tt) z).0) (told_yes m _ running (passed NotRunning (not m) x (Ok tt) y).0) in
+          if_yes _ _ _ _ is_sound (if_yes _ _ _ _ n (a is_sound n))
 
 -- ---- which call it is
 

@@ -4,7 +4,8 @@
 ghost use Rattle.std.proofs.Math.Bool.{So};
 ghost use Rattle.std.specs.Prelude.{true, ◌≡◌};
 ghost use Rattle.rules.specs.Read.{view};
-ghost use Rattle.rules.specs.Sound.{sound};
+ghost use Rattle.outcomes.specs.Verdicts.{settled};
+ghost use Rattle.rules.specs.Sound.{sound, sound as sound_as};
 ghost use Rattle.rules.specs.Step.{runs, make as make_of, step as step_of};
 
 use callers::{getpid, getppid};
@@ -12,14 +13,14 @@ use clones::{clone, clone_new};
 use handlers::{handle, poll};
 use kills::kill;
 use namespaces::{setns, unshare};
-use outcomes::refused;
+use outcomes::{refuse_if, settled};
 use sound::is_sound;
 use table::{Call, Outcome, ProcSlot, Refusal, Table};
 use waits::{exit, wait};
 
 // A call by a caller that may call. (Of another one nothing is said: `step` refuses it before.)
-fn make(t: Table, caller: ProcSlot, call: Call) -> Outcome
-    ensures { So (sound t) → So (runs (view t) caller.0) → result ≡ make_of t caller.0 call }
+fn make(t: Table, caller: ProcSlot, call: Call) -> Result<Outcome, Refusal>
+    ensures { So (sound t) → So (runs (view t) caller.0) → settled t result ≡ make_of t caller.0 call }
 {
     match call {
         Call::Clone => clone(t, caller),
@@ -29,11 +30,22 @@ fn make(t: Table, caller: ProcSlot, call: Call) -> Outcome
         Call::Kill(n, s) => kill(t, caller, n, s),
         Call::Exit(s) => exit(t, caller, s),
         Call::Wait => wait(t, caller),
-        Call::Getpid => getpid(t, caller),
-        Call::Getppid => getppid(t, caller),
+        Call::Getpid => Ok(getpid(t, caller)),
+        Call::Getppid => Ok(getppid(t, caller)),
         Call::Handle(s, on) => handle(t, caller, s, on),
-        Call::Poll => poll(t, caller),
+        Call::Poll => Ok(poll(t, caller)),
     }
+}
+
+// A call by any caller, on a table that is sound or not, as it was found.
+fn attempt(t: Table, sound: bool, caller: ProcSlot, call: Call) -> Result<Outcome, Refusal>
+    ensures { sound ≡ sound_as t → settled t result ≡ step_of t caller.0 call }
+{
+    refuse_if(!sound, Refusal::Unsound)?;
+    let p = t.process(caller);
+    refuse_if(!p.is_taken(), Refusal::NotRunning)?;
+    refuse_if(!p.is_running(), Refusal::NotRunning)?;
+    make(t, caller, call)
 }
 
 // One call on any table, by any caller. A table that is known to be sound is not checked. (Of one that is called so and
@@ -41,20 +53,8 @@ fn make(t: Table, caller: ProcSlot, call: Call) -> Outcome
 pub fn step_known(t: Table, known: bool, caller: ProcSlot, call: Call) -> Outcome
     ensures { (known ≡ true → So (sound t)) → result ≡ step_of t caller.0 call }
 {
-    let sound = if known { true } else { is_sound(t) };
-    if !sound {
-        return refused(t, Refusal::Unsound);
-    }
-    let p = t.process(caller);
-    let taken = p.is_taken();
-    if !taken {
-        return refused(t, Refusal::NotRunning);
-    }
-    let running = p.is_running();
-    if !running {
-        return refused(t, Refusal::NotRunning);
-    }
-    make(t, caller, call)
+    let sound = known || is_sound(t);
+    settled(t, attempt(t, sound, caller, call))
 }
 
 // The same, with nothing known of the table: it is checked.

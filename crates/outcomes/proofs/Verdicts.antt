@@ -24,7 +24,7 @@ tested b e = when b then Err e else Ok tt
 
 -- ---- a list's verdict, from its first refusal on: b is what the code tested
 
-err_ok : {e : Refusal} → ◌≡◌ {A = Verdict} (Err e) (Ok tt) → ⊥
+pub err_ok : {e : Refusal} → ◌≡◌ {A = Verdict} (Err e) (Ok tt) → ⊥
 err_ok q = false≢true (ap is_granted q)
   where
     is_granted : Verdict → Bool
