@@ -83,7 +83,7 @@ pub extern "C" fn lampfunnel_next_pid(m: Mirror, namespace: u32) -> u16
     if namespace >= NAMESPACE_SLOTS as u32 {
         return 0;
     }
-    next_pid(table_from(m), NsSlot(namespace as u8)).0
+    next_pid(&table_from(m), NsSlot(namespace as u8)).0
 }
 
 // One call, in place: what the host holds is lent, and holds what the call leaves.
