@@ -1,4 +1,4 @@
-// The check of a whole table. Each pass over the table takes the table once; what it does at a slot takes records.
+// The check of a whole table, in passes. What a pass does at a slot it does with the records that it finds there.
 #![tactic(auto, using(table::proofs::Chains::chains))]
 
 mod columns;

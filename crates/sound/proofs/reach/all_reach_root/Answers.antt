@@ -12,5 +12,5 @@ pub returns : goal.returns
 unfolding reach_ok
 returns c =
     let up = process_in c.parents-parents.result in
-    let e : c.all.result ≡ reach_ok up = all_of_range _ _ process_slots (reaches_root up process_slots) _ refl c.all.ensures.ran (λ x q k. search (rules, tests)) (λ x q k. search (rules, tests)) in
+    let e : c.all.result ≡ reach_ok up = all_of_range _ _ process_slots (reaches_root up process_slots) _ refl c.all.ensures.ran (λ x q k. (search (rules, tests), search (rules, tests))) (λ x q k. search (rules, tests)) in
     e ∙ ap reach_ok c.parents-parents.ensures
