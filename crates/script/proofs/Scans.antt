@@ -5,7 +5,7 @@ use Rattle.std.specs.Char.{is_ascii_digit}
 use Rattle.std.specs.List.{position_or_len}
 use Rattle.std.proofs.lemmas.List.Recursion.{is_position_or_len}
 use Rattle.std.proofs.lemmas.Option.{cond_some, none-some}
-use Prim.Native.Nat.{ℕ, suc, pred, ◌<◌, ◌≤◌, ◌+◌, ◌-◌, ◌*◌, ◌^◌}
+use Prim.Native.Nat.{ℕ, suc, ◌<◌, ◌≤◌, ◌+◌, ◌-◌, ◌*◌, ◌^◌}
 use mathlib.Core.Bool.{Bool, true, false, false≢true}
 use mathlib.Core.List.{List, [], ◌∷◌}
 use mathlib.Core.Path.{◌≡◌, refl, sym, ap, ◌∙◌}
@@ -13,11 +13,10 @@ use borrow.Author.Tests.{eq-eqb, ne_eqb, le-leb, eqb-true, ltb-true, ltb-false, 
 use lib.Dec.{eqb, leb}
 use lib.ListN.{length, get_or, take, drop, length-drop, drop_of_length-le}
 use lib.Seq.{drop-cons, take_all}
-use native.Mathlib.Nat.{pow-suc, pow-le-pow_right}
+use native.Mathlib.Nat.{pow-suc}
 use native.Mathlib.Numerals.{add-one}
 use native.Mathlib.Omega.{arith}
 use Rattle.script.specs.Reading.{word_length, first_word, later_words, same, is_digit, natural_from}
-use Rattle.script.specs.Sizes.{most_digits}
 use Rattle.script.specs.Texts.{space, digit_0, digit_9}
 use Rattle.table.specs.Tests.{◌and◌}
 use Rattle.table.proofs.Chains.{by_bool, pick_yes, pick_no, and_true}
@@ -80,10 +79,6 @@ space_parts l n e =
 same_goes_on : (x y : ℕ) (xs ys : List ℕ) → x ≡ y → same (x ∷ xs) (y ∷ ys) ≡ same xs ys
 unfolding same
 same_goes_on x y xs ys e = pick_yes (eqb x y) (same xs ys) false (eq-eqb x y e)
-
-same_stops : (x y : ℕ) (xs ys : List ℕ) → (x ≡ y → ⊥) → same (x ∷ xs) (y ∷ ys) ≡ false
-unfolding same
-same_stops x y xs ys e = pick_no (eqb x y) (same xs ys) false (ne_eqb x y e)
 
 same_none : same [] [] ≡ true
 unfolding same
@@ -186,12 +181,5 @@ value_out s n i r k h e t =
 
 pub value_over : (s : List ℕ) (n i : ℕ) → Valued s n i → length s ≤ i → Some n ≡ natural_from 0 s
 value_over s n i k h = sym (k.rest ∙ rw (drop_of_length-le s h) (digits_none n))
-
--- before the last digit the value has one digit less than the most
-pub value_small : (s : List ℕ) (n i : ℕ) → Valued s n i → i < length s → length s ≤ most_digits → n < 10 ^ pred most_digits
-value_small s n i k h l =
-    let w = k.small in
-    let p : 10 ^ i ≤ 10 ^ pred most_digits = pow-le-pow_right {n = 10} (omega arith) {i = i} {j = pred most_digits} (omega arith) in
-    omega arith
 
 pub ruleset value_loop = (value_starts, value_next, value_out, value_over)

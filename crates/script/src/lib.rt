@@ -53,6 +53,7 @@ fn split_word(s: &[u8]) -> Option<(&[u8], &[u8])>
 }
 
 // Whether two texts are the same.
+#[tactic(auto, using(crate::proofs::Scans::same_is))]
 pub fn same(a: &[u8], b: &[u8]) -> bool
     ensures { result ≡ same_text a.now b.now }
 {
