@@ -72,7 +72,7 @@ pub fn cannot_handle(s: i32) -> bool
 }
 
 // The signal itself, once it has passed one of the two tests: then it is below 32 and the remainder changes nothing. Of
-// another number, which no call passes on, the low eight bits.
+// another number, which no call passes on, the low eight bits: so it can't fail, and is no `TryFrom`.
 pub fn signal_of(s: i32) -> u8
     ensures { result ≡ natural s % byte_values }
 {

@@ -46,7 +46,8 @@ fn kill_one(t: Table, caller: ProcSlot, n: i32, s: i32) -> Result<Outcome, Refus
     Ok(send_one(t, caller, slot.unwrap(), signal_of(s)))
 }
 
-// A signal to all of a list, the others that the caller sees.
+// A signal to all of a list, the others that the caller sees. (It is no function for any list, of one too: document 01's
+// delivery is shown of these two lists, and of others it is not what the code does.)
 fn send_all(t: Table, caller: ProcSlot, found: &Targets, s: u8) -> Outcome
     ensures { Lists found.now (others_of (view t) caller.0) → Sends t caller.0 (others_of (view t) caller.0) s result }
 {

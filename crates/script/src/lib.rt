@@ -96,6 +96,7 @@ fn from_zero(natural: Option<u64>) -> Option<i32>
     i32::try_from(natural?).ok()
 }
 
+// (The cast is exact, by the test before it: `TryFrom` would make that test a second time.)
 fn below_zero(natural: Option<u64>) -> Option<i32>
     ensures { result ≡ below_zero_to natural }
 {
