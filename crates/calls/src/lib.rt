@@ -18,7 +18,9 @@ use sound::is_sound;
 use table::{Call, Outcome, ProcSlot, Refusal, Table};
 use waits::{exit, wait};
 
-// A call by a caller that may call. (Of another one nothing is said: `step` refuses it before.)
+// A call by a caller that may call. (Of another one nothing is said: `step` refuses it before.) Which calls there are is
+// closed, so they are arms and no closures. Each is a function of a table and a caller, as its definition is: a struct of
+// both would be taken apart again in each.
 fn make(t: Table, caller: ProcSlot, call: Call) -> Result<Outcome, Refusal>
     ensures { So (sound t) → So (runs (view t) caller.0) → settled t result ≡ make_of t caller.0 call }
 {
@@ -49,7 +51,7 @@ fn attempt(t: Table, sound: bool, caller: ProcSlot, call: Call) -> Result<Outcom
 }
 
 // One call on any table, by any caller. A table that is known to be sound is not checked. (Of one that is called so and
-// is not, nothing is said.)
+// is not, nothing is said: so any table may be passed, which a type of sound tables would not allow.)
 pub fn step_known(t: Table, known: bool, caller: ProcSlot, call: Call) -> Outcome
     ensures { (known ≡ true → So (sound t)) → result ≡ step_of t caller.0 call }
 {

@@ -44,7 +44,7 @@ pub struct Mirror {
     pub namespaces: [NamespaceRow; NAMESPACE_SLOTS],
 }
 
-// ---- writing
+// ---- writing: numbers for what C has no enum with values for; a state and a life differ in more than their names
 
 pub fn state_kind(s: State) -> u8
     ensures { result ≡ state_kind s }

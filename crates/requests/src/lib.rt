@@ -8,7 +8,7 @@ ghost use Rattle.requests.specs.Requests.{asked_by, end_kind, end_value, told_of
 use mirror::{state_end, state_kind};
 use table::{Answer, Call, NO_SLOT, ProcSlot, Refusal, Reply, State};
 
-// ---- the numbers of the calls; one is never given to another call
+// ---- the numbers of the calls, which C writes; one is never given to another call
 
 const CLONE: u32 = 1;
 
@@ -86,6 +86,7 @@ pub fn asked_by(r: Request) -> Option<Call>
 // ---- what is told of a reply
 
 #[tactic(auto, unfolding(rules::specs::Answers::refusal_number))]
+// (As a C program reads it.)
 fn refusal_number(e: Refusal) -> i32
     ensures { result ≡ refusal_number e }
 {
@@ -134,6 +135,7 @@ fn end_bytes(a: Answer) -> (u8, u8)
     }
 }
 
+// What a host is told of a reply. (As `mirror_of` and `table_from` it is known by its name, so it is no `From`.)
 pub fn told_of(r: Reply) -> Told
     ensures { result ≡ told_of r }
 {

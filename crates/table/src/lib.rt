@@ -14,7 +14,8 @@ pub const PROCESS_SLOTS: usize = 64;
 
 pub const NAMESPACE_SLOTS: usize = 48;
 
-// No slot, in a field that holds one.
+// No slot, in a field that holds one. (It is no Option: the definitions, the theorems about any table and the bytes that
+// a host keeps have 255.)
 pub const NO_SLOT: u8 = 255;
 
 // The root has level 0, the deepest namespaces level 32 (W-206); a process has one number for each level.
@@ -55,7 +56,7 @@ pub struct ProcSlot(pub u8);
 #[derive(Clone, Copy, PartialEq, Eq, PartialOrd, Ord)]
 pub struct NsSlot(pub u8);
 
-// A process number, as one namespace sees it. 0 stands for none.
+// A process number, as one namespace sees it. 0 stands for none, as in the definitions, and so wherever a Pid is read.
 #[repr(C)]
 #[derive(Clone, Copy, PartialEq, Eq, PartialOrd, Ord)]
 pub struct Pid(pub u16);
@@ -111,6 +112,7 @@ pub struct Namespace {
     pub life: Life,
 }
 
+// Slots are places in two arrays, and what a record names it names by its slot: document 01's form, which takes no heap.
 #[derive(Clone, Copy)]
 pub struct Table {
     pub processes: [Process; PROCESS_SLOTS],
@@ -204,7 +206,8 @@ impl Traits {
         child
     }
 
-    // What an end leaves of them.
+    // What an end leaves of them. (Two sentences say no more than this for a child and for an end; a trait that a child
+    // gets or an end keeps parts the two functions.)
     #[tactic(auto, unfolding(crate::specs::Traits::ended_traits))]
     pub fn ended(self) -> Traits
         ensures { result ≡ ended_traits self }
@@ -228,7 +231,8 @@ impl Traits {
 
 // ---- the fresh table
 
-// An empty process slot: all zero, running.
+// An empty process slot: all zero, running. (It is no `Default`: std has that for arrays of at most 32, and a process has
+// 33 numbers.)
 pub fn empty_process() -> Process
     ensures { result ≡ empty_process }
 {
@@ -354,7 +358,7 @@ impl Namespace {
         matches!(self.life, Life::Dead)
     }
 
-    // The init of a living namespace, or none.
+    // The init of a living namespace, or NO_SLOT, which is what an orphan's parent becomes where there is none.
     pub fn init(&self) -> ProcSlot
         ensures { result.0 ≡ init_of self.now.life }
     {

@@ -76,7 +76,7 @@ impl Tree {
         p.is_taken() && self.below(p.own, n, self.level(p.own))
     }
 
-    // The number of a process in n, or none where it is not seen.
+    // The number of a process in n, or 0, which is no number, where it is not seen.
     pub fn pid_in(&self, n: NsSlot, p: &Process) -> Pid
         ensures { result.0 ≡ pid_from (slot_in self.now.parents) (level_in self.now.levels) n.0 p.now }
     {
