@@ -31,9 +31,9 @@ extern "C" {
 
 /*
  * Bytes of stack that are enough for each function. The most was taken where a namespace on level 1 ended with a chain
- * of namespaces to level 32 below it: 1,044,920 bytes by lampfunnel_call, 1,075,048 by lampfunnel_run (host/c/stack.c).
+ * of namespaces to level 32 below it: 169,104 bytes by lampfunnel_call, 176,400 by lampfunnel_run (host/c/stack.c).
  */
-#define LAMPFUNNEL_STACK_BYTES ((size_t)17 << 16)
+#define LAMPFUNNEL_STACK_BYTES ((size_t)1 << 20)
 
 /* ---- the table: read any field; a call is what changes it ------------------------------------------------------- */
 

@@ -1,5 +1,5 @@
 // Arguments of calls: whole 32-bit numbers are crossed to unsigned ones here, and nowhere else.
-#![tactic(auto)]
+#![tactic(auto, using(table::proofs::Chains::chains))]
 
 ghost use Rattle.std.specs.Prelude.{not, ◌≡◌, ◌%◌, eqb, ltb};
 ghost use Rattle.rules.specs.Calls.{within, natural, status, names_group};

@@ -69,5 +69,5 @@ pub const NAMESPACES: usize = 48;
 pub const LEVELS: usize = 33;
 
 /// Bytes of stack that are enough for each function, also where a chain of namespaces to the deepest level ends at
-/// once. A thread of Rust's standard library has nearly twice as many where nothing else is said.
-pub const STACK_BYTES: usize = 17 << 16;
+/// once. A thread of Rust's standard library has twice as many where nothing else is said.
+pub const STACK_BYTES: usize = 1 << 20;

@@ -17,7 +17,7 @@ fn sizes() {
     assert_eq!([PROCESSES, NAMESPACES, LEVELS], ["PROCESSES ", "NAMESPACES ", "LEVELS "].map(defined));
     assert_eq!(
         [STACK_BYTES, ANSWER_BYTES],
-        [17 << defined("STACK_BYTES ((size_t)17 << "), defined("ANSWER_BYTES ((size_t)")]
+        [1 << defined("STACK_BYTES ((size_t)1 << "), defined("ANSWER_BYTES ((size_t)")]
     );
     assert_eq!(env!("CARGO_PKG_VERSION_MAJOR"), defined("VERSION_MAJOR ").to_string());
     assert_eq!(env!("CARGO_PKG_VERSION_MINOR"), defined("VERSION_MINOR ").to_string());
