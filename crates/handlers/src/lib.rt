@@ -1,5 +1,5 @@
 // handle and poll: what a process does with its signals.
-#![tactic(auto)]
+#![tactic(auto, using(table::proofs::Chains::chains))]
 
 ghost use Rattle.std.specs.Prelude.{◌≡◌, ◌<◌};
 ghost use Rattle.outcomes.specs.Verdicts.{settled};

@@ -1,5 +1,5 @@
 // kill: a signal to one, or to all others. The refusals stand in document 01's order.
-#![tactic(auto)]
+#![tactic(auto, using(table::proofs::Chains::chains))]
 
 ghost use Rattle.std.specs.Prelude.{true, false, [], ◌∷◌, ◌≡◌, eqb, length, ℕ, ◌<◌, OnOk};
 ghost use Rattle.arguments.specs.Arguments.{names_everyone};

@@ -1,5 +1,5 @@
 // A session: the table and the open line, carried on from each chunk of the input to the next.
-#![tactic(auto)]
+#![tactic(auto, using(table::proofs::Chains::chains))]
 
 ghost use Rattle.std.specs.Prelude.{◌≡◌, List, [], ℕ, suc, ◌≤◌, ◌+◌, ◌*◌, length, drop};
 ghost use Rattle.lines.specs.Carried.{Carries, cut};

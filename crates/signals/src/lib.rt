@@ -1,5 +1,5 @@
 // Signals by number: sets of them, and what an unhandled one does.
-#![tactic(auto)]
+#![tactic(auto, using(table::proofs::Chains::chains))]
 
 ghost use Rattle.std.specs.Prelude.{◌≡◌, ◌<◌, ltb, IfSome, unwrap_or};
 ghost use Rattle.rules.specs.Delivery.{default_action};

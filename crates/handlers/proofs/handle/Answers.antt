@@ -1,13 +1,10 @@
 -- `handle` makes the test of the definition, and puts the caller back with the sets changed.
-use Rattle.handlers.proofs.Signals.{handle_refused, handle_asks_of, handle_does}
+use Rattle.handlers.proofs.Signals.{handle_refused, handle_does}
 use Rattle.handlers.proofs.handle.Goals as goal
 
 pub returns-in_err-refuse_if : goal.returns-in_err-refuse_if
 returns-in_err-refuse_if c =
     handle_refused c.args.s c.ranges.s _ c.cannot_handle.ensures _ _ _ _ _ c.in_err-refuse_if.ensures c.from_residual.ensures.1
-
-pub handling-q-requires : goal.handling-q-requires
-handling-q-requires c = handle_asks_of c.args.s c.ranges.s _ c.cannot_handle.ensures _ c.in_ok-refuse_if.ensures _ c.signal_of.ensures
 
 pub returns : goal.returns
 returns c =

@@ -1,9 +1,6 @@
 -- Each call is found on the table that the one before it left.
-use Rattle.session.proofs.Calling.{passed_starts, passed_room, passed_next, passed_all, fewer_left}
+use Rattle.session.proofs.Calling.{passed_room, passed_next, passed_all, fewer_left}
 use Rattle.session.proofs.run_calls.Goals as goal
-
-pub loop-q-init : goal.loop-q-init
-loop-q-init c = search passed_starts
 
 pub go_on-q-requires : goal.go_on-q-requires
 go_on-q-requires c = search passed_room

@@ -9,9 +9,6 @@ loop-taken-init c = search seek_loop
 pub returns-then-is_some : goal.returns-then-is_some
 returns-then-is_some c = search seek_loop
 
-pub put-used-requires : goal.put-used-requires
-put-used-requires c = search (seek_loop, c.as_bytes.ensures.value ∙ c.deref.ensures.0)
-
 pub loop-taken-smaller : goal.loop-taken-smaller
 loop-taken-smaller c = search seek_loop
 
