@@ -1,4 +1,4 @@
-// Arguments of calls: whole 32-bit numbers are crossed to unsigned ones here, and nowhere else.
+// Arguments of calls, which are whole 32-bit numbers: tests of them, and the crossing to unsigned numbers.
 #![tactic(auto, using(table::proofs::Chains::chains))]
 
 ghost use Rattle.std.specs.Prelude.{not, ◌≡◌, ◌%◌, eqb, ltb};

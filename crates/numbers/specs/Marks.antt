@@ -1,6 +1,6 @@
--- The search by marks (W-202). It is given columns: the own namespace of each process, and its number in a namespace n,
--- or 0. Of the m numbers above n's last, m marks say which are taken. The code has as many marks as there are process
--- slots; the laws hold of any number of them.
+-- The search by marks (W-202). It is given of each process its own namespace, and its number in a namespace n, or 0. Of
+-- the m numbers above n's last, m marks say which are taken. The code has as many marks as there are process slots; the
+-- laws hold of any number of them.
 use Rattle.std.specs.Prelude.{ℕ, suc, ◌+◌, ◌-◌, ◌<◌, ◌≤◌, ◌≡◌, Bool, not, Option, Some, None, eqb, leb, ltb, MatchOption}
 use Rattle.rules.specs.Read.{climb}
 use Rattle.table.specs.Limits.{process_slots, greatest_pid, restart_pid}

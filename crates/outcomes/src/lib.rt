@@ -54,8 +54,5 @@ pub fn answers(t: Table, k: u16) -> Outcome
 pub fn settled(t: Table, made: Result<Outcome, Refusal>) -> Outcome
     ensures { result ≡ settled_as t made }
 {
-    match made {
-        Ok(o) => o,
-        Err(why) => refused(t, why),
-    }
+    made.unwrap_or_else(|why| refused(t, why))
 }

@@ -86,7 +86,6 @@ pub fn asked_by(r: Request) -> Option<Call>
 // ---- what is told of a reply
 
 #[tactic(auto, unfolding(rules::specs::Answers::refusal_number))]
-// (As a C program reads it.)
 fn refusal_number(e: Refusal) -> i32
     ensures { result ≡ refusal_number e }
 {

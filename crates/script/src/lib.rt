@@ -52,7 +52,7 @@ fn split_word(s: &[u8]) -> Option<(&[u8], &[u8])>
     Some((&s[..end], &s[end + 1..]))
 }
 
-// Whether two texts are the same.
+// Whether two texts are the same. (`match` has taken its place in this crate; it stays for others.)
 #[tactic(auto, using(crate::proofs::Scans::same_is))]
 pub fn same(a: &[u8], b: &[u8]) -> bool
     ensures { result ≡ same_text a.now b.now }
@@ -310,7 +310,8 @@ pub fn bad_text() -> Text
     text
 }
 
-// Copies a text into a lent buffer from a place on, and gives the place after it.
+// Copies a text into a lent buffer from a place on, and gives the place after it. (The buffer is a host's, so it is no
+// `Vec` that knows its length.)
 pub fn put(text: &[u8], out: &mut [u8], at: usize) -> usize
     requires { at + length text.now ≤ length out.old }
     ensures { Copied text.now at out.old out.new result }

@@ -34,8 +34,8 @@ pub fn start() -> Session
 // ---- through a chunk, from call to call
 
 // Where the reading of a chunk stands: the call that was found, if one was; the line that was read last, the place after
-// it, and how many bytes were written. (The chunk and the buffer are the caller's, and lent to each step: a struct that
-// held them would be lent itself.)
+// it, and how many bytes were written. (The chunk and the buffer are the caller's, in the signatures of `feed` and
+// `finish`, and are lent on to each step; `used` counts what stands in that buffer.)
 #[derive(Clone, Copy)]
 struct Place {
     asked: Option<Asked>,

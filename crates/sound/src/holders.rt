@@ -21,7 +21,8 @@ fn mark_namespace(marks: &mut [bool; NAMESPACE_SLOTS], n: NsSlot, s: &Namespace)
     }
 }
 
-// The root, and what the processes hold.
+// The root, and what the processes hold. (`ending` has such a pass too, without the root: each says what its own
+// definition of marks asks.)
 pub(crate) fn held_by_processes(t: &Table) -> [bool; NAMESPACE_SLOTS]
     ensures { Marks namespace_slots result (held_by_processes (view t.now)) }
 {

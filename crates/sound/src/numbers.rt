@@ -10,7 +10,7 @@ use super::columns::column;
 use table::{DEEPEST, NAMESPACE_SLOTS, NsSlot, PID_VALUES, PROCESS_SLOTS, Process, Table, at};
 use tree::Tree;
 
-// ---- keys; one of 0 is none, as `differs_at` of specs/Quick.antt says: Options would take twice the room
+// ---- keys; one of 0 is none, as in the definitions of specs/Quick.antt, here and in holders.rt
 
 // Whether the key at i is 0 or no key below i is the same.
 fn differs(keys: &[u32; PROCESS_SLOTS], i: usize) -> bool

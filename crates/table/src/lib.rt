@@ -231,8 +231,8 @@ impl Traits {
 
 // ---- the fresh table
 
-// An empty process slot: all zero, running. (It is no `Default`: std has that for arrays of at most 32, and a process has
-// 33 numbers.)
+// An empty process slot: all zero, running. (This, the traits above and the namespace below are functions and no
+// `Default`s: std derives none for an array of 33, and document 01 has a word for each.)
 pub fn empty_process() -> Process
     ensures { result ≡ empty_process }
 {
@@ -293,10 +293,7 @@ pub fn fresh() -> Table
 pub fn at<T: Copy, const N: usize>(items: &[T; N], slot: u8, past: T) -> T
     ensures { result ≡ get_or items.now slot past }
 {
-    match items.get(slot as usize) {
-        Some(item) => *item,
-        None => past,
-    }
+    items.get(slot as usize).copied().unwrap_or(past)
 }
 
 // Puts an item at a slot. Past an array's end there is nowhere to put it.

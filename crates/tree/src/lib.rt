@@ -1,6 +1,5 @@
 // The tree of namespaces: what lies below what, who is seen from where and under which number, the lowest free slots,
-// and marks of namespaces. A pass over the table takes the table once; what it does at each slot takes one process, and
-// the parents and levels of the namespaces as small arrays.
+// and marks of namespaces. All of it reads, so it is lent what it reads.
 #![tactic(auto, using(table::proofs::Chains::chains))]
 
 ghost use Rattle.std.specs.Prelude.{true, ◌≡◌, ◌<◌, set, IfSome, unwrap_or};
@@ -15,7 +14,8 @@ use table::{
 
 // ---- the tree
 
-// The parents and the levels of all namespaces: all that a climb reads.
+// The parents and the levels of all namespaces: all that a climb reads. They are two arrays and not one of pairs, as the
+// definitions read the one and the other (`slot_in`, `level_in`), and so do the clauses.
 #[derive(Clone, Copy)]
 pub struct Tree {
     pub parents: [NsSlot; NAMESPACE_SLOTS],
@@ -95,7 +95,8 @@ impl Tree {
     }
 }
 
-// ---- what a search for a slot gives: it, or none
+// ---- searches for a slot. A ProcSlot or NsSlot may be any byte, so a clause says that the one that is found is a slot of
+// the table.
 
 // The process whose number in n is pid.
 pub fn find(t: &Table, n: NsSlot, pid: Pid) -> Option<ProcSlot>
