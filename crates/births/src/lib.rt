@@ -59,7 +59,7 @@ pub fn birth(t: Table, slot: ProcSlot, caller: ProcSlot, n: NsSlot) -> Table
         let here = t.namespace(place);
         let holders = holders(&t.processes, here.level);
         let found = pid_by_marks(&tree, &holders, place, here.last);
-        // As in `next_pid`, but with one tree for all levels.
+        // As in `next_pid`, but with one tree for all levels: it stands here, where this crate's edits change it.
         let pid = match found {
             Some(pid) => pid,
             None => next_pid(&t, place),
