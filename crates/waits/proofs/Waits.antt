@@ -2,6 +2,7 @@
 use Prim.Native.Nat.{ℕ, ◌<◌, ◌≤◌, ◌+◌}
 use mathlib.Core.Bool.{Bool, true, false, not}
 use mathlib.Core.List.{List}
+use mathlib.Core.Logic.{◌⊎◌, inl, inr}
 use mathlib.Core.Path.{◌≡◌, refl, sym, ap, ap₂, subst, ◌∙◌}
 use borrow.Author.Tests.{ne_eqb}
 use denote.Laws.{Is}
@@ -158,13 +159,10 @@ module _ (t : Table) (c : ℕ) (b : Bool) (e : b ≡ any process_slots (child_of
       here : (s : State) → p.state ≡ s → wait t c ≡ reap t c i.0 s
       here s m = found i.0 s (ap process_found f) (sym (read_at t i.0 p d).state ∙ m)
 
-      pub wait_running : p.state ≡ Running → r ≡ answers t 0 → r ≡ wait t c
+      pub wait_idle : (p.state ≡ Running) ⊎ (p.state ≡ Stopped) → r ≡ answers t 0 → r ≡ wait t c
       unfolding reap
-      wait_running m a = a ∙ sym (here Running m)
-
-      pub wait_stopped : p.state ≡ Stopped → r ≡ answers t 0 → r ≡ wait t c
-      unfolding reap
-      wait_stopped m a = a ∙ sym (here Stopped m)
+      wait_idle (inl m) a = a ∙ sym (here Running m)
+      wait_idle (inr m) a = a ∙ sym (here Stopped m)
 
       pub wait_reaps : (how : End) (n : Pid) → p.state ≡ Ended how → n.0 ≡ pid_at p l → r ≡ granted (freed (put t i.0 empty_process)) (Reaped n how) → r ≡ wait t c
       unfolding reap pid_seen

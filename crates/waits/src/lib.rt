@@ -88,8 +88,7 @@ pub fn wait(t: Table, caller: ProcSlot) -> Result<Outcome, Refusal>
     };
     let child = t.process(slot);
     Ok(match child.state {
-        State::Running => answers(t, 0),
-        State::Stopped => answers(t, 0),
+        State::Running | State::Stopped => answers(t, 0), // first_ended finds none such
         State::Ended(how) => reap(t, slot, child.pid_at(level), how),
     })
 }

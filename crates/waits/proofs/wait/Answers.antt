@@ -1,6 +1,6 @@
 -- `wait` makes the test of the definition, and goes by the state of the child that it found.
 use borrow.Author.Rules.{rules}
-use Rattle.waits.proofs.Waits.{wait_refused, wait_finds_none, wait_running, wait_stopped, wait_reaps}
+use Rattle.waits.proofs.Waits.{wait_refused, wait_finds_none, wait_idle, wait_reaps}
 use Rattle.waits.proofs.wait.Goals as goal
 
 pub returns-in_err-refuse_if : goal.returns-in_err-refuse_if
@@ -13,13 +13,8 @@ returns-in_default c =
 
 pub returns-in-Running : goal.returns-in-Running
 returns-in-Running c =
-    wait_running c.args.t c.args.caller.0 _ c.has_child.ensures _ c.in_ok-refuse_if.ensures _ _ c.own_level-level.ensures c.first_ended.ensures _
+    wait_idle c.args.t c.args.caller.0 _ c.has_child.ensures _ c.in_ok-refuse_if.ensures _ _ c.own_level-level.ensures c.first_ended.ensures _
     c.in-Some.slot c.in-Some.is _ c.process-child.ensures c.in-Running.is c.answers-in-Running.ensures
-
-pub returns-in-Stopped : goal.returns-in-Stopped
-returns-in-Stopped c =
-    wait_stopped c.args.t c.args.caller.0 _ c.has_child.ensures _ c.in_ok-refuse_if.ensures _ _ c.own_level-level.ensures c.first_ended.ensures _
-    c.in-Some.slot c.in-Some.is _ c.process-child.ensures c.in-Stopped.is c.answers-in-Stopped.ensures
 
 pub returns-in-Ended : goal.returns-in-Ended
 returns-in-Ended c =
