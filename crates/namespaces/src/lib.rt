@@ -21,13 +21,13 @@ fn set_children(t: Table, caller: ProcSlot, n: NsSlot) -> Table
     free_unheld(t.with_process(caller, q))
 }
 
+// may_make makes its first two tests here; the third, whether there is room, is the search's own.
 pub fn unshare(t: Table, caller: ProcSlot) -> Result<Outcome, Refusal>
     ensures { settled t result ≡ unshare_of t caller.0 }
 {
     let level = own_level(&t, caller);
-    let n = free_namespace_slot(&t);
-    may_make(&t, caller, level, n.is_none())?;
-    let n = n.unwrap();
+    may_make(&t, caller, level, false)?;
+    let n = free_namespace_slot(&t).ok_or(Refusal::Eagain)?;
     let p = t.process(caller);
     let u = new_namespace(t, n, p.own, level + 1);
     Ok(answers(set_children(u, caller, n), 0))
