@@ -40,16 +40,14 @@ pub fn clone(t: Table, caller: ProcSlot) -> Result<Outcome, Refusal>
     Ok(born(&t, caller, slot, birth(t, slot, caller, p.children)))
 }
 
-// Both slots are looked for before the refusals, since whether there is room is one test of theirs.
+// may_make makes its first two tests here; the third, whether there is room, is the searches' own.
 pub fn clone_new(t: Table, caller: ProcSlot) -> Result<Outcome, Refusal>
     ensures { settled t result ≡ clone_new_of t caller.0 }
 {
     let level = own_level(&t, caller);
-    let slot = free_slot(&t);
-    let n = free_namespace_slot(&t);
-    may_make(&t, caller, level, slot.is_none() | n.is_none())?;
-    let slot = slot.unwrap();
-    let n = n.unwrap();
+    may_make(&t, caller, level, false)?;
+    let slot = free_slot(&t).ok_or(Refusal::Eagain)?;
+    let n = free_namespace_slot(&t).ok_or(Refusal::Eagain)?;
     let p = t.process(caller);
     let u = new_namespace(t, n, p.own, level + 1);
     Ok(born(&t, caller, slot, birth(u, slot, caller, n)))
