@@ -2,8 +2,9 @@
 use Prim.Native.Nat.{ℕ, ◌<◌, ◌%◌}
 use mathlib.Core.Bool.{Bool, true, false, not}
 use mathlib.Core.List.{List, [], ◌∷◌}
-use mathlib.Core.Path.{◌≡◌, refl, sym, ap, subst, subst₂, ◌∙◌}
-use borrow.Author.Tests.{not-false}
+use mathlib.Core.Path.{◌≡◌, refl, sym, ap, ap₂, subst, subst₂, ◌∙◌}
+use native.Mathlib.Omega.{arith}
+use borrow.Author.Tests.{eq-eqb, ne_eqb, not-false}
 use denote.Laws.{Is}
 use lib.Dec.{eqb}
 use lib.IntN.{ℤ, negsuc}
@@ -17,17 +18,16 @@ use Rattle.callers.proofs.Fits.{sound_table}
 use Rattle.delivery.proofs.Kills.{kills_one, kills_others}
 use Rattle.delivery.specs.Delivery.{deliver_by, deliver_all_by, Delivers, DeliversAll}
 use Rattle.delivery.specs.Targets.{Lists, listed, numbers}
-use Rattle.kills.specs.Kills.{sends, sends_by, Sends, kill_with, kill_by, Kills}
-use Rattle.outcomes.proofs.Verdicts.{Verdict, judged_grants, judged_refuses, none_holds, passed, tested}
+use Rattle.kills.specs.Kills.{first_refusals, sends, sends_by, Sends, kill_with, kill_by, Kills}
+use Rattle.outcomes.proofs.Verdicts.{Verdict, err_ok, judged_grants, judged_refuses, none_holds, passed, refused_or, tested}
 use Rattle.outcomes.specs.Verdicts.{settled, verdict}
-use Rattle.std.specs.Prelude.{Result, Ok, Err, Option, Some, IfSome, is_some, OnOk}
+use Rattle.std.specs.Prelude.{Result, Ok, Err, Option, Some, None, IfSome, ok_or, OnOk}
 use Rattle.std.specs.Result.{IsErrAnd}
 use Rattle.arrayvec.specs.ArrayVec.{ArrayVec, array_vec_len}
-use Rattle.callers.proofs.Callers.{no_process_is}
 use Rattle.tree.specs.Tree.{process_found}
 use Rattle.table.specs.declared.ProcSlot.{ProcSlot}
-use Rattle.table.proofs.Chains.{pick_no}
-use Rattle.rules.proofs.Laws.Judged.{None as NoneHolds, place}
+use Rattle.table.proofs.Chains.{if_yes, if_no, pick_yes, pick_no}
+use Rattle.rules.proofs.Laws.Judged.{place}
 use Rattle.rules.proofs.Laws.ReadAt.{read_at}
 use Rattle.table.specs.contracts.Table as T
 use Rattle.rules.specs.Answers.{answers}
@@ -36,7 +36,7 @@ use Rattle.rules.specs.Delivery.{deliver_all}
 use Rattle.rules.specs.Freeing.{freed}
 use Rattle.table.specs.Fresh.{empty_process}
 use Rattle.table.specs.Limits.{process_slots, signals}
-use Rattle.rules.specs.Read.{View, view}
+use Rattle.rules.specs.Read.{view}
 use Rattle.table.specs.Tests.{when◌then◌else◌}
 use Rattle.table.specs.declared.Outcome.{Outcome}
 use Rattle.table.specs.declared.Process.{Process}
@@ -44,12 +44,12 @@ use Rattle.table.specs.declared.Refusal.TheVariants.{Einval, Enosys, Esrch}
 use Rattle.table.specs.declared.Refusal.{Refusal}
 use Rattle.table.specs.declared.Table.{Table}
 
--- ---- the verdict r: y is what `is_signal` gives of the argument z
+-- ---- the verdict r of the first two: y is what `is_signal` gives of the argument z, and g what `names_group` gives
 
-pub kill_low : (z : ℤ) (y nobody : Bool) (u : Unit {0}) (r : Verdict) → y ≡ within 0 signals z → Ok u ≡ tested (not y) Einval → r ≡ tested nobody Esrch → OnOk r (natural z < signals)
-kill_low z y nobody u r d good last = subst (λ q. OnOk q (natural z < signals)) (sym last) (by nobody)
+pub kill_low : (z : ℤ) (y g : Bool) (u : Unit {0}) (r : Verdict) → y ≡ within 0 signals z → Ok u ≡ tested (not y) Einval → r ≡ tested g Enosys → OnOk r (natural z < signals)
+kill_low z y g u r d good last = subst (λ q. OnOk q (natural z < signals)) (sym last) (by g)
   where
-    by : (b : Bool) → OnOk (tested b Esrch) (natural z < signals)
+    by : (b : Bool) → OnOk (tested b Enosys) (natural z < signals)
     by true = tt
     by false = within_below 0 signals z (sym d ∙ not-false y (passed Einval (not y) u (Ok tt) good).0)
 
@@ -85,94 +85,116 @@ module _ (t : Table) (c k : ℕ) (p : Process) (u w : Table) (r : Outcome) (vs :
             ∙ ap (λ js. deliver_all t p.own.0 js k) (targets_everyone (view t) c (negsuc 0) refl));
       }
 
--- ---- what is given by it: v is the verdict of `may_kill`, of the arguments as they came
+-- ---- the tests by their values: a that it is no signal, g that it is a group, and b that it is nobody
+
+before_last : (a g b : Bool) (x : Refusal) → Err x ≡ verdict ((Einval, a) ∷ (Enosys, g) ∷ []) → Err x ≡ verdict ((Einval, a) ∷ (Enosys, g) ∷ (Esrch, b) ∷ [])
+before_last true g b x h = h
+before_last false true b x h = h
+before_last false false b x h = absurd (err_ok h)
+
+-- v is the verdict on whether it is nobody
+by_last : (a g b : Bool) (u : Unit {0}) (v : Verdict) → Ok u ≡ verdict ((Einval, a) ∷ (Enosys, g) ∷ []) → (g ≡ false → v ≡ tested b Esrch) → v ≡ verdict ((Einval, a) ∷ (Enosys, g) ∷ (Esrch, b) ∷ [])
+by_last true g b u v h e = absurd (err_ok (sym h))
+by_last false true b u v h e = absurd (err_ok (sym h))
+by_last false false b u v h e = e refl
+
+-- ---- what is given by it: v is what `may_kill` gives, of the arguments as they came
 
 -- what `signal_of` gives of the argument z
 abbrev signal_of : ℤ → ℕ
 signal_of z = natural (to_z w32 (of_z w32 z)) % 256
 
-abbrev Told : Verdict → ℤ → ℤ → Bool → Type 0
-Told v n z nobody =
-    (w : View) (d : ℕ) → (names_group n ≡ false → nobody ≡ eqb (length (targets w d n)) 0) → v ≡ verdict (kill_refusals w d n z)
+module _ (t : Table) (c : ℕ) (n z : ℤ) (fits_n : SFits w32 n) (fits : SFits w32 z) (v : Verdict) (m : v ≡ verdict (first_refusals (to_z w32 (of_z w32 n)) (to_z w32 (of_z w32 z)))) where
+  ruled : v ≡ verdict (first_refusals n z)
+  ruled = m ∙ ap₂ (λ i j. verdict (first_refusals i j)) (to_z-of_z w32 n fits_n) (to_z-of_z w32 z fits)
 
-module _ (t : Table) (c : ℕ) (n z : ℤ) (fits_n : SFits w32 n) (fits : SFits w32 z) (nobody : Bool) (v : Verdict) (m : Told v (to_z w32 (of_z w32 n)) (to_z w32 (of_z w32 z)) nobody) where
-  module _ (found : names_group n ≡ false → nobody ≡ eqb (length (targets (view t) c n)) 0) where
-    ruled : v ≡ verdict (kill_refusals (view t) c n z)
-    ruled = subst₂ (λ a b. Told v a b nobody) (to_z-of_z w32 n fits_n) (to_z-of_z w32 z fits) m (view t) c found
+  -- in both ways: by what is sent to a list
+  refused_by : (x : Refusal) (r : Result Outcome Refusal) → Err x ≡ verdict (kill_refusals (view t) c n z) → IsErrAnd r (λ y. y ≡ x) → Kills t c n z (settled t r)
+  unfolding kill kill_by sends
+  refused_by x r h a = record { always = refuses (sends_by t c); as_defined = λ s. refuses (sends t c) }
+    where
+      refuses : (send : List ℕ → ℕ → Outcome) → settled t r ≡ kill_with send t c n z
+      refuses send =
+          judged_refuses t (kill_refusals (view t) c n z) (λ y. send (targets (view t) c n) (natural z)) x r a h
 
-    -- in both ways: by what is sent to a list
-    refuses : (send : List ℕ → ℕ → Outcome) (x : Refusal) (r : Result Outcome Refusal) → v ≡ Err x → IsErrAnd r (λ y. y ≡ x) → settled t r ≡ kill_with send t c n z
-    refuses send x r h a = judged_refuses t (kill_refusals (view t) c n z) (λ y. send (targets (view t) c n) (natural z)) x r a (sym h ∙ ruled)
+  pub kill_refused : (x : Refusal) (r : Result Outcome Refusal) → v ≡ Err x → IsErrAnd r (λ y. y ≡ x) → Kills t c n z (settled t r)
+  kill_refused x r h = refused_by x r (before_last _ _ _ x (sym h ∙ ruled))
 
-    refused_so : (x : Refusal) (r : Result Outcome Refusal) → v ≡ Err x → IsErrAnd r (λ y. y ≡ x) → Kills t c n z (settled t r)
-    unfolding kill kill_by sends
-    refused_so x r h a = record { always = refuses (sends_by t c) x r h a; as_defined = λ s. refuses (sends t c) x r h a }
+  -- once the first two are passed
+  module _ (u : Unit {0}) (g : v ≡ Ok u) where
+    whole : (w : Verdict) → (names_group n ≡ false → w ≡ tested (eqb (length (targets (view t) c n)) 0) Esrch) → w ≡ verdict (kill_refusals (view t) c n z)
+    whole w = by_last _ _ _ u w (sym g ∙ ruled)
+
+    no_group : names_group n ≡ false
+    unfolding place
+    no_group = none_holds (first_refusals n z) (sym g ∙ ruled) Enosys
+
+    missed : (x : Refusal) (r : Result Outcome Refusal) → eqb (length (targets (view t) c n)) 0 ≡ true → ◌≡◌ {A = Verdict} (Err x) (Err Esrch) → IsErrAnd r (λ y. y ≡ x) → Kills t c n z (settled t r)
+    missed x r b h = refused_by x r (whole (Err x) (λ o. if_yes _ _ _ _ b h))
 
     -- k is what `signal_of` gives
-    module _ (k : ℕ) (u : Unit {0}) (g : v ≡ Ok u) (b : natural (to_z w32 (of_z w32 z)) < signals) (q : k ≡ signal_of z) (r : Outcome) where
-      signal_sent : k ≡ natural (to_z w32 (of_z w32 z))
-      signal_sent = signal_is k (to_z w32 (of_z w32 z)) q b
+    sent_so : (k : ℕ) (r : Outcome) → eqb (length (targets (view t) c n)) 0 ≡ false → natural (to_z w32 (of_z w32 z)) < signals → k ≡ signal_of z → Sends t c (targets (view t) c n) k r → Kills t c n z r
+    unfolding kill kill_by sends
+    sent_so k r somebody b q a =
+        record { always = comes (sends_by t c) a.always; as_defined = λ s. comes (sends t c) (a.as_defined low s) }
+      where
+        signal_sent : k ≡ natural (to_z w32 (of_z w32 z))
+        signal_sent = signal_is k (to_z w32 (of_z w32 z)) q b
 
-      low : k < signals
-      low = subst (λ j. j < signals) (sym signal_sent) b
+        low : k < signals
+        low = subst (λ j. j < signals) (sym signal_sent) b
 
-      comes : (send : List ℕ → ℕ → Outcome) → r ≡ send (targets (view t) c n) k → r ≡ kill_with send t c n z
-      comes send a =
-          judged_grants t (kill_refusals (view t) c n z) (λ y. send (targets (view t) c n) (natural z)) u r (sym g ∙ ruled)
-          (a ∙ ap (send (targets (view t) c n)) (signal_sent ∙ ap natural (to_z-of_z w32 z fits)))
+        comes : (send : List ℕ → ℕ → Outcome) → r ≡ send (targets (view t) c n) k → r ≡ kill_with send t c n z
+        comes send e =
+            judged_grants t (kill_refusals (view t) c n z) (λ y. send (targets (view t) c n) (natural z)) tt r
+            (whole (Ok tt) (λ o. if_no _ _ _ _ somebody refl))
+            (e ∙ ap (send (targets (view t) c n)) (signal_sent ∙ ap natural (to_z-of_z w32 z fits)))
 
-      sent_so : Sends t c (targets (view t) c n) k r → Kills t c n z r
-      unfolding kill kill_by sends
-      sent_so a = record { always = comes (sends_by t c) a.always; as_defined = λ s. comes (sends t c) (a.as_defined low s) }
+    -- ---- to one: s is what `named` gives
 
-    passes : (u : Unit {0}) → v ≡ Ok u → NoneHolds (kill_refusals (view t) c n z)
-    passes u g = none_holds (kill_refusals (view t) c n z) (sym g ∙ ruled)
+    module _ (s : Option ProcSlot) (e : process_found s ≡ named (view t) c (to_z w32 (of_z w32 n))) (o : names_everyone n ≡ false) where
+      slot : process_found s ≡ named (view t) c n
+      slot = e ∙ ap (named (view t) c) (to_z-of_z w32 n fits_n)
 
--- ---- to one: s is what `named` gives, and b says that it gave none
+      -- the list of the one, if there is one
+      the_one : targets (view t) c n ≡ (when eqb (process_found s) process_slots then [] else process_found s ∷ [])
+      the_one =
+          targets_one (view t) c n no_group o
+          ∙ ap (λ j. when eqb j process_slots then [] else j ∷ []) (sym slot)
 
-module _ (t : Table) (c : ℕ) (n z : ℤ) (fits_n : SFits w32 n) (fits : SFits w32 z) (s : Option ProcSlot) (b : Bool) (v : Verdict) (e : process_found s ≡ named (view t) c (to_z w32 (of_z w32 n))) (ew : IfSome s (λ j. j.0 < process_slots)) (eb : is_some s ≡ not b) (m : Told v (to_z w32 (of_z w32 n)) (to_z w32 (of_z w32 z)) b) (o : names_everyone n ≡ false) where
-  slot : process_found s ≡ named (view t) c n
-  slot = e ∙ ap (named (view t) c) (to_z-of_z w32 n fits_n)
+      pub one_missed : s ≡ None → (x : Refusal) (r : Result Outcome Refusal) → ◌≡◌ {A = Result ProcSlot Refusal} (Err x) (ok_or s Esrch) → IsErrAnd r (λ y. y ≡ x) → Kills t c n z (settled t r)
+      one_missed f x r h =
+          missed x r
+          (ap (λ l. eqb (length l) 0) (the_one ∙ pick_yes _ _ _ (eq-eqb (process_found s) process_slots (ap process_found f))))
+          (refused_or Esrch x (h ∙ ap (λ y. ok_or y Esrch) f))
 
-  -- the list of the one, if there is one
-  the_one : names_group n ≡ false → targets (view t) c n ≡ (when b then [] else process_found s ∷ [])
-  the_one g =
-      targets_one (view t) c n g o
-      ∙ ap (λ j. when eqb j process_slots then [] else j ∷ []) (sym slot)
-      ∙ ap (λ x. when x then [] else process_found s ∷ []) (sym (no_process_is s b eb ew))
+      pub one_comes : (k : ℕ) (i : ProcSlot) (r : Outcome) → s ≡ Some i → IfSome s (λ j. j.0 < process_slots) → natural (to_z w32 (of_z w32 z)) < signals → k ≡ signal_of z → Sends t c (i.0 ∷ []) k r → Kills t c n z r
+      one_comes k i r f w l q a =
+          let h : i.0 < process_slots = subst (λ y. IfSome y (λ j. j.0 < process_slots)) f w in
+          let is : process_found s ≡ i.0 = ap process_found f in
+          let only : targets (view t) c n ≡ i.0 ∷ [] =
+          the_one
+          ∙ pick_no _ _ _ (ne_eqb (process_found s) process_slots (λ (y : process_found s ≡ process_slots). omega (arith, h, is, y)))
+          ∙ ap (λ j. j ∷ []) is
+          in
+          sent_so k r (ap (λ l. eqb (length l) 0) only) l q (subst (λ l. Sends t c l k r) (sym only) a)
 
-  counts : (x : Bool) → x ≡ eqb (length (when x then [] else process_found s ∷ [])) 0
-  counts true = refl
-  counts false = refl
+    -- ---- to many: f lists the others, and b is whether it is empty
 
-  found : names_group n ≡ false → b ≡ eqb (length (targets (view t) c n)) 0
-  found g = counts b ∙ ap (λ l. eqb (length l) 0) (sym (the_one g))
+    module _ (f : ArrayVec ProcSlot) (l : Lists f (others (view t) c)) (b : Bool) (e : b ≡ eqb (array_vec_len f) 0) (o : names_everyone n ≡ true) where
+      all_others : targets (view t) c n ≡ others (view t) c
+      all_others = targets_everyone (view t) c n o
 
-  pub one_refused : (x : Refusal) (r : Result Outcome Refusal) → v ≡ Err x → IsErrAnd r (λ y. y ≡ x) → Kills t c n z (settled t r)
-  one_refused = refused_so t c n z fits_n fits b v m found
+      counted : b ≡ eqb (length (targets (view t) c n)) 0
+      counted = e ∙ ap (λ k. eqb k 0) (l.count ∙ ap length (sym all_others))
 
-  pub one_comes : (k : ℕ) (u : Unit {0}) (i : ProcSlot) (r : Outcome) → v ≡ Ok u → natural (to_z w32 (of_z w32 z)) < signals → s ≡ Some i → k ≡ signal_of z → Sends t c (i.0 ∷ []) k r → Kills t c n z r
-  unfolding place
-  one_comes k u i r g l f q a =
-      let none = passes t c n z fits_n fits b v m found u g in
-      let only = sym (the_one (none Enosys) ∙ pick_no b [] (process_found s ∷ []) (found (none Enosys) ∙ none Esrch) ∙ ap (λ x. process_found x ∷ []) f) in
-      sent_so t c n z fits_n fits b v m found k u g l q r (subst (λ x. Sends t c x k r) only a)
+      pub others_missed : (x : Refusal) (r : Result Outcome Refusal) → Err x ≡ tested b Esrch → IsErrAnd r (λ y. y ≡ x) → Kills t c n z (settled t r)
+      others_missed x r h =
+          refused_by x r (whole (Err x) (λ y. h ∙ ap (λ k. tested k Esrch) counted))
 
--- ---- to many: f lists the others, and h is how many there are
-
-module _ (t : Table) (c : ℕ) (n z : ℤ) (fits_n : SFits w32 n) (fits : SFits w32 z) (f : ArrayVec ProcSlot) (h : ℕ) (v : Verdict) (l : Lists f (others (view t) c)) (e : h ≡ array_vec_len f) (m : Told v (to_z w32 (of_z w32 n)) (to_z w32 (of_z w32 z)) (eqb h 0)) (o : names_everyone n ≡ true) where
-  all_others : targets (view t) c n ≡ others (view t) c
-  all_others = targets_everyone (view t) c n o
-
-  counted : names_group n ≡ false → eqb h 0 ≡ eqb (length (targets (view t) c n)) 0
-  counted g = ap (λ k. eqb k 0) (e ∙ l.count ∙ ap length (sym all_others))
-
-  pub others_refused : (x : Refusal) (r : Result Outcome Refusal) → v ≡ Err x → IsErrAnd r (λ y. y ≡ x) → Kills t c n z (settled t r)
-  others_refused = refused_so t c n z fits_n fits (eqb h 0) v m counted
-
-  pub others_come : (k : ℕ) (u : Unit {0}) (r : Outcome) → v ≡ Ok u → natural (to_z w32 (of_z w32 z)) < signals → k ≡ signal_of z → (Lists f (others (view t) c) → Sends t c (others (view t) c) k r) → Kills t c n z r
-  others_come k u r g b q a =
-      sent_so t c n z fits_n fits (eqb h 0) v m counted k u g b q r (subst (λ is. Sends t c is k r) (sym all_others) (a l))
+      pub others_come : (k : ℕ) (y : Unit {0}) (r : Outcome) → Ok y ≡ tested b Esrch → natural (to_z w32 (of_z w32 z)) < signals → k ≡ signal_of z → (Lists f (others (view t) c) → Sends t c (others (view t) c) k r) → Kills t c n z r
+      others_come k y r h d q a =
+          sent_so k r (sym counted ∙ (passed Esrch b y (Ok tt) h).0) d q (subst (λ is. Sends t c is k r) (sym all_others) (a l))
 
 -- ---- kill itself: b is what `names_everyone` gives of the first argument
 

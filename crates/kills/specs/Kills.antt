@@ -1,16 +1,23 @@
 -- kill as the code brings it about: the definition's, but for the deliveries, which are those of `delivery`.
-use Rattle.std.specs.Prelude.{ℕ, ◌<◌, List, ◌≡◌, ℤ}
+use Rattle.std.specs.Prelude.{ℕ, ◌<◌, Bool, not, List, [], ◌∷◌, ◌≡◌, ℤ}
 use Rattle.std.proofs.Math.Bool.{So}
 use Rattle.delivery.specs.Delivery.{deliver_all_by}
 use Rattle.rules.specs.Answers.{judged, answers}
-use Rattle.rules.specs.Calls.{natural, targets, kill_refusals, kill}
+use Rattle.rules.specs.Calls.{within, natural, names_group, targets, kill_refusals, kill}
 use Rattle.rules.specs.Delivery.{deliver_all}
 use Rattle.rules.specs.Freeing.{freed}
 use Rattle.rules.specs.Read.{view}
 use Rattle.rules.specs.Sound.{sound}
 use Rattle.table.specs.Limits.{signals}
 use Rattle.table.specs.declared.Outcome.{Outcome}
+use Rattle.table.specs.declared.Refusal.{Refusal}
+use Rattle.table.specs.declared.Refusal.TheVariants.{Einval, Enosys}
 use Rattle.table.specs.declared.Table.{Table}
+
+-- ---- the refusals but the last: no signal, and a group
+
+abbrev pub first_refusals : ℤ → ℤ → List (Refusal × Bool)
+first_refusals n s = (Einval, not (within 0 signals s)) ∷ (Enosys, names_group n) ∷ []
 
 -- ---- what is left once it is not refused: what becomes of those whom it found
 

@@ -1,14 +1,14 @@
 // kill: a signal to one, or to all others. The refusals stand in document 01's order.
 #![tactic(auto, using(table::proofs::Chains::chains))]
 
-ghost use Rattle.std.specs.Prelude.{true, false, [], ◌∷◌, ◌≡◌, eqb, length, ℕ, ◌<◌, OnOk};
+ghost use Rattle.std.specs.Prelude.{true, false, [], ◌∷◌, ◌≡◌, ◌<◌, OnOk};
 ghost use Rattle.arguments.specs.Arguments.{names_everyone};
 ghost use Rattle.delivery.specs.Targets.{Lists};
-ghost use Rattle.kills.specs.Kills.{Sends, Kills};
+ghost use Rattle.kills.specs.Kills.{first_refusals, Sends, Kills};
 ghost use Rattle.outcomes.specs.Verdicts.{settled, verdict};
-ghost use Rattle.rules.specs.Calls.{natural, others as others_of, names_group, targets, kill_refusals};
+ghost use Rattle.rules.specs.Calls.{natural, others as others_of};
 ghost use Rattle.table.specs.Limits.{signals};
-ghost use Rattle.rules.specs.Read.{View, view};
+ghost use Rattle.rules.specs.Read.{view};
 
 use arguments::{is_signal, names_everyone, names_group, signal_of};
 use callers::named;
@@ -17,15 +17,13 @@ use ending::free_unheld;
 use outcomes::{answers, refuse_if};
 use table::{Outcome, ProcSlot, Refusal, Table};
 
-// Whether signal s may be sent to those that the number n means, who are nobody or not.
-fn may_kill(n: i32, s: i32, nobody: bool) -> Result<(), Refusal>
-    ensures verdict { (v : View) (c : ℕ) → (names_group n ≡ false → nobody ≡ eqb (length (targets v c n)) 0) → result ≡ verdict (kill_refusals v c n s) }
+// Whether s is a signal, and the number n no group's: the refusals but the last, which is the searches' own.
+fn may_kill(n: i32, s: i32) -> Result<(), Refusal>
+    ensures verdict { result ≡ verdict (first_refusals n s) }
     ensures signal { OnOk result (natural s < signals) }
-    ensures somebody { OnOk result (nobody ≡ false) }
 {
     refuse_if(!is_signal(s), Refusal::Einval)?;
-    refuse_if(names_group(n), Refusal::Enosys)?;
-    refuse_if(nobody, Refusal::Esrch)
+    refuse_if(names_group(n), Refusal::Enosys)
 }
 
 // A signal to the process at a slot.
@@ -36,14 +34,13 @@ fn send_one(t: Table, caller: ProcSlot, slot: ProcSlot, s: u8) -> Outcome
     answers(free_unheld(deliver(t, p.own, slot, s)), 0)
 }
 
-// A signal to the one that a number names. Whether it names somebody is one test of the refusals, so the search comes
-// before them.
+// A signal to the one that a number names.
 fn kill_one(t: Table, caller: ProcSlot, n: i32, s: i32) -> Result<Outcome, Refusal>
     ensures { names_everyone n ≡ false → Kills t caller.0 n s (settled t result) }
 {
-    let slot = named(t, caller, n);
-    may_kill(n, s, slot.is_none())?;
-    Ok(send_one(t, caller, slot.unwrap(), signal_of(s)))
+    may_kill(n, s)?;
+    let slot = named(t, caller, n).ok_or(Refusal::Esrch)?;
+    Ok(send_one(t, caller, slot, signal_of(s)))
 }
 
 // A signal to all of a list, the others that the caller sees. (It is no function for any list, of one too: document 01's
@@ -55,12 +52,13 @@ fn send_all(t: Table, caller: ProcSlot, found: &Targets, s: u8) -> Outcome
     answers(free_unheld(deliver_all(t, sender.own, found, s)), 0)
 }
 
-// A signal to all that the caller sees but itself and number 1. They are listed before the refusals, as in kill_one.
+// A signal to all that the caller sees but itself and number 1.
 fn kill_others(t: Table, caller: ProcSlot, n: i32, s: i32) -> Result<Outcome, Refusal>
     ensures { names_everyone n ≡ true → Kills t caller.0 n s (settled t result) }
 {
+    may_kill(n, s)?;
     let found = others(&t, caller);
-    may_kill(n, s, found.len() == 0)?;
+    refuse_if(found.is_empty(), Refusal::Esrch)?;
     Ok(send_all(t, caller, &found, signal_of(s)))
 }
 
