@@ -7,7 +7,7 @@ ghost use Rattle.rules.specs.Freeing.{freed};
 ghost use Rattle.table.specs.Limits.{process_slots};
 ghost use Rattle.table.specs.Records.{as_ended};
 ghost use Rattle.table.specs.Slots.{no_process};
-ghost use Rattle.tree.specs.Tree.{slot_in, level_in, seen_from};
+ghost use Rattle.tree.specs.Tree.{ups_of, levels_of, slot_in, level_in, seen_from};
 ghost use Rattle.ending.specs.Ending.{killed as killed_by_9, dies_with, once_dead, marked_dead, falls_with, end_member, end_namespace, once_swept, swept, end_init, once_handed, handed_over, Ends};
 ghost use Rattle.ending.specs.Holding.{mark_at, marks_of, keeps, kept_for, once_freed};
 
@@ -224,40 +224,60 @@ fn held(t: &Table) -> [bool; NAMESPACE_SLOTS]
     marks
 }
 
-// Whether the namespace m is marked and lies in the subtree of n.
-#[tactic(auto, using(table::proofs::Chains::chains), unfolding(crate::specs::Holding::keeps))]
-fn keeps(tree: &Tree, marks: &[bool; NAMESPACE_SLOTS], n: NsSlot, m: NsSlot) -> bool
-    ensures { result ≡ keeps (slot_in tree.now.parents) (level_in tree.now.levels) (mark_at marks.now) n.0 m.0 }
-{
-    at(marks, m.0, false) && tree.below(m, n, tree.level(m))
+// What freeing reads: the tree, and which namespaces some process holds.
+#[derive(Drop)]
+struct Holding {
+    tree: Tree,
+    marks: [bool; NAMESPACE_SLOTS],
 }
 
-// Whether n stays: it is the root, or some namespace keeps it.
-fn is_kept(tree: &Tree, marks: &[bool; NAMESPACE_SLOTS], n: NsSlot) -> bool
-    ensures { result ≡ kept_for (slot_in tree.now.parents) (level_in tree.now.levels) (mark_at marks.now) n.0 }
-{
-    n.0 == 0 || (0..NAMESPACE_SLOTS as u8).any(|m| keeps(tree, marks, n, NsSlot(m)))
-}
-
-// What is left of the namespace s at slot n. Most slots are blank, and need no climbs.
-#[tactic(auto, using(table::proofs::Chains::chains, crate::proofs::Freeing::freed_blank), unfolding(crate::specs::Holding::once_freed))]
-fn once_freed(tree: &Tree, marks: &[bool; NAMESPACE_SLOTS], n: NsSlot, s: &Namespace) -> Namespace
-    ensures { result ≡ once_freed (slot_in tree.now.parents) (level_in tree.now.levels) (mark_at marks.now) n.0 s.now }
-{
-    if is_blank_namespace(s) || is_kept(tree, marks, n) {
-        return *s;
+impl Holding {
+    // That of a table.
+    fn of(t: &Table) -> Holding
+        ensures parents { slot_in result.tree.parents ≡ ups_of t.now.namespaces }
+        ensures levels { level_in result.tree.levels ≡ levels_of t.now.namespaces }
+        ensures marks { result.marks ≡ marks_of t.now }
+    {
+        Holding {
+            tree: Tree::of(&t.namespaces),
+            marks: held(t),
+        }
     }
-    empty_namespace()
+
+    // Whether the namespace m is marked and lies in the subtree of n.
+    #[tactic(auto, using(table::proofs::Chains::chains), unfolding(crate::specs::Holding::keeps))]
+    fn keeps(&self, n: NsSlot, m: NsSlot) -> bool
+        ensures { result ≡ keeps (slot_in self.now.tree.parents) (level_in self.now.tree.levels) (mark_at self.now.marks) n.0 m.0 }
+    {
+        at(&self.marks, m.0, false) && self.tree.below(m, n, self.tree.level(m))
+    }
+
+    // Whether n stays: it is the root, or some namespace keeps it.
+    fn is_kept(&self, n: NsSlot) -> bool
+        ensures { result ≡ kept_for (slot_in self.now.tree.parents) (level_in self.now.tree.levels) (mark_at self.now.marks) n.0 }
+    {
+        n.0 == 0 || (0..NAMESPACE_SLOTS as u8).any(|m| self.keeps(n, NsSlot(m)))
+    }
+
+    // What is left of the namespace s at slot n. Most slots are blank, and need no climbs.
+    #[tactic(auto, using(table::proofs::Chains::chains, crate::proofs::Freeing::freed_blank), unfolding(crate::specs::Holding::once_freed))]
+    fn once_freed(&self, n: NsSlot, s: &Namespace) -> Namespace
+        ensures { result ≡ once_freed (slot_in self.now.tree.parents) (level_in self.now.tree.levels) (mark_at self.now.marks) n.0 s.now }
+    {
+        if is_blank_namespace(s) || self.is_kept(n) {
+            return *s;
+        }
+        empty_namespace()
+    }
 }
 
 // Frees the namespaces that nobody holds, upward as far as that goes.
 pub fn free_unheld(mut t: Table) -> Table
     ensures { result ≡ freed t }
 {
-    let tree = Tree::of(&t.namespaces);
-    let marks = held(&t);
+    let holding = Holding::of(&t);
     for (i, s) in t.namespaces.iter_mut().enumerate() {
-        *s = once_freed(&tree, &marks, NsSlot(i as u8), s);
+        *s = holding.once_freed(NsSlot(i as u8), s);
     }
     t
 }

@@ -7,4 +7,4 @@ use Rattle.ending.specs.Holding.{mark_at, once_freed}
 use Rattle.ending.proofs.free_unheld.Given as goal
 
 abbrev pub invariant-loop-i : goal.invariant-loop-i
-invariant-loop-i l = Mapped namespace_slots (once_freed (slot_in l.tree.parents) (level_in l.tree.levels) (mark_at l.marks)) no_namespace l.initial.s-items l.s-items l.i
+invariant-loop-i l = Mapped namespace_slots (once_freed (slot_in l.holding.tree.parents) (level_in l.holding.tree.levels) (mark_at l.holding.marks)) no_namespace l.initial.s-items l.s-items l.i
