@@ -167,6 +167,7 @@ fn pids_at(processes: &[Process; PROCESS_SLOTS], level: u8) -> [Pid; PROCESS_SLO
 }
 
 // A slot put at its place by ascending number: before the first with a higher one.
+// By `position`: `partition_point` wants a list known to be sorted, a fact that this and `others` would have to carry.
 fn insert(found: &mut Targets, pids: &[Pid; PROCESS_SLOTS], slot: ProcSlot)
     requires { array_vec_len found.old < process_slots }
     ensures len { array_vec_len found.new ≡ array_vec_len found.old + 1 }
