@@ -1,4 +1,3 @@
-pub mod EachRow
 pub mod Places
 pub mod Masks
 pub mod Marks

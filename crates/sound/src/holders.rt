@@ -5,9 +5,8 @@ ghost use Rattle.table.specs.Limits.{namespace_slots};
 ghost use Rattle.rules.specs.Read.{view};
 ghost use Rattle.sound.specs.Quick.{process_row, namespace_row, mark_namespace, held_by_processes, held_by_children, key_in, unborn_key, unborn_keys, differ};
 
-use super::columns::column;
 use super::numbers::all_differ;
-use table::{NAMESPACE_SLOTS, Namespace, NsSlot, PROCESS_SLOTS, Process, Table, set_at};
+use table::{NAMESPACE_SLOTS, Namespace, NsSlot, PROCESS_SLOTS, Process, Table, column, set_at};
 use tree::{holds_namespace, mark_process};
 
 // ---- which namespaces something holds

@@ -1,7 +1,6 @@
 // The check of a whole table, in passes. What a pass does at a slot it does with the records that it finds there.
 #![tactic(auto, using(table::proofs::Chains::chains))]
 
-mod columns;
 mod holders;
 mod namespaces;
 mod numbers;

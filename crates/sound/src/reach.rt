@@ -5,8 +5,7 @@ ghost use Rattle.rules.specs.Read.{view};
 ghost use Rattle.rules.specs.Sound.{reaches_root};
 ghost use Rattle.sound.specs.Quick.{process_in, reach_ok};
 
-use super::columns::column;
-use table::{PROCESS_SLOTS, ProcSlot, Table, at};
+use table::{PROCESS_SLOTS, ProcSlot, Table, at, column};
 
 // The parents of all processes.
 fn parents(t: &Table) -> [ProcSlot; PROCESS_SLOTS]

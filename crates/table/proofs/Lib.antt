@@ -8,5 +8,6 @@ pub mod IterLaws
 pub mod FoldLoops
 pub mod MapLoops
 pub mod MarkLoops
+pub mod EachRow
 -- Slots read and put.
 pub mod Slots

@@ -2,10 +2,11 @@
 // in specs/, and goes on in the specs/ of `rules` and `sameness`.
 #![tactic(auto)]
 
-ghost use Rattle.std.specs.Prelude.{◌≡◌, not, eqb, get_or, set};
+ghost use Rattle.std.specs.Fn.{FnReturnsAt};
+ghost use Rattle.std.specs.Prelude.{ℕ, ◌<◌, ◌≡◌, not, eqb, get_or, set, length};
 ghost use Rattle.table.specs.Fresh.{empty_process, empty_namespace, fresh as fresh_table};
 ghost use Rattle.table.specs.Traits.{no_traits, born_traits, ended_traits, with_signals};
-ghost use Rattle.table.specs.Slots.{namespace, pid_at, is_running, is_ended, is_unborn, is_alive, is_dead, init_of, put, put_namespace};
+ghost use Rattle.table.specs.Slots.{no_process, namespace, pid_at, is_running, is_ended, is_unborn, is_alive, is_dead, init_of, put, put_namespace};
 
 // ---- the numbers of document 01, each named once
 
@@ -304,6 +305,25 @@ pub fn set_at<T: Copy, const N: usize>(items: &mut [T; N], slot: u8, item: T)
     if i < N {
         items[i] = item;
     }
+}
+
+// ---- what a function makes of each process
+
+// At each slot what `of` returns for the process there.
+pub fn column<T: Copy, F: Fn(&Process) -> T>(
+    processes: &[Process; PROCESS_SLOTS],
+    past: T,
+    of: F,
+) -> [T; PROCESS_SLOTS]
+    requires { F.IsAlwaysCallable of }
+    ensures length { length result ≡ length processes.now }
+    ensures each { (i : ℕ) → i < length processes.now → FnReturnsAt F.Fn of (get_or processes.now i no_process) (get_or result i past) }
+{
+    let mut column = [past; PROCESS_SLOTS];
+    for (i, p) in processes.iter().enumerate() {
+        column[i] = of(p);
+    }
+    column
 }
 
 // ---- reading a record

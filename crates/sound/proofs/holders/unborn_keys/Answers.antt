@@ -8,7 +8,7 @@ use Rattle.table.specs.Tests.{◌and◌}
 use Rattle.table.specs.declared.Process.{Process}
 use Rattle.rules.specs.Read.{taken, namespace_taken}
 use Rattle.sound.specs.Quick.{process_row, namespace_row, unborn_key}
-use Rattle.sound.proofs.EachRow.{column_reads}
+use Rattle.table.proofs.EachRow.{column_reads}
 use Rattle.sound.proofs.holders.unborn_keys.Goals as goal
 
 pub returns : goal.returns

@@ -7,7 +7,7 @@ use Rattle.table.specs.declared.Process.{Process}
 use Rattle.rules.specs.Read.{taken}
 use Rattle.tree.specs.Tree.{slot_in}
 use Rattle.sound.specs.Quick.{process_row, pid_key}
-use Rattle.sound.proofs.EachRow.{column_reads}
+use Rattle.table.proofs.EachRow.{column_reads}
 use Rattle.sound.proofs.numbers.pid_keys.Goals as goal
 
 pub returns : goal.returns

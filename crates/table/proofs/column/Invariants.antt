@@ -4,7 +4,7 @@ use mathlib.Core.Path.{◌≡◌}
 use lib.ListN.{length, get_or}
 use Rattle.std.specs.Fn.{FnReturnsAt}
 use Rattle.table.specs.Slots.{no_process}
-use Rattle.sound.proofs.columns.column.Given as goal
+use Rattle.table.proofs.column.Given as goal
 
 abbrev pub invariant-loop-i : goal.invariant-loop-i
 invariant-loop-i g l = record {
