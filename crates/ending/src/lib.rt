@@ -13,7 +13,7 @@ ghost use Rattle.ending.specs.Holding.{mark_at, marks_of, keeps, kept_for, once_
 
 use table::{
     DEEPEST, End, Life, NAMESPACE_SLOTS, NO_SLOT, Namespace, NsSlot, PROCESS_SLOTS, ProcSlot,
-    Process, SIGKILL, State, Table, at, empty_namespace, empty_process, set_at,
+    Process, SIGKILL, State, Table, at, column, empty_namespace, empty_process, set_at,
 };
 use tree::{Tree, is_blank_namespace, mark_process};
 
@@ -134,11 +134,7 @@ fn end_member(t: &mut Table, n: NsSlot, i: usize, left: u8)
 fn insiders(processes: &[Process; PROCESS_SLOTS], tree: &Tree, n: NsSlot) -> [bool; PROCESS_SLOTS]
     ensures { mark_at result ≡ (λ i. seen_from (slot_in tree.now.parents) (level_in tree.now.levels) n.0 (get_or processes.now i no_process)) }
 {
-    let mut inside = [false; PROCESS_SLOTS];
-    for (i, p) in processes.iter().enumerate() {
-        inside[i] = tree.sees(n, p);
-    }
-    inside
+    column(processes, false, |p| tree.sees(n, p))
 }
 
 // What is left of the process p at a slot: nothing, if it and its parent are inside.
