@@ -1,7 +1,6 @@
 -- Laws that belong to no one function.
 pub mod Actions
 pub mod Slots
-pub mod Numbers
 pub mod Inserts
 pub mod Orders
 pub mod Gathers

@@ -21,7 +21,7 @@ use ending::end_process;
 use signals::{default_action, has_signal, with_signal};
 use table::{
     Action, End, NsSlot, PROCESS_SLOTS, Pid, ProcSlot, Process, SIGCONT, SIGKILL, SIGSTOP, State,
-    Table, at,
+    Table, at, column,
 };
 use tree::Tree;
 
@@ -159,11 +159,7 @@ pub type Targets = ArrayVec<ProcSlot, PROCESS_SLOTS>;
 fn pids_at(processes: &[Process; PROCESS_SLOTS], level: u8) -> [Pid; PROCESS_SLOTS]
     ensures { pid_in result ≡ pids_of processes.now level }
 {
-    let mut pids = [Pid(0); PROCESS_SLOTS];
-    for (i, p) in processes.iter().enumerate() {
-        pids[i] = p.pid_at(level);
-    }
-    pids
+    column(processes, Pid(0), |p| p.pid_at(level))
 }
 
 // A slot put at its place by ascending number: before the first with a higher one.

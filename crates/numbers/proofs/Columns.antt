@@ -1,46 +1,26 @@
 -- What the search by marks finds in the columns of a table: the number that the table gives next.
-use Prim.Native.Nat.{ℕ, ◌<◌, ◌≤◌, ◌+◌, ◌-◌}
+use Prim.Native.Nat.{ℕ, ◌<◌, ◌+◌, ◌-◌}
 use mathlib.Core.Bool.{Bool, true, false, not}
 use mathlib.Core.List.{List}
 use mathlib.Core.Path.{◌≡◌, refl, ap, fun_ext, ◌∙◌}
 use native.Mathlib.Omega.{arith}
 use borrow.Author.Tests.{ne_eqb, eqb-true, leb-true}
 use lib.Dec.{eqb, ltb, leb}
-use lib.ListN.{length, get_or}
 use Rattle.numbers.proofs.Choice as choice
 use Rattle.numbers.proofs.Window.{lowest_same, found_free, none_free}
-use Rattle.numbers.specs.Holders.{nobody, own_in, pid_in, unheld_in}
+use Rattle.numbers.specs.Holders.{own_in, pid_in, unheld_in}
 use Rattle.numbers.specs.Marks.{held_pid, unheld, first_of, by_marks}
 use Rattle.numbers.specs.declared.Holder.{Holder}
 use Rattle.rules.specs.Pids.{free_pid, next_pid}
 use Rattle.rules.specs.Read.{view, climb, taken, below, seen, pid_seen}
 use Rattle.table.proofs.Chains.{by_bool, pick_yes, pick_no, and_false_later}
-use Rattle.table.proofs.MapLoops.{Mapped, map_done, filled_reads}
 use Rattle.table.specs.Limits.{process_slots, greatest_pid, restart_pid}
-use Rattle.table.specs.Slots.{process, namespace, no_process, pid_at}
+use Rattle.table.specs.Slots.{process, namespace, pid_at}
 use Rattle.table.specs.Tests.{◌and◌, when◌then◌else◌, any}
 use Rattle.table.specs.declared.Namespace.{Namespace}
-use Rattle.table.specs.declared.Pid.{Pid}
-use Rattle.table.specs.declared.Process.{Process}
 use Rattle.table.specs.declared.Table.{Table}
 use Rattle.tree.specs.Tree.{slot_in, level_in}
 use Rattle.tree.specs.declared.Tree.{Tree}
-
--- ---- the loop that gathers the holders at the level l
-
--- the holder that a process becomes
-abbrev pub holder_of : ℕ → Process → Holder
-holder_of l p = record { own = p.own; pid = record { 0 = held_pid p l } }
-
-pub holder_made : (l : ℕ) (p : Process) (k : Pid) → k.0 ≡ held_pid p l → ◌≡◌ {A = Holder} (record { own = p.own; pid = k }) (holder_of l p)
-holder_made l p k e = ap (λ (x : ℕ). record { own = p.own; pid = record { 0 = x } }) e
-
-module _ (l : ℕ) (ps : List Process) (all₀ all : List Holder) (i : ℕ) (w : Mapped process_slots (λ j x. holder_of l (get_or ps j no_process)) nobody all₀ all i) (h : process_slots ≤ i) (e : length all₀ ≡ process_slots) (d : length ps ≡ process_slots) where
-  pub gathered_own : own_in all ≡ (λ j. (get_or ps j no_process).own.0)
-  gathered_own = filled_reads (holder_of l) no_process (λ (x : Holder). x.own.0) process_slots all₀ all ps (map_done _ _ _ all₀ all i w h) e d
-
-  pub gathered_pid : pid_in all ≡ (λ j. held_pid (get_or ps j no_process) l)
-  gathered_pid = filled_reads (holder_of l) no_process (λ (x : Holder). x.pid.0) process_slots all₀ all ps (map_done _ _ _ all₀ all i w h) e d
 
 -- ---- what is found in them
 

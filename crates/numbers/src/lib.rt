@@ -15,7 +15,7 @@ ghost use Rattle.rules.specs.Pids.{free_pid, next_pid};
 ghost use Rattle.rules.specs.Read.{view};
 
 use climbs::Climbs;
-use table::{GREATEST_PID, NsSlot, PROCESS_SLOTS, Pid, Process, RESTART_PID, Table};
+use table::{GREATEST_PID, NsSlot, PROCESS_SLOTS, Pid, Process, RESTART_PID, Table, column};
 use tree::Tree;
 
 // ---- one candidate after the other
@@ -88,14 +88,11 @@ pub fn holders(processes: &[Process; PROCESS_SLOTS], level: u8) -> [Holder; PROC
         own: NsSlot(0),
         pid: Pid(0),
     };
-    let mut all = [nobody; PROCESS_SLOTS];
-    for (i, p) in processes.iter().enumerate() {
-        all[i] = Holder {
-            own: p.own,
-            pid: held_pid(p, level),
-        };
-    }
-    all
+    let holder = |p: &Process| Holder {
+        own: p.own,
+        pid: held_pid(p, level),
+    };
+    column(processes, nobody, holder)
 }
 
 // The place of the mark that a holder makes: that of its number among the MARKS numbers above `last`. It makes none

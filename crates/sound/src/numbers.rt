@@ -6,7 +6,9 @@ ghost use Rattle.table.specs.Tests.{when◌then◌else◌, all};
 ghost use Rattle.tree.specs.Tree.{slot_in, level_in};
 ghost use Rattle.sound.specs.Quick.{process_row, process_at, key_in, differs_at, differ, raised, itself, pid_key, pid_keys};
 
-use table::{DEEPEST, NAMESPACE_SLOTS, NsSlot, PID_VALUES, PROCESS_SLOTS, Process, Table, at, column};
+use table::{
+    DEEPEST, NAMESPACE_SLOTS, NsSlot, PID_VALUES, PROCESS_SLOTS, Process, Table, at, column,
+};
 use tree::Tree;
 
 // ---- keys; one of 0 is none, as in the definitions of specs/Quick.antt, here and in holders.rt

@@ -1,20 +1,20 @@
--- `holders` makes a holder of each process, by the laws of a loop that changes each element.
+-- The holders as a column, read by either field.
 use mathlib.Core.Path.{refl}
 use borrow.Author.Rules.{rules}
-use Rattle.table.proofs.MapLoops.{map_old_loops}
-use Rattle.numbers.proofs.Columns.{holder_made, gathered_own, gathered_pid}
+use borrow.Author.Tests.{tests}
+use Rattle.table.proofs.EachRow.{column_reads}
+use Rattle.table.specs.declared.Process.{Process}
+use Rattle.numbers.specs.Holders.{nobody}
+use Rattle.numbers.specs.Marks.{held_pid}
+use Rattle.numbers.specs.declared.Holder.{Holder}
 use Rattle.numbers.proofs.holders.Goals as goal
-
-pub loop-i-init : goal.loop-i-init
-loop-i-init c = search map_old_loops
-
-pub loop-i-preserved : goal.loop-i-preserved
-loop-i-preserved c = search (map_old_loops, holder_made)
 
 pub returns-clause-own : goal.returns-clause-own
 returns-clause-own c =
-    gathered_own c.args.level c.args.processes.now _ c.loop-i.all c.loop-i.i c.loop-i.invariant (search rules) refl (search rules)
+    column_reads _ _ (λ (x : Holder). x.own.0) (λ (p : Process). p.own.0) c.args.processes.now nobody c.column.result
+    c.column.ensures.length refl c.column.ensures.each (λ p r q. search (rules, tests))
 
 pub returns-clause-pid : goal.returns-clause-pid
 returns-clause-pid c =
-    gathered_pid c.args.level c.args.processes.now _ c.loop-i.all c.loop-i.i c.loop-i.invariant (search rules) refl (search rules)
+    column_reads _ _ (λ (x : Holder). x.pid.0) (λ (p : Process). held_pid p c.args.level) c.args.processes.now nobody c.column.result
+    c.column.ensures.length refl c.column.ensures.each (λ p r q. search (rules, tests))
