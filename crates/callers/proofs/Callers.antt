@@ -6,21 +6,19 @@ use native.Mathlib.Omega.{arith}
 use mathlib.Core.Bool.{Bool, not}
 use mathlib.Core.List.{List}
 use mathlib.Core.Path.{◌≡◌, refl, sym, ap, ap₂, ◌∙◌}
-use borrow.Author.Tests.{leb-false, ne_eqb, not-true, not-false}
+use borrow.Author.Tests.{leb-false}
 use lib.Dec.{eqb}
 use lib.ListN.{length, get_or}
 use Rattle.outcomes.proofs.Verdicts.{none_holds}
 use Rattle.outcomes.specs.Verdicts.{verdict}
-use Rattle.std.specs.Prelude.{Ok, Option, None, Some, IfSome, is_some}
-use Rattle.tree.specs.Tree.{process_found, namespace_found}
-use Rattle.table.specs.declared.ProcSlot.{ProcSlot}
+use Rattle.std.specs.Prelude.{Ok}
 use Rattle.table.proofs.Slots.{put_past, process_within}
 use Rattle.rules.proofs.Laws.Judged.{place}
 use Rattle.rules.proofs.Laws.ReadAt.{read_at}
 use Rattle.callers.specs.Making.{refusals_at}
 use Rattle.rules.specs.Answers.{answers}
 use Rattle.rules.specs.Calls.{own_level, elsewhere, getpid, getppid}
-use Rattle.table.specs.Limits.{deepest, process_slots, namespace_slots}
+use Rattle.table.specs.Limits.{deepest}
 use Rattle.table.specs.Fresh.{empty_process}
 use Rattle.table.specs.Slots.{process, namespace, pid_at, put}
 use Rattle.rules.specs.Read.{View, view, pid_seen, pid_in}
@@ -74,16 +72,6 @@ module _ (t : Table) (c : ℕ) (p : Process) (e : p ≡ get_or t.processes c emp
       ∙ pid_in_read (view t) up levels p.own.0 p.parent.0 q (read_at t p.parent.0 q d) u l
       ∙ ap (λ n. pid_in (view t) n p.parent.0) (read_at t c p e).own
       ∙ ap (pid_in (view t) ((view t).own c)) (read_at t c p e).parent)
-
--- ---- what a search found: a says that it found none
-
-pub no_process_is : (o : Option ProcSlot) (a : Bool) → is_some o ≡ not a → IfSome o (λ s. s.0 < process_slots) → a ≡ eqb (process_found o) process_slots
-no_process_is None a e l = not-false a (sym e)
-no_process_is (Some s) a e l = not-true a (sym e) ∙ sym (ne_eqb s.0 process_slots (λ n. omega (arith, n)))
-
-pub no_namespace_is : (o : Option NsSlot) (a : Bool) → is_some o ≡ not a → IfSome o (λ s. s.0 < namespace_slots) → a ≡ eqb (namespace_found o) namespace_slots
-no_namespace_is None a e l = not-false a (sym e)
-no_namespace_is (Some s) a e l = not-true a (sym e) ∙ sym (ne_eqb s.0 namespace_slots (λ n. omega (arith, n)))
 
 -- ---- a call that makes a namespace, by a caller at the level l
 

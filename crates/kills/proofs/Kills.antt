@@ -1,10 +1,10 @@
 -- kill: a signal to one or to many.
 use Prim.Native.Nat.{ℕ, ◌<◌, ◌%◌}
-use mathlib.Core.Bool.{Bool, true, false, not}
+use mathlib.Core.Bool.{Bool, true, false}
 use mathlib.Core.List.{List, [], ◌∷◌}
 use mathlib.Core.Path.{◌≡◌, refl, sym, ap, ap₂, subst, subst₂, ◌∙◌}
 use native.Mathlib.Omega.{arith}
-use borrow.Author.Tests.{eq-eqb, ne_eqb, not-false}
+use borrow.Author.Tests.{eq-eqb, ne_eqb}
 use denote.Laws.{Is}
 use lib.Dec.{eqb}
 use lib.IntN.{ℤ, negsuc}
@@ -12,7 +12,7 @@ use lib.ListN.{get_or, length}
 use mir.Syntax.{w32}
 use mir.Val.{Val, SFits, to_z, of_z}
 use mir.ValLaws.{to_z-of_z}
-use Rattle.arguments.proofs.Named.{targets_everyone, targets_one, within_below, signal_is}
+use Rattle.arguments.proofs.Named.{targets_everyone, targets_one, signal_is}
 use Rattle.arguments.specs.Arguments.{names_everyone}
 use Rattle.callers.proofs.Fits.{sound_table}
 use Rattle.delivery.proofs.Kills.{kills_one, kills_others}
@@ -21,7 +21,7 @@ use Rattle.delivery.specs.Targets.{Lists, listed, numbers}
 use Rattle.kills.specs.Kills.{first_refusals, sends, sends_by, Sends, kill_with, kill_by, Kills}
 use Rattle.outcomes.proofs.Verdicts.{Verdict, err_ok, judged_grants, judged_refuses, none_holds, passed, refused_or, tested}
 use Rattle.outcomes.specs.Verdicts.{settled, verdict}
-use Rattle.std.specs.Prelude.{Result, Ok, Err, Option, Some, None, IfSome, ok_or, OnOk}
+use Rattle.std.specs.Prelude.{Result, Ok, Err, Option, Some, None, IfSome, ok_or}
 use Rattle.std.specs.Result.{IsErrAnd}
 use Rattle.arrayvec.specs.ArrayVec.{ArrayVec, array_vec_len}
 use Rattle.tree.specs.Tree.{process_found}
@@ -31,7 +31,7 @@ use Rattle.rules.proofs.Laws.Judged.{place}
 use Rattle.rules.proofs.Laws.ReadAt.{read_at}
 use Rattle.table.specs.contracts.Table as T
 use Rattle.rules.specs.Answers.{answers}
-use Rattle.rules.specs.Calls.{within, natural, named, others, targets, names_group, kill_refusals, kill}
+use Rattle.rules.specs.Calls.{natural, named, others, targets, names_group, kill_refusals, kill}
 use Rattle.rules.specs.Delivery.{deliver_all}
 use Rattle.rules.specs.Freeing.{freed}
 use Rattle.table.specs.Fresh.{empty_process}
@@ -43,15 +43,6 @@ use Rattle.table.specs.declared.Process.{Process}
 use Rattle.table.specs.declared.Refusal.TheVariants.{Einval, Enosys, Esrch}
 use Rattle.table.specs.declared.Refusal.{Refusal}
 use Rattle.table.specs.declared.Table.{Table}
-
--- ---- the verdict r of the first two: y is what `is_signal` gives of the argument z, and g what `names_group` gives
-
-pub kill_low : (z : ℤ) (y g : Bool) (u : Unit {0}) (r : Verdict) → y ≡ within 0 signals z → Ok u ≡ tested (not y) Einval → r ≡ tested g Enosys → OnOk r (natural z < signals)
-kill_low z y g u r d good last = subst (λ q. OnOk q (natural z < signals)) (sym last) (by g)
-  where
-    by : (b : Bool) → OnOk (tested b Enosys) (natural z < signals)
-    by true = tt
-    by false = within_below 0 signals z (sym d ∙ not-false y (passed Einval (not y) u (Ok tt) good).0)
 
 -- ---- what is sent: p is the process read at the caller's slot, u the table after the deliveries, and w without what nobody
 -- holds

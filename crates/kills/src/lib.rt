@@ -43,8 +43,8 @@ fn kill_one(t: Table, caller: ProcSlot, n: i32, s: i32) -> Result<Outcome, Refus
     Ok(send_one(t, caller, slot, signal_of(s)))
 }
 
-// A signal to all of a list, the others that the caller sees. (One function for any list, also of one, could not promise
-// document 01's delivery: that is shown of a list of one and of this list, by a proof each.)
+// A signal to all of a list, the others that the caller sees. (One function for any list, also of one, could not
+// promise document 01's delivery: that is shown of a list of one and of this list, by a proof each.)
 fn send_all(t: Table, caller: ProcSlot, found: &Targets, s: u8) -> Outcome
     ensures { Lists found.now (others_of (view t) caller.0) → Sends t caller.0 (others_of (view t) caller.0) s result }
 {

@@ -20,7 +20,8 @@ use turns::turn;
 
 // ---- a script
 
-// Tells that the buffer is too short: C reads a number, and no Option. No buffer is so long, so it is no count of answers.
+// Tells that the buffer is too short: C reads a number, and no Option. No buffer is so long, so it is no count of
+// answers.
 const SHORT: usize = 18446744073709551615;
 
 // How many lines a script has. A line is counted where it begins, since its line feed may be missing.

@@ -27,8 +27,8 @@ first_of m f last =
     let x = lowest f m (last + 1) in
     when ltb x (last + 1 + m) and leb x greatest_pid then x else 0
 
--- The number by marks: the first of the m above `last`, or else, where these reach to 32,767, the first of the m from 300
--- on. Where the marks run out it is 0.
+-- The number by marks: the first of the m above `last`, or else, where these reach to 32,767, the first of the m from
+-- 300 on. Where the marks run out it is 0.
 unfoldable pub by_marks : ℕ → (ℕ → Bool) → ℕ → ℕ
 by_marks m f last =
     let x = first_of m f last in

@@ -96,8 +96,8 @@ pub fn holders(processes: &[Process; PROCESS_SLOTS], level: u8) -> [Holder; PROC
 }
 
 // The place of the mark that a holder makes: that of its number among the MARKS numbers above `last`. It makes none
-// where the number is not one of them or the holder is not seen. The climb comes last, since it takes longest. (Pids are
-// subtracted here, so they are compared by their numbers.)
+// where the number is not one of them or the holder is not seen. The climb comes last, since it takes longest. (Pids
+// are subtracted here, so they are compared by their numbers.)
 fn place_above(climbs: &mut Climbs, last: Pid, holder: &Holder) -> Option<usize>
     ensures place { unwrap_or result count ≡ place_from count last.0 holder.now.pid.0 (below_in climbs.old holder.now.own.0) }
     ensures within { IfSome result (λ k. k < count) }

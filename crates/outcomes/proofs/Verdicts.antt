@@ -1,5 +1,5 @@
 -- A call whose refusals have a verdict.
-use mathlib.Core.Bool.{Bool, true, false, ◌||◌, false≢true}
+use mathlib.Core.Bool.{Bool, true, false, false≢true}
 use mathlib.Core.List.{List, [], ◌∷◌}
 use mathlib.Core.Path.{◌≡◌, refl, sym, ◌∙◌, ap}
 use lib.Dec.{eqb}
@@ -9,7 +9,7 @@ use Rattle.outcomes.specs.Verdicts.{settled, verdict}
 use Rattle.rules.proofs.Laws.Judged.{None, place}
 use Rattle.rules.proofs.Laws.Tests.{choose}
 use Rattle.rules.specs.Answers.{judged, refused}
-use Rattle.table.specs.Tests.{◌or◌, when◌then◌else◌}
+use Rattle.table.specs.Tests.{when◌then◌else◌}
 use Rattle.table.specs.declared.Outcome.{Outcome}
 use Rattle.table.specs.declared.Refusal.{Refusal}
 use Rattle.table.specs.declared.Table.{Table}
@@ -48,12 +48,6 @@ refused_or {A} e d h = ap again h
     again : Result A Refusal → Verdict
     again (Ok x) = Ok tt
     again (Err x) = Err x
-
--- two tests of one refusal, as the code joins them
-pub either : (a b : Bool) → (a || b) ≡ a or b
-unfolding ◌or◌
-either true b = refl
-either false b = refl
 
 -- what is granted passed the test
 pub passed : (e : Refusal) (b : Bool) (u : Unit {0}) (v : Verdict) → Ok u ≡ (when b then Err e else v) → (b ≡ false) × (Ok u ≡ v)

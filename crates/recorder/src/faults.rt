@@ -53,8 +53,8 @@ pub(crate) fn fail(rt: &HostRuntime, what: &[u8], error: &io::Error) -> Stopped 
 
 // ---- what is tried again
 
-// A read or a write that has just failed may be tried again where a signal interrupted it, or where it would have had to
-// wait. Of any other it says why it failed.
+// A read or a write that has just failed may be tried again where a signal interrupted it, or where it would have had
+// to wait. Of any other it says why it failed.
 pub(crate) fn may_retry(rt: &HostRuntime, what: &[u8], error: &io::Error) -> Result<(), Stopped> {
     match error.kind() {
         ErrorKind::Interrupted => Ok(()),

@@ -76,8 +76,9 @@ fn read_all<R: Read, W: Write>(
     Err(Stopped)
 }
 
-// Runs a whole script. (The reader and its name go through to `read_some`, and the writer to `write_out`: two borrows of
-// types that the caller picks, which a struct would only carry.) After an error the open line is not run: nobody knows how it would have gone on.
+// Runs a whole script. (The reader and its name go through to `read_some`, and the writer to `write_out`: two borrows
+// of types that the caller picks, which a struct would only carry.) After an error the open line is not run: nobody
+// knows how it would have gone on.
 #[tactic(auto, using(crate::proofs::Ending::end_laws))]
 pub(crate) fn run<R: Read, W: Write>(
     rt: &HostRuntime,

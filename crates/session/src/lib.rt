@@ -33,9 +33,9 @@ pub fn start() -> Session
 
 // ---- through a chunk, from call to call
 
-// Where the reading of a chunk stands: the call that was found, if one was; the line that was read last, the place after
-// it, and how many bytes were written. (The chunk and the buffer are the caller's, in the signatures of `feed` and
-// `finish`, and are lent on to each step; `used` counts what stands in that buffer.)
+// Where the reading of a chunk stands: the call that was found, if one was; the line that was read last, the place
+// after it, and how many bytes were written. (The chunk and the buffer are the caller's, in the signatures of `feed`
+// and `finish`, and are lent on to each step; `used` counts what stands in that buffer.)
 #[derive(Clone, Copy)]
 struct Place {
     asked: Option<Asked>,
@@ -44,8 +44,8 @@ struct Place {
     used: usize,
 }
 
-// Reads lines up to the first that is a call, and answers those that are none. (No index is counted: each line says where
-// the next begins.)
+// Reads lines up to the first that is a call, and answers those that are none. (No index is counted: each line says
+// where the next begins.)
 fn seek(line: Line, from: usize, start: usize, chunk: &[u8], out: &mut [u8]) -> Place
     requires { start + answer_bytes * length (ended [] (drop from chunk.now)) ≤ length out.old }
     ensures { (l : List ℕ) → Carries (cut line) l → Sought [] l chunk.now from start out.old out.new result }

@@ -1,5 +1,5 @@
-// Signals by number: sets of them, and what an unhandled one does. A signal is a plain byte, as in the record of an end,
-// and each function answers for any: so a clause, and no type, says where one is below 32.
+// Signals by number: sets of them, and what an unhandled one does. A signal is a plain byte, as in the record of an
+// end, and each function answers for any: so a clause, and no type, says where one is below 32.
 #![tactic(auto, using(table::proofs::Chains::chains))]
 
 ghost use Rattle.std.specs.Prelude.{◌≡◌, ◌<◌, ltb, IfSome, unwrap_or};

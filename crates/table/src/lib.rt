@@ -15,8 +15,8 @@ pub const PROCESS_SLOTS: usize = 64;
 
 pub const NAMESPACE_SLOTS: usize = 48;
 
-// No slot, in a field that holds one. (It is no Option: the definitions, the theorems about any table and the bytes that
-// a host keeps have 255.)
+// No slot, in a field that holds one. (It is no Option: the definitions, the theorems about any table and the bytes
+// that a host keeps have 255.)
 pub const NO_SLOT: u8 = 255;
 
 // The root has level 0, the deepest namespaces level 32 (W-206); a process has one number for each level.
@@ -113,7 +113,8 @@ pub struct Namespace {
     pub life: Life,
 }
 
-// Slots are places in two arrays, and what a record names it names by its slot: document 01's form, which takes no heap.
+// Slots are places in two arrays, and what a record names it names by its slot: document 01's form, which takes no
+// heap.
 #[derive(Clone, Copy)]
 pub struct Table {
     pub processes: [Process; PROCESS_SLOTS],

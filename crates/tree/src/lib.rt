@@ -14,8 +14,8 @@ use table::{
 
 // ---- the tree
 
-// The parents and the levels of all namespaces: all that a climb reads. They are two arrays and not one of pairs, as the
-// definitions read the one and the other (`slot_in`, `level_in`), and so do the clauses.
+// The parents and the levels of all namespaces: all that a climb reads. They are two arrays and not one of pairs, as
+// the definitions read the one and the other (`slot_in`, `level_in`), and so do the clauses.
 #[derive(Clone, Copy)]
 pub struct Tree {
     pub parents: [NsSlot; NAMESPACE_SLOTS],
