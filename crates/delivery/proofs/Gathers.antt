@@ -2,7 +2,7 @@
 -- lists those of the slots below i, and the small arrays read as the table does.
 use Prim.Native.Nat.{ℕ, suc, ◌<◌, ◌≤◌, ◌+◌}
 use mathlib.Core.Bool.{Bool, true, false, not}
-use mathlib.Core.List.{List, []}
+use mathlib.Core.List.{List}
 use mathlib.Core.Path.{◌≡◌, refl, sym, ap, ap₂, subst, ◌∙◌}
 use lib.Dec.{eqb}
 use lib.ListN.{length, get_or}
@@ -22,8 +22,8 @@ use Rattle.table.specs.declared.Table.{Table}
 use Rattle.tree.proofs.Sights.{seen_test}
 use Rattle.tree.specs.Tree.{slot_in, level_in}
 use Rattle.delivery.proofs.Orders.{ascending_more, ascending_same, ascending_few, insert_length, only_ascending}
-use Rattle.delivery.specs.Targets.{Targets, numbers, pids_of, pid_in, listed, other_from, Lists}
-use Rattle.arrayvec.specs.ArrayVec.{array_vec_len}
+use Rattle.delivery.specs.Targets.{pids_of, pid_in, listed, other_from, Lists}
+use Rattle.delivery.specs.declared.Targets.{Targets}
 
 -- seen by the caller, and neither the caller nor number 1 there
 abbrev pub is_other : View → ℕ → ℕ → Bool
@@ -48,7 +48,7 @@ pub record Gathering (t : Table) (c n : ℕ) (up : List NsSlot) (levels : List �
 -- p is the caller as it is read, and l its level
 pub gathers_start : (t : Table) (c : ℕ) (p : Process) (up : List NsSlot) (levels : List ℕ) (pids : List Pid) (l : ℕ) (r : Targets)
     → p ≡ get_or t.processes c empty_process → slot_in up ≡ (view t).up → level_in levels ≡ (view t).level → l ≡ level_in levels p.own.0
-    → pid_in pids ≡ pids_of t.processes l → r.items ≡ [] → Gathering t c p.own.0 up levels pids r 0
+    → pid_in pids ≡ pids_of t.processes l → r.len ≡ 0 → Gathering t c p.own.0 up levels pids r 0
 unfolding pid_seen ascending
 gathers_start t c p up levels pids l r e u v h k z =
     let own : p.own.0 ≡ (view t).own c = (read_at t c p e).own in
@@ -59,7 +59,7 @@ gathers_start t c p up levels pids l r e u v h k z =
       ups = u;
       level = v;
       keys = k ∙ ap (pids_of t.processes) deep;
-      lists = record { count = ap length z; list = ap numbers z };
+      lists = record { count = z; list = ap (λ n. listed (record { slots = r.slots; len = n })) z };
     }
 
 module _ (t : Table) (c n : ℕ) (up : List NsSlot) (levels : List ℕ) (pids : List Pid) (r : Targets) (i : ℕ) (w : Gathering t c n up levels pids r i) where
@@ -71,12 +71,12 @@ module _ (t : Table) (c n : ℕ) (up : List NsSlot) (levels : List ℕ) (pids : 
       ∙ ap (λ m. seen (view t) ((view t).own c) i and (not (eqb i c) and not (eqb m 1))) (e ∙ ap (λ (f : ℕ → ℕ). f i) w.keys)
 
   -- there is room for one more
-  pub gathers_room : i < process_slots → array_vec_len r < process_slots
+  pub gathers_room : i < process_slots → r.len < process_slots
   gathers_room h = omega (arith, w.lists.count, ascending_few (pid_to (view t) c) (is_other (view t) c) i)
 
   -- u is the list with i put in
   pub gathers_one : (k : ℕ) (b : Bool) (u m : Targets) → i < process_slots → k ≡ pid_in pids i → b ≡ other_from (slot_in up) (level_in levels) n c i k (process t i) → b ≡ true
-      → array_vec_len u ≡ array_vec_len r + 1 → listed u ≡ insert (pid_in pids) i (listed r) → m ≡ u → Gathering t c n up levels pids m (i + 1)
+      → u.len ≡ r.len + 1 → listed u ≡ insert (pid_in pids) i (listed r) → m ≡ u → Gathering t c n up levels pids m (i + 1)
   gathers_one k b u m h e q y x₀ x₁ z =
       let more : others_below (view t) c (suc i) ≡ insert (pid_to (view t) c) i (others_below (view t) c i) =
       ascending_more (pid_to (view t) c) (is_other (view t) c) i (sym (tested k b e q) ∙ y) in

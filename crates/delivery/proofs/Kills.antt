@@ -14,7 +14,8 @@ use Rattle.rules.specs.Sound.{SoundTable}
 use Rattle.table.specs.Limits.{signals}
 use Rattle.table.specs.declared.Table.{Table}
 use Rattle.delivery.specs.Delivery.{Delivers, DeliversAll}
-use Rattle.delivery.specs.Targets.{Targets, listed, Lists}
+use Rattle.delivery.specs.Targets.{listed, Lists}
+use Rattle.delivery.specs.declared.Targets.{Targets}
 
 -- u is the result of `deliver`
 pub kills_one : (t : Table) (from i s : ℕ) (u : Table) → SoundTable t → Delivers t from i s u → u ≡ deliver_all t from (i ∷ []) s

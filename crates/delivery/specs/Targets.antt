@@ -1,12 +1,12 @@
--- A list of slots, and the numbers by which it is put in order.
-use Rattle.std.specs.Prelude.{ℕ, Bool, not, List, map, ◌≡◌, eqb, get_or, length}
-use Rattle.arrayvec.specs.ArrayVec.{ArrayVec, array_vec_len}
+-- A list of slots as an array and a count, and the numbers by which it is put in order.
+use Rattle.std.specs.Prelude.{ℕ, Bool, not, List, map, ◌≡◌, eqb, get_or, length, take}
 use Rattle.table.specs.Slots.{no_pid, no_process, pid_at}
 use Rattle.table.specs.Tests.{◌and◌}
 use Rattle.table.specs.declared.Pid.{Pid}
 use Rattle.table.specs.declared.ProcSlot.{ProcSlot}
 use Rattle.table.specs.declared.Process.{Process}
 use Rattle.tree.specs.Tree.{seen_from}
+use Rattle.delivery.specs.declared.Targets.{Targets}
 
 -- ---- numbers at a level as functions of the slot: in the table, and in an array
 
@@ -21,16 +21,12 @@ pid_in pids i = (get_or pids i no_pid).0
 abbrev pub numbers : List ProcSlot → List ℕ
 numbers l = map (λ (x : ProcSlot). x.0) l
 
--- slots in an order
-abbrev pub Targets : Type 0
-Targets = ArrayVec ProcSlot
-
 abbrev pub listed : Targets → List ℕ
-listed r = numbers r.items
+listed r = numbers (take r.len r.slots)
 
 -- it is this list
 pub record Lists (r : Targets) (l : List ℕ) : Type 0 where
-  pub count : array_vec_len r ≡ length l
+  pub count : r.len ≡ length l
   pub list : listed r ≡ l
 
 -- ---- the process at slot i is seen from n, and is neither the one at c nor number 1 there

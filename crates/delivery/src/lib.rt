@@ -2,7 +2,6 @@
 #![tactic(auto, using(table::proofs::Chains::chains))]
 
 ghost use Rattle.std.specs.Prelude.{◌≡◌, ℕ, ◌<◌, ◌+◌, not, eqb};
-ghost use Rattle.arrayvec.specs.ArrayVec.{array_vec_len};
 ghost use Rattle.rules.proofs.Laws.ReadAt.{ReadAt};
 ghost use Rattle.rules.specs.Calls.{others as others_of};
 ghost use Rattle.rules.specs.Delivery.{action_on as action_in, resumed as as_resumed, with_pending as as_pending};
@@ -16,7 +15,6 @@ ghost use Rattle.delivery.specs.Actions.{lives, is_forced, forced_by, plain_by};
 ghost use Rattle.delivery.specs.Delivery.{Delivers, DeliversAll};
 ghost use Rattle.delivery.specs.Targets.{numbers, pids_of, pid_in, listed, other_from, Lists};
 
-use arrayvec::ArrayVec;
 use ending::end_process;
 use signals::{default_action, has_signal, with_signal};
 use table::{
@@ -152,8 +150,12 @@ pub fn deliver(t: Table, from: NsSlot, slot: ProcSlot, s: u8) -> Table
 
 // ---- whom a caller sees beside itself
 
-// Slots in an order, no more than a table has.
-pub type Targets = ArrayVec<ProcSlot, PROCESS_SLOTS>;
+// Slots in an order: the first len of the array.
+#[derive(Clone, Copy)]
+pub struct Targets {
+    pub slots: [ProcSlot; PROCESS_SLOTS],
+    pub len: usize,
+}
 
 // The number of each process at a level.
 fn pids_at(processes: &[Process; PROCESS_SLOTS], level: u8) -> [Pid; PROCESS_SLOTS]
@@ -162,19 +164,27 @@ fn pids_at(processes: &[Process; PROCESS_SLOTS], level: u8) -> [Pid; PROCESS_SLO
     column(processes, Pid(0), |p| p.pid_at(level))
 }
 
-// A slot put at its place by ascending number: before the first with a higher one.
-// By `position`: `partition_point` wants a list known to be sorted, a fact that this and `others` would have to carry.
+// A slot put at its place by ascending number: before the first with a higher one. From there on each moves up by one,
+// in the loop's own step: what moves many at once (`copy_within`, a list's `insert`) is a call of `memmove`, which the
+// archive for C would need from outside.
 fn insert(found: &mut Targets, pids: &[Pid; PROCESS_SLOTS], slot: ProcSlot)
-    requires { array_vec_len found.old < process_slots }
-    ensures len { array_vec_len found.new ≡ array_vec_len found.old + 1 }
+    requires { found.old.len < process_slots }
+    ensures len { found.new.len ≡ found.old.len + 1 }
     ensures list { listed found.new ≡ insert (pid_in pids.now) slot.0 (listed found.old) }
 {
     let pid = at(pids, slot.0, Pid(0));
-    let place = found
-        .iter()
-        .position(|other| pid < at(pids, other.0, Pid(0)))
-        .unwrap_or(found.len());
-    found.insert(place, slot);
+    let mut held = slot;
+    let mut placed = false;
+    for i in 0..found.len {
+        let other = found.slots[i];
+        if placed || pid < at(pids, other.0, Pid(0)) {
+            found.slots[i] = held;
+            held = other;
+            placed = true;
+        }
+    }
+    found.slots[found.len] = held;
+    found.len += 1;
 }
 
 // Whether a process is seen from n and is neither the caller nor number 1 there. The climb, the longest, comes last.
@@ -191,7 +201,10 @@ pub fn others(t: &Table, caller: ProcSlot) -> Targets
     let tree = Tree::of(&t.namespaces);
     let n = t.process(caller).own;
     let pids = pids_at(&t.processes, tree.level(n));
-    let mut found = ArrayVec::new();
+    let mut found = Targets {
+        slots: [ProcSlot(0); PROCESS_SLOTS],
+        len: 0,
+    };
     for (i, p) in t.processes.iter().enumerate() {
         let slot = ProcSlot(i as u8);
         if is_other(&tree, n, caller, slot, pids[i], p) {

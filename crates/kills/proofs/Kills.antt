@@ -8,7 +8,8 @@ use borrow.Author.Tests.{eq-eqb, ne_eqb}
 use denote.Laws.{Is}
 use lib.Dec.{eqb}
 use lib.IntN.{ℤ, negsuc}
-use lib.ListN.{get_or, length}
+use lib.ListN.{get_or, length, length-map}
+use lib.Seq.{take-length}
 use mir.Syntax.{w32}
 use mir.Val.{Val, SFits, to_z, of_z}
 use mir.ValLaws.{to_z-of_z}
@@ -18,12 +19,12 @@ use Rattle.callers.proofs.Fits.{sound_table}
 use Rattle.delivery.proofs.Kills.{kills_one, kills_others}
 use Rattle.delivery.specs.Delivery.{deliver_by, deliver_all_by, Delivers, DeliversAll}
 use Rattle.delivery.specs.Targets.{Lists, listed, numbers}
+use Rattle.delivery.specs.declared.Targets.{Targets}
 use Rattle.kills.specs.Kills.{first_refusals, sends, sends_by, Sends, kill_with, kill_by, Kills}
 use Rattle.outcomes.proofs.Verdicts.{Verdict, err_ok, judged_grants, judged_refuses, none_holds, passed, refused_or, tested}
 use Rattle.outcomes.specs.Verdicts.{settled, verdict}
 use Rattle.std.specs.Prelude.{Result, Ok, Err, Option, Some, None, IfSome, ok_or}
 use Rattle.std.specs.Result.{IsErrAnd}
-use Rattle.arrayvec.specs.ArrayVec.{ArrayVec, array_vec_len}
 use Rattle.tree.specs.Tree.{process_found}
 use Rattle.table.specs.declared.ProcSlot.{ProcSlot}
 use Rattle.table.proofs.Chains.{if_yes, if_no, pick_yes, pick_no}
@@ -64,15 +65,18 @@ module _ (t : Table) (c k : ℕ) (p : Process) (u w : Table) (r : Outcome) (vs :
       }
 
   -- l lists the others
-  pub sent_all : (l : ArrayVec ProcSlot) (ls : List ProcSlot) → ls ≡ l.items → DeliversAll t p.own.0 (numbers ls) k u → Lists l (others (view t) c) → Sends t c (others (view t) c) k r
+  pub sent_all : (l : List ProcSlot) → DeliversAll t p.own.0 (numbers l) k u → numbers l ≡ others (view t) c → Sends t c (others (view t) c) k r
   unfolding sends sends_by
-  sent_all l ls g z x =
-      let y : DeliversAll t p.own.0 (listed l) k u = subst (λ q. DeliversAll t p.own.0 (numbers q) k u) g z in
+  sent_all l y x =
+      let r : Targets = record { slots = l; len = length l } in
+      let same : listed r ≡ numbers l = ap numbers (take-length l) in
+      let lists : Lists r (others (view t) c) =
+      record { count = sym (length-map l (λ (j : ProcSlot). j.0)) ∙ ap length x; list = same ∙ x } in
       record {
-        always = by (λ b. deliver_all_by t b (others (view t) c) k) (y.always ∙ ap (λ js. deliver_all_by t p.own.0 js k) x.list);
+        always = by (λ b. deliver_all_by t b (others (view t) c) k) (y.always ∙ ap (λ js. deliver_all_by t p.own.0 js k) x);
         as_defined = λ low h.
             by (λ b. deliver_all t b (others (view t) c) k)
-            (kills_others t c p.own.0 k 0 l u low (sound_table t vs is h) own x y
+            (kills_others t c p.own.0 k 0 r u low (sound_table t vs is h) own lists (subst (λ js. DeliversAll t p.own.0 js k u) (sym same) y)
             ∙ ap (λ js. deliver_all t p.own.0 js k) (targets_everyone (view t) c (negsuc 0) refl));
       }
 
@@ -172,7 +176,7 @@ module _ (t : Table) (c : ℕ) (n z : ℤ) (fits_n : SFits w32 n) (fits : SFits 
 
     -- ---- to many: f lists the others, and b is whether it is empty
 
-    module _ (f : ArrayVec ProcSlot) (l : Lists f (others (view t) c)) (b : Bool) (e : b ≡ eqb (array_vec_len f) 0) (o : names_everyone n ≡ true) where
+    module _ (f : Targets) (l : Lists f (others (view t) c)) (b : Bool) (e : b ≡ eqb f.len 0) (o : names_everyone n ≡ true) where
       all_others : targets (view t) c n ≡ others (view t) c
       all_others = targets_everyone (view t) c n o
 
@@ -183,9 +187,9 @@ module _ (t : Table) (c : ℕ) (n z : ℤ) (fits_n : SFits w32 n) (fits : SFits 
       others_missed x r h =
           refused_by x r (whole (Err x) (λ y. h ∙ ap (λ k. tested k Esrch) counted))
 
-      pub others_come : (k : ℕ) (y : Unit {0}) (r : Outcome) → Ok y ≡ tested b Esrch → natural (to_z w32 (of_z w32 z)) < signals → k ≡ signal_of z → (Lists f (others (view t) c) → Sends t c (others (view t) c) k r) → Kills t c n z r
+      pub others_come : (k : ℕ) (y : Unit {0}) (r : Outcome) → Ok y ≡ tested b Esrch → natural (to_z w32 (of_z w32 z)) < signals → k ≡ signal_of z → (listed f ≡ others (view t) c → Sends t c (others (view t) c) k r) → Kills t c n z r
       others_come k y r h d q a =
-          sent_so k r (sym counted ∙ (passed Esrch b y (Ok tt) h).0) d q (subst (λ is. Sends t c is k r) (sym all_others) (a l))
+          sent_so k r (sym counted ∙ (passed Esrch b y (Ok tt) h).0) d q (subst (λ is. Sends t c is k r) (sym all_others) (a l.list))
 
 -- ---- kill itself: b is what `names_everyone` gives of the first argument
 

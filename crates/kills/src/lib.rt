@@ -3,7 +3,7 @@
 
 ghost use Rattle.std.specs.Prelude.{true, false, [], ◌∷◌, ◌≡◌, ◌<◌, OnOk};
 ghost use Rattle.arguments.specs.Arguments.{names_everyone};
-ghost use Rattle.delivery.specs.Targets.{Lists};
+ghost use Rattle.delivery.specs.Targets.{numbers};
 ghost use Rattle.kills.specs.Kills.{first_refusals, Sends, Kills};
 ghost use Rattle.outcomes.specs.Verdicts.{settled, verdict};
 ghost use Rattle.rules.specs.Calls.{natural, others as others_of};
@@ -12,7 +12,7 @@ ghost use Rattle.rules.specs.Read.{view};
 
 use arguments::{is_signal, names_everyone, names_group, signal_of};
 use callers::named;
-use delivery::{Targets, deliver, deliver_all, others};
+use delivery::{deliver, deliver_all, others};
 use ending::free_unheld;
 use outcomes::{answers, refuse_if};
 use table::{Outcome, ProcSlot, Refusal, Table};
@@ -45,8 +45,9 @@ fn kill_one(t: Table, caller: ProcSlot, n: i32, s: i32) -> Result<Outcome, Refus
 
 // A signal to all of a list, the others that the caller sees. (One function for any list, also of one, could not
 // promise document 01's delivery: that is shown of a list of one and of this list, by a proof each.)
-fn send_all(t: Table, caller: ProcSlot, found: &Targets, s: u8) -> Outcome
-    ensures { Lists found.now (others_of (view t) caller.0) → Sends t caller.0 (others_of (view t) caller.0) s result }
+fn send_all(t: Table, caller: ProcSlot, found: &[ProcSlot], s: u8) -> Outcome
+    ensures { numbers found.now ≡ others_of (view t) caller.0
+        → Sends t caller.0 (others_of (view t) caller.0) s result }
 {
     let sender = t.process(caller);
     answers(free_unheld(deliver_all(t, sender.own, found, s)), 0)
@@ -58,10 +59,11 @@ fn kill_others(t: Table, caller: ProcSlot, n: i32, s: i32) -> Result<Outcome, Re
 {
     may_kill(n, s)?;
     let found = others(&t, caller);
-    refuse_if(found.is_empty(), Refusal::Esrch)?;
-    Ok(send_all(t, caller, &found, signal_of(s)))
+    refuse_if(found.len == 0, Refusal::Esrch)?;
+    Ok(send_all(t, caller, &found.slots[..found.len], signal_of(s)))
 }
 
+#[inline(never)]
 pub fn kill(t: Table, caller: ProcSlot, n: i32, s: i32) -> Result<Outcome, Refusal>
     ensures { Kills t caller.0 n s (settled t result) }
 {
