@@ -1,11 +1,34 @@
 // Who is below a namespace, for one search: the climbs of a tree to it, of which those that came there are remembered.
-ghost use Rattle.std.specs.Prelude.{true, ◌≡◌};
+ghost use Rattle.std.specs.Prelude.{true, false, ◌≡◌, eqb, get_or, set};
 ghost use Rattle.rules.specs.Read.{climb};
+ghost use Rattle.table.specs.Tests.{◌and◌, when◌then◌else◌};
+ghost use Rattle.tree.specs.Tree.{level_in};
 ghost use Rattle.numbers.specs.Climbs.{up_in, below_in};
 
 use std::marker::Model;
 use table::{NAMESPACE_SLOTS, NsSlot, at, set_at};
 use tree::Tree;
+
+// ---- the marks; what a contract of Climbs does not see, these two say whole: which are read, and which are put
+
+// Whether a has its mark, and the steps are as many as its level. (In a sound table they are. In any other the mark
+// says nothing about so many.)
+fn is_known(tree: &Tree, known: &[bool; NAMESPACE_SLOTS], a: NsSlot, steps: u8) -> bool
+    ensures { result ≡ (eqb (level_in tree.now.levels a.0) steps and get_or known.now a.0 false) }
+{
+    tree.level(a) == steps && at(known, a.0, false)
+}
+
+// Gives a its mark, where the steps are as many as its level.
+fn mark(tree: &Tree, known: &mut [bool; NAMESPACE_SLOTS], a: NsSlot, steps: u8)
+    ensures { known.new ≡ (when eqb (level_in tree.now.levels a.0) steps then set known.old a.0 true else known.old) }
+{
+    if tree.level(a) == steps {
+        set_at(known, a.0, true);
+    }
+}
+
+// ---- the climbs
 
 // The climbs of a tree to the namespace n. A namespace with a mark in `known` comes there, in as many steps as its
 // level, so that no two climbs go the same way. A contract sees the tree and n, and nothing of what is known.
@@ -40,15 +63,11 @@ impl<'a> Climbs<'a> {
         }
     }
 
-    // Whether a climb from a, with so many steps left, is known to come to n: a is n itself, or it has its mark and the
-    // steps are as many as its level. (In a sound table they are. In any other the mark says nothing about so many.)
+    // Whether a climb from a, with so many steps left, is known to come to n: a is n itself, or it has its mark.
     fn knows(&self, a: NsSlot, steps: u8) -> bool
         ensures { result ≡ true → climb (up_in self.now) steps a.0 self.now.1 ≡ true }
     {
-        if a == self.n {
-            return true;
-        }
-        self.tree.level(a) == steps && at(&self.known, a.0, false)
+        a == self.n || is_known(self.tree, &self.known, a, steps)
     }
 
     // Keeps for later climbs that this one comes to n.
@@ -56,9 +75,7 @@ impl<'a> Climbs<'a> {
         requires { climb (up_in self.old) steps a.0 self.old.1 ≡ true }
         ensures { self.new ≡ self.old }
     {
-        if self.tree.level(a) == steps {
-            set_at(&mut self.known, a.0, true);
-        }
+        mark(self.tree, &mut self.known, a, steps);
     }
 
     // Whether the climb from a comes to n, in so many steps at most. Most parents are known to, and need no call.
