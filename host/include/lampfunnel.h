@@ -31,7 +31,7 @@ extern "C" {
 
 /*
  * Bytes of stack that are enough for each function. The most was taken where a namespace on level 1 ended with a chain
- * of namespaces to level 32 below it: 163,988 bytes by lampfunnel_call, 171,284 by lampfunnel_run (host/c/stack.c).
+ * of namespaces to level 32 below it: 146,708 bytes by lampfunnel_call, 154,004 by lampfunnel_run (host/c/stack.c).
  */
 #define LAMPFUNNEL_STACK_BYTES ((size_t)1 << 20)
 

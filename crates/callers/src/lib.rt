@@ -58,6 +58,7 @@ pub fn named(t: Table, caller: ProcSlot, n: i32) -> Option<ProcSlot>
     find(&t, p.own, Pid(pid))
 }
 
+#[inline(never)]
 pub fn getpid(t: Table, caller: ProcSlot) -> Outcome
     ensures { result ≡ getpid_of t caller.0 }
 {
@@ -66,6 +67,7 @@ pub fn getpid(t: Table, caller: ProcSlot) -> Outcome
     answers(t, pid.0)
 }
 
+#[inline(never)]
 pub fn getppid(t: Table, caller: ProcSlot) -> Outcome
     ensures { result ≡ getppid_of t caller.0 }
 {

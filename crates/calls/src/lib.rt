@@ -21,6 +21,8 @@ use waits::{exit, wait};
 // A call by a caller that may call. (Of another one nothing is said: `step` refuses it before.) Which calls there are
 // is closed, so they are arms and no closures. Each is a function of a table and a caller, as its definition is: a
 // struct of both would be taken apart again in each.
+// (Each call is `#[inline(never)]` in its crate: built into this one, all would have their tables in one frame, which
+// a call that ends nothing takes too: `host/c/stack.c`.)
 fn make(t: Table, caller: ProcSlot, call: Call) -> Result<Outcome, Refusal>
     ensures { So (sound t) → So (runs (view t) caller.0) → settled t result ≡ make_of t caller.0 call }
 {

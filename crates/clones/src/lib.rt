@@ -30,6 +30,7 @@ fn born(t: &Table, caller: ProcSlot, slot: ProcSlot, u: Table) -> Outcome
     }
 }
 
+#[inline(never)]
 pub fn clone(t: Table, caller: ProcSlot) -> Result<Outcome, Refusal>
     ensures { settled t result ≡ clone_of t caller.0 }
 {
@@ -41,6 +42,7 @@ pub fn clone(t: Table, caller: ProcSlot) -> Result<Outcome, Refusal>
 }
 
 // may_make makes its first two tests here; the third, whether there is room, is the searches' own.
+#[inline(never)]
 pub fn clone_new(t: Table, caller: ProcSlot) -> Result<Outcome, Refusal>
     ensures { settled t result ≡ clone_new_of t caller.0 }
 {

@@ -27,6 +27,7 @@ fn handling(p: Process, s: u8, on: bool) -> Process
 }
 
 // handle s on or off. (`step` has seen that the caller runs, so its slot is one of the table's.)
+#[inline(never)]
 pub fn handle(t: Table, caller: ProcSlot, s: i32, on: bool) -> Result<Outcome, Refusal>
     ensures { settled t result ≡ handle_of t caller.0 s on }
 {
@@ -37,6 +38,7 @@ pub fn handle(t: Table, caller: ProcSlot, s: i32, on: bool) -> Result<Outcome, R
 }
 
 // poll refuses nothing: where no signal is pending the answer is 0.
+#[inline(never)]
 pub fn poll(t: Table, caller: ProcSlot) -> Outcome
     ensures { result ≡ poll_of t caller.0 }
 {

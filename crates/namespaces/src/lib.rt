@@ -22,6 +22,7 @@ fn set_children(t: Table, caller: ProcSlot, n: NsSlot) -> Table
 }
 
 // may_make makes its first two tests here; the third, whether there is room, is the search's own.
+#[inline(never)]
 pub fn unshare(t: Table, caller: ProcSlot) -> Result<Outcome, Refusal>
     ensures { settled t result ≡ unshare_of t caller.0 }
 {
@@ -33,6 +34,7 @@ pub fn unshare(t: Table, caller: ProcSlot) -> Result<Outcome, Refusal>
     Ok(answers(set_children(u, caller, n), 0))
 }
 
+#[inline(never)]
 pub fn setns(t: Table, caller: ProcSlot, n: i32) -> Result<Outcome, Refusal>
     ensures { settled t result ≡ setns_of t caller.0 n }
 {

@@ -21,6 +21,7 @@ use outcomes::{answers, granted, refuse_if};
 use table::{Answer, End, Outcome, Pid, ProcSlot, Process, Refusal, State, Table, empty_process};
 
 // The root init does not end.
+#[inline(never)]
 pub fn exit(t: Table, caller: ProcSlot, s: i32) -> Result<Outcome, Refusal>
     ensures { Exits t caller.0 s (settled t result) }
 {
@@ -52,7 +53,11 @@ fn comes_first(t: &Table, p: &Process, parent: ProcSlot, level: u8, best: Option
     }
     match best {
         None => true,
-        Some(slot) => p.pid_at(level) < t.process(slot).pid_at(level),
+        Some(slot) => {
+            let pid = p.pid_at(level);
+            let lowest = t.process(slot).pid_at(level);
+            pid < lowest
+        }
     }
 }
 
@@ -78,6 +83,7 @@ fn reap(t: Table, slot: ProcSlot, pid: Pid, how: End) -> Outcome
 }
 
 // Whoever has no child waits for none. Where there are children and none has ended, the answer is 0.
+#[inline(never)]
 pub fn wait(t: Table, caller: ProcSlot) -> Result<Outcome, Refusal>
     ensures { settled t result ≡ wait_of t caller.0 }
 {
