@@ -75,6 +75,10 @@ has_past zero m s h l = let e : 0 ≡ m = omega arith in has_none s ∙ ap (λ x
 has_past (suc w) m zero h l = absurd (not-suc-le-zero l)
 has_past (suc w) m (suc s) h l = has_past w (m / 2) s (omega arith) (le_of_suc-le-suc l)
 
+-- the same of a test r that fails
+pub has_past_by : (w m s : ℕ) (r : Bool) → m < 2 ^ w → w ≤ s → r ≡ false → r ≡ has m s
+has_past_by w m s r h k e = e ∙ has_past w m s h k
+
 pub has_low : (w m s : ℕ) → m < 2 ^ w → has m s ≡ true → s < w
 has_low w m s h e = go (dec_lt s w)
   where
