@@ -165,8 +165,8 @@ fn pids_at(processes: &[Process; PROCESS_SLOTS], level: u8) -> [Pid; PROCESS_SLO
 }
 
 // A slot put at its place by ascending number: before the first with a higher one. From there on each moves up by one,
-// in the loop's own step: what moves many at once (`copy_within`, a list's `insert`) is a call of `memmove`, which the
-// archive for C would need from outside.
+// one at a time: what moves many at once (`copy_within`, a list's `insert`) is a call of `memmove`, which the archive
+// for C would need from outside.
 fn insert(found: &mut Targets, pids: &[Pid; PROCESS_SLOTS], slot: ProcSlot)
     requires { found.old.len < process_slots }
     ensures len { found.new.len ≡ found.old.len + 1 }

@@ -9,7 +9,7 @@ use std::marker::Model;
 use table::{NAMESPACE_SLOTS, NsSlot, at, set_at};
 use tree::Tree;
 
-// ---- the marks; what a contract of Climbs does not see, these two say whole: which are read, and which are put
+// ---- the marks: which are read and which are put, of which a contract of Climbs says nothing
 
 // Whether a has its mark, and the steps are as many as its level. (In a sound table they are. In any other the mark
 // says nothing about so many.)

@@ -53,11 +53,7 @@ fn comes_first(t: &Table, p: &Process, parent: ProcSlot, level: u8, best: Option
     }
     match best {
         None => true,
-        Some(slot) => {
-            let pid = p.pid_at(level);
-            let lowest = t.process(slot).pid_at(level);
-            pid < lowest
-        }
+        Some(slot) => p.pid_at(level) < t.process(slot).pid_at(level),
     }
 }
 
