@@ -57,6 +57,23 @@ module _ (f : ℕ → ℕ) (s : ℕ) (r₀ r : Targets) (held : ProcSlot) (place
       rest_cons (take r₀.len r₀.slots) i (omega (arith, length-take-le r₀.len r₀.slots (omega arith)))
       ∙ ap (λ (x : ProcSlot). x.0 ∷ left r₀ (suc i)) (get_or-take r₀.len r₀.slots i no_one h ∙ sym (w.same i (omega arith)))
 
+  -- one turn more, where the slots are l then, next is held and put says whether s has its place
+  turned : (l : List ProcSlot) (next : ProcSlot) (put : Bool) → i < r₀.len → length l ≡ length r.slots
+      → numbers (take (suc i) l) ++ to_store f s put next.0 (left r₀ (suc i)) ≡ numbers (take i r.slots) ++ to_store f s placed held.0 (other ∷ left r₀ (suc i))
+      → ((k : ℕ) → suc i ≤ k → get_or l k no_one ≡ get_or r.slots k no_one) → (put ≡ false → next.0 ≡ s)
+      → Placing f s r₀ (record { slots = l; len = r.len }) next put (i + 1)
+  turned l next put h e q j u =
+      rw add-one
+      (record {
+        within = omega arith;
+        room = w.room;
+        count = w.count;
+        long = e ∙ w.long;
+        whole = q ∙ ap (λ m. numbers (take i r.slots) ++ to_store f s placed held.0 m) (sym (is_next h)) ∙ w.whole;
+        same = λ k p. j k p ∙ w.same k (omega arith);
+        unplaced = u;
+      })
+
   -- the one at i moves up
   moved : (b : Bool) → (b ≡ false → held.0 ≡ s) → b or ltb (f s) (f other) ≡ true → to_store f s b held.0 (other ∷ left r₀ (suc i)) ≡ held.0 ∷ other ∷ left r₀ (suc i)
   unfolding ◌or◌ insert
@@ -67,19 +84,10 @@ module _ (f : ℕ → ℕ) (s : ℕ) (r₀ r : Targets) (held : ProcSlot) (place
       → m ≡ record { slots = set r.slots i held; len = r.len } → next ≡ get_or r.slots i no_one → put ≡ true → Placing f s r₀ m next put (i + 1)
   moves_on m next put h e x y z =
       let k = w.room in
-      rw (add-one, x, y, z)
-      (record {
-        within = omega arith;
-        room = w.room;
-        count = w.count;
-        long = length-set r.slots i held ∙ w.long;
-        whole =
-            numbers_take_set r.slots i held (omega (arith, w.long)) (other ∷ left r₀ (suc i))
-            ∙ ap (λ l. numbers (take i r.slots) ++ l) (sym (moved placed w.unplaced e) ∙ ap (to_store f s placed held.0) (sym (is_next h)))
-            ∙ w.whole;
-        same = λ j q. get_or-set_other r.slots i j held no_one (λ p. omega arith) ∙ w.same j (omega arith);
-        unplaced = λ q. absurd (true≢false q);
-      })
+      rw (x, y, z)
+      (turned (set r.slots i held) _ true h (length-set r.slots i held)
+      (numbers_take_set r.slots i held (omega (arith, w.long)) _ ∙ ap (λ l. numbers (take i r.slots) ++ l) (sym (moved placed w.unplaced e)))
+      (λ j q. get_or-set_other r.slots i j held no_one (λ p. omega arith)) (λ q. absurd (true≢false q)))
 
   -- it stays
   stayed : (b : Bool) → b or ltb (f s) (f other) ≡ false → to_store f s b held.0 (other ∷ left r₀ (suc i)) ≡ other ∷ to_store f s b held.0 (left r₀ (suc i))
@@ -91,19 +99,10 @@ module _ (f : ℕ → ℕ) (s : ℕ) (r₀ r : Targets) (held : ProcSlot) (place
       → m ≡ r → next ≡ held → put ≡ placed → Placing f s r₀ m next put (i + 1)
   stays_on m next put h e x y z =
       let k = w.room in
-      rw (add-one, x, y, z)
-      (record {
-        within = omega arith;
-        room = w.room;
-        count = w.count;
-        long = w.long;
-        whole =
-            numbers_take r.slots i (omega (arith, w.long)) (to_store f s placed held.0 (left r₀ (suc i)))
-            ∙ ap (λ l. numbers (take i r.slots) ++ l) (sym (stayed placed e) ∙ ap (to_store f s placed held.0) (sym (is_next h)))
-            ∙ w.whole;
-        same = λ j q. w.same j (omega arith);
-        unplaced = w.unplaced;
-      })
+      rw (x, y, z)
+      (turned r.slots held placed h refl
+      (numbers_take r.slots i (omega (arith, w.long)) _ ∙ ap (λ l. numbers (take i r.slots) ++ l) (sym (stayed placed e)))
+      (λ j q. refl) w.unplaced)
 
 -- at the end the one that is held is stored past the rest
 last_one : (f : ℕ → ℕ) (s x : ℕ) (b : Bool) → (b ≡ false → x ≡ s) → to_store f s b x [] ≡ x ∷ []
